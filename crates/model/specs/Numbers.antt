@@ -1,0 +1,54 @@
+-- The numbers that document 01 gives to kinds and outcomes ("Records").
+use Prim.Native.Nat.{ℕ}
+use mathlib.Core.Bool.{Bool, true, false}
+use Rattle.model.specs.declared.Kind.{Kind}
+use Rattle.model.specs.declared.Kind.the-variants.{Vote, Ack, Help, Helped}
+use Rattle.model.specs.declared.Outcome.{Outcome}
+use Rattle.model.specs.declared.Outcome.the-variants.{None, Stay, Move}
+use Rattle.model.specs.declared.Event.{Event}
+use Rattle.model.specs.declared.Event.the-variants.{Lock, Order, Cast, Deliver, Timeout, Decide, Stop, Save, Restore}
+
+-- "kind (1 vote, 2 acknowledgement, 3 help call, 4 help answer)"
+abbrev pub kindNumber : Kind → ℕ
+kindNumber Vote = 1
+kindNumber Ack = 2
+kindNumber Help = 3
+kindNumber Helped = 4
+
+-- "outcome (0 none, 1 Stay, 2 Move)"
+abbrev pub outcomeNumber : Outcome → ℕ
+outcomeNumber None = 0
+outcomeNumber Stay = 1
+outcomeNumber Move = 2
+
+-- "Kinds: 0 lock .. 8 restore"
+abbrev pub eventNumber : Event → ℕ
+eventNumber (Lock n f) = 0
+eventNumber (Order number) = 1
+eventNumber (Cast id willing target) = 2
+eventNumber (Deliver from to kind) = 3
+eventNumber (Timeout id) = 4
+eventNumber (Decide id move) = 5
+eventNumber (Stop id) = 6
+eventNumber (Save id) = 7
+eventNumber (Restore id) = 8
+
+-- a word: true is Move
+abbrev pub wordOf : Bool → Outcome
+wordOf true = Move
+wordOf false = Stay
+
+abbrev pub isNone : Outcome → Bool
+isNone None = true
+isNone Stay = false
+isNone Move = false
+
+abbrev pub isMove : Outcome → Bool
+isMove None = false
+isMove Stay = false
+isMove Move = true
+
+abbrev pub isStay : Outcome → Bool
+isStay None = false
+isStay Stay = true
+isStay Move = false

@@ -1,0 +1,23 @@
+-- Document 01, "Words with values": which numbers there are.
+use Prim.Native.Nat.{ℕ}
+use mathlib.Core.Bool.{Bool, _&&_, _||_}
+use lib.Dec.{leb, ltb}
+
+-- "n from 2 to 16; f from 1 to n − 1" (question 4)
+abbrev pub limit : ℕ
+limit = 16
+
+unfoldable pub sizes : ℕ → ℕ → Bool
+sizes n f = leb 2 n && leb n limit && leb 1 f && ltb f n
+
+-- "n controllers, numbered 1 to n" (question 7)
+unfoldable pub member : ℕ → ℕ → Bool
+member n k = leb 1 k && leb k n
+
+-- "Positions are −20,000 to 20,000 mm" (question 11), here as 32-bit two's complement: 0 to 20,000, or 2³² − 20,000 and above
+unfoldable pub reachable : ℕ → Bool
+reachable p = leb p 20000 || leb 4294947296 p
+
+-- "Controllers 1 to f are holders; f + 1 is the second holder." The paper's backup processes.
+abbrev pub isBackup : ℕ → ℕ → Bool
+isBackup f k = leb k f

@@ -1,0 +1,6 @@
+pub mod Tests
+pub mod Quantify
+pub mod Update
+pub mod Mask
+pub mod MaskLaws
+pub mod VoteSets

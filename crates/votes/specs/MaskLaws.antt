@@ -1,0 +1,119 @@
+-- Laws of masks, for any n: what is in a union, in a set with one more, in a full set.
+use Prim.Native.Nat.{ℕ, zero, suc, _+_, _*_, _^_, _/_, _%_, _-_, _≤_, _<_, max, min}
+use mathlib.Core.Path.{_≡_, refl, sym, _∙_, ap, subst}
+use mathlib.Core.Bool.{Bool, true, false, not, _&&_, _||_, cond}
+use native.Mathlib.Omega.{arith}
+use native.Mathlib.Nat.{mod-lt, div-self, div-eq-of-lt, pow-suc, eq-or-lt-of-le}
+use native.Mathlib.Numerals.{one-add}
+use lib.Pow.{pow-pos, pow-lt, pow-add, shl-shr, mod-pow-add}
+use lib.Dec.{eqb, leb, ltb}
+use native.Mathlib.Decide.{decLe, ℕ-discrete}
+use lib.Bits.{bitOr, or-shr, or-step}
+use Rattle.votes.specs.Tests.{_⊎_, inl, inr, split, by-cond, and-l, and-r, and-i, or-r, or-l, not-t, no-both, eqb-eq, eqb-same, eqb-no, eq-eqb, same-test, leb-le, le-leb, ltb-yes}
+use Rattle.votes.specs.Quantify.{allTo, all-at, all-of}
+use Rattle.votes.specs.Update.{upd, upd-same, upd-other, fun-ext}
+use Rattle.votes.specs.Mask.{width, has, insert, fullTo, collect}
+
+-- as the code reads it
+pub has-at : (m k : ℕ) → 1 ≤ k → has m k ≡ eqb (m / 2 ^ (k - 1) % 2) 1
+unfolding has
+has-at m zero h = absurd (omega arith)
+has-at m (suc k) h = let e : suc k - 1 ≡ k = omega arith in rw e
+
+-- a number below 2 is 0 or 1
+or-test : (x y : ℕ) → x < 2 → y < 2 → eqb (max x y) 1 ≡ (eqb x 1 || eqb y 1)
+or-test zero zero p q = refl
+or-test zero (suc zero) p q = refl
+or-test zero (suc (suc y)) p q = absurd (omega arith)
+or-test (suc zero) zero p q = refl
+or-test (suc zero) (suc zero) p q = refl
+or-test (suc zero) (suc (suc y)) p q = absurd (omega arith)
+or-test (suc (suc x)) y p q = absurd (omega arith)
+
+low-or : (a b : ℕ) → bitOr a b % 2 ≡ max (a % 2) (b % 2)
+low-or a b = let e : bitOr a b ≡ bitOr (a / 2) (b / 2) * 2 + max (a % 2) (b % 2) = or-step a b in omega arith
+
+pub has-or : (a b k : ℕ) → has (bitOr a b) k ≡ (has a k || has b k)
+unfolding has
+has-or a b zero = refl
+has-or a b (suc k) = rw (or-shr a b k, low-or (a / 2 ^ k) (b / 2 ^ k)) (or-test (a / 2 ^ k % 2) (b / 2 ^ k % 2) (omega arith) (omega arith))
+
+pub has-none : (k : ℕ) → has 0 k ≡ false
+unfolding has
+has-none zero = refl
+has-none (suc k) = rw (div-eq-of-lt (pow-pos k))
+
+-- 2 ^ j has the one bit j
+pow-low : (j : ℕ) → 2 ^ suc j % 2 ≡ 0
+pow-low j = omega arith
+
+bit-same : (j : ℕ) → 2 ^ j / 2 ^ j % 2 ≡ 1
+bit-same j = rw (div-self (pow-pos j))
+
+bit-less : (j k : ℕ) → j < k → 2 ^ j / 2 ^ k % 2 ≡ 0
+bit-less j k h = rw (div-eq-of-lt (pow-lt h))
+
+bit-more : (j k : ℕ) → 2 ^ (suc j + k) / 2 ^ k % 2 ≡ 0
+bit-more j k = rw (pow-add 2 (suc j) k, shl-shr (2 ^ suc j) k) (pow-low j)
+
+has-pow : (i k : ℕ) → has (2 ^ i) k ≡ eqb k (suc i)
+unfolding has
+has-pow i zero = sym (eqb-no 0 (suc i) (λ e. omega arith))
+has-pow i (suc k) = elim (ℕ-discrete k i) [
+  | yes e ↦ rw (e, bit-same i, eqb-same (suc i))
+  | no e ↦ rw (eqb-no (suc k) (suc i) (λ q. e (omega arith))) (elim (decLe (suc k) i) [
+    | yes h ↦ let e′ : i ≡ suc (i - suc k) + k = omega arith in rw (e′, bit-more (i - suc k) k)
+    | no h ↦ rw (bit-less i k (omega arith))
+  ])
+]
+
+or-eqb : (x y : Bool) → (x || y) ≡ cond y true x
+or-eqb true true = refl
+or-eqb true false = refl
+or-eqb false true = refl
+or-eqb false false = refl
+
+-- as functions, the set with i is the set changed at i
+pub has-insert : (m i k : ℕ) → 1 ≤ i → i ≤ width → has (insert m i) k ≡ upd (has m) i true k
+unfolding insert upd
+has-insert m zero k a b = absurd (omega arith)
+has-insert m (suc i) k a b = rw (ltb-yes i width (omega arith), has-or m (2 ^ i) k, has-pow i k) (or-eqb (has m k) (eqb k (suc i)))
+
+pub insert-is : (m i : ℕ) → 1 ≤ i → i ≤ width → has (insert m i) ≡ upd (has m) i true
+insert-is m i a b = fun-ext (has (insert m i)) (upd (has m) i true) (λ k. has-insert m i k a b)
+
+-- the lowest n bits, one more
+low-suc : (m n : ℕ) → m % 2 ^ (suc n) ≡ m / 2 ^ n % 2 * 2 ^ n + m % 2 ^ n
+low-suc m n = rw one-add at (mod-pow-add m 1 n)
+
+top-one : (b p r : ℕ) → b < 2 → r < p → b * p + r ≡ p * 2 - 1 → b ≡ 1
+top-one zero p r hb hr e = omega arith
+top-one (suc zero) p r hb hr e = refl
+top-one (suc (suc b)) p r hb hr e = omega arith
+
+rest-ones : (b p r : ℕ) → b < 2 → r < p → b * p + r ≡ p * 2 - 1 → r ≡ p - 1
+rest-ones zero p r hb hr e = omega arith
+rest-ones (suc zero) p r hb hr e = omega arith
+rest-ones (suc (suc b)) p r hb hr e = omega arith
+
+full-has : (m n : ℕ) → m % 2 ^ n ≡ 2 ^ n - 1 → allTo n (has m) ≡ true
+unfolding allTo has
+full-has m zero h = refl
+full-has m (suc n) h =
+    let e : m / 2 ^ n % 2 * 2 ^ n + m % 2 ^ n ≡ 2 ^ n * 2 - 1 = sym (low-suc m n) ∙ (h ∙ rw pow-suc) in
+    let lt : m % 2 ^ n < 2 ^ n = mod-lt m (pow-pos n) in
+    and-i (eqb (m / 2 ^ n % 2) 1) (allTo n (has m)) (eq-eqb _ _ (top-one (m / 2 ^ n % 2) (2 ^ n) (m % 2 ^ n) (omega arith) lt e))
+    (full-has m n (rest-ones (m / 2 ^ n % 2) (2 ^ n) (m % 2 ^ n) (omega arith) lt e))
+
+has-full : (m n : ℕ) → allTo n (has m) ≡ true → m % 2 ^ n ≡ 2 ^ n - 1
+unfolding allTo has
+has-full m zero h = omega arith
+has-full m (suc n) h =
+    let top : m / 2 ^ n % 2 ≡ 1 = eqb-eq _ _ (and-l (eqb (m / 2 ^ n % 2) 1) (allTo n (has m)) h) in
+    let ih : m % 2 ^ n ≡ 2 ^ n - 1 = has-full m n (and-r (eqb (m / 2 ^ n % 2) 1) (allTo n (has m)) h) in
+    rw low-suc (rw (top, pow-suc) (omega (arith, pow-pos n)))
+
+-- fullness is the test of every bit, for any n
+pub full-is : (n m : ℕ) → fullTo n m ≡ allTo n (has m)
+unfolding fullTo
+full-is n m = same-test (eqb (m % 2 ^ n) (2 ^ n - 1)) (allTo n (has m)) (λ e. full-has m n (eqb-eq _ _ e)) (λ e. eq-eqb _ _ (has-full m n e))

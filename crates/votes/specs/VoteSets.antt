@@ -1,0 +1,48 @@
+-- Vote sets. Document 01, "Words with values": "A *sheet* has two sets of controllers: known, and willing (within known);
+-- it is *full* when all n are known. Its *word* is Move if all n are known and willing, else Stay."
+use Prim.Native.Nat.{ℕ, zero, suc, _-_}
+use mathlib.Core.Bool.{Bool, cond, _&&_}
+use mathlib.Core.List.{List}
+use lib.ListN.{getD, set}
+use lib.Bits.{bitOr}
+use Rattle.votes.specs.Mask.{has, insert, fullTo}
+use Rattle.votes.specs.declared.VoteSet.{VoteSet}
+
+abbrev pub empty : VoteSet
+empty = record { known = 0; willing = 0 }
+
+-- is the vote of controller k known; is it known to be willing
+abbrev pub knows : VoteSet → ℕ → Bool
+knows s k = has (s .known) k
+
+abbrev pub wills : VoteSet → ℕ → Bool
+wills s k = has (s .willing) k
+
+-- the sheet of one vote
+unfoldable pub single : ℕ → Bool → VoteSet
+single k willing = record { known = insert 0 k; willing = cond willing (insert 0 k) 0 }
+
+-- the join of two sheets: what either knows
+unfoldable pub join : VoteSet → VoteSet → VoteSet
+join s t = record { known = bitOr (s .known) (t .known); willing = bitOr (s .willing) (t .willing) }
+
+-- "full": all n are known
+unfoldable pub complete : ℕ → VoteSet → Bool
+complete n s = fullTo n (s .known)
+
+-- the "word" is Move: all n are known and willing
+unfoldable pub unanimous : ℕ → VoteSet → Bool
+unanimous n s = fullTo n (s .known) && fullTo n (s .willing)
+
+-- element k of a list, counted from 1; and the list with another element there
+unfoldable pub nth : {A : Type 0} → A → List A → ℕ → A
+nth d l zero = d
+nth d l (suc k) = getD l k d
+
+unfoldable pub put : {A : Type 0} → List A → ℕ → A → List A
+put l k a = set l (k - 1) a
+
+-- the join of the sheets of those senders of 1..m that are in a set
+unfoldable pub joinAll : ℕ → ℕ → List VoteSet → VoteSet
+joinAll zero from l = empty
+joinAll (suc m) from l = cond (has from (suc m)) (join (joinAll m from l) (nth empty l (suc m))) (joinAll m from l)
