@@ -109,3 +109,6 @@ pub struct Bench {
     pub decision: Outcome,
     pub stations: [Station; 16],
 }
+
+// Stand-in while the claim is being proved.
+fn demand_3() {}
