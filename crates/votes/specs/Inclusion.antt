@@ -5,11 +5,11 @@ use mathlib.Core.Bool.{Bool, true, false, _||_, true≢false, false≢true}
 use native.Mathlib.Omega.{arith}
 use native.Mathlib.Decide.{decLe}
 use native.Mathlib.Nat.{div-eq-of-lt, div-lt-iff-lt-mul, mod-eq-of-lt, lt-of-lt-of-le, pow-suc, zero-add, suc-add}
-use lib.Pow.{pow-pos, pow-mono, pow-lt}
+use lib.Pow.{pow-pos, pow-mono}
 use lib.Dec.{eqb}
-use lib.Bits.{bitOr, or-comm, or-lt}
+use lib.Bits.{bitOr, or-lt}
 use borrow.Author.Tests.{ltb-true, lt-ltb, eqb-false}
-use Rattle.votes.specs.Tests.{_⊎_, inl, inr, split, no-both, eqb-eq, eq-eqb, or-l, or-r}
+use Rattle.votes.specs.Tests.{inl, inr, split, no-both, eqb-eq, eq-eqb, or-l}
 use Rattle.votes.specs.Quantify.{all-at}
 use Rattle.votes.specs.Mask.{has, fullTo, noneAbove, within}
 use Rattle.votes.specs.MaskLaws.{low-suc, has-or, full-is}

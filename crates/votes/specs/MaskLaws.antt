@@ -1,19 +1,19 @@
 -- Laws of masks, for any n: what is in a union, in a set with one more, in a full set.
-use Prim.Native.Nat.{ℕ, zero, suc, _+_, _*_, _^_, _/_, _%_, _-_, _≤_, _<_, max, min}
-use mathlib.Core.Path.{_≡_, refl, sym, _∙_, ap, subst}
-use mathlib.Core.Bool.{Bool, true, false, not, _&&_, _||_, cond}
+use Prim.Native.Nat.{ℕ, zero, suc, _+_, _*_, _^_, _/_, _%_, _-_, _≤_, _<_, max}
+use mathlib.Core.Path.{_≡_, refl, sym, _∙_}
+use mathlib.Core.Bool.{Bool, true, false, _||_, cond}
 use native.Mathlib.Omega.{arith}
-use native.Mathlib.Nat.{mod-lt, div-self, div-eq-of-lt, pow-suc, eq-or-lt-of-le}
+use native.Mathlib.Nat.{mod-lt, div-self, div-eq-of-lt, pow-suc}
 use native.Mathlib.Numerals.{one-add}
 use lib.Pow.{pow-pos, pow-lt, pow-add, shl-shr, mod-pow-add}
-use lib.Dec.{eqb, leb, ltb}
+use lib.Dec.{eqb}
 use native.Mathlib.Decide.{decLe, ℕ-discrete}
 use lib.Bits.{bitOr, or-shr, or-step}
 use borrow.Author.Tests.{le-ltb}
-use Rattle.votes.specs.Tests.{_⊎_, inl, inr, split, by-cond, and-l, and-r, and-i, or-r, or-l, not-t, no-both, eqb-eq, eqb-same, eqb-no, eq-eqb, same-test, leb-le, le-leb, ltb-yes}
-use Rattle.votes.specs.Quantify.{allTo, all-at, all-of}
-use Rattle.votes.specs.Update.{upd, upd-same, upd-other, fun-ext}
-use Rattle.votes.specs.Mask.{width, has, insert, fullTo, collect}
+use Rattle.votes.specs.Tests.{and-l, and-r, and-i, eqb-eq, eqb-same, eqb-no, eq-eqb, same-test, ltb-yes}
+use Rattle.votes.specs.Quantify.{allTo}
+use Rattle.votes.specs.Update.{upd, fun-ext}
+use Rattle.votes.specs.Mask.{width, has, insert, fullTo}
 
 -- as the code reads it
 pub has-at : (m k : ℕ) → 1 ≤ k → has m k ≡ eqb (m / 2 ^ (k - 1) % 2) 1

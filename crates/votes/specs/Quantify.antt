@@ -1,11 +1,10 @@
 -- "Every", "some" and "how many" of the controllers 1 to m, as tests and counts that compute.
 use Prim.Native.Nat.{ℕ, zero, suc, _+_, _≤_, _<_}
-use mathlib.Core.Path.{_≡_, refl, sym, _∙_, ap, subst}
-use mathlib.Core.Bool.{Bool, true, false, not, _&&_, _||_, cond, true≢false, false≢true}
+use mathlib.Core.Path.{_≡_, refl}
+use mathlib.Core.Bool.{Bool, true, false, _&&_, _||_, cond, false≢true}
 use native.Mathlib.Omega.{arith}
 use native.Mathlib.Decide.{decLe, ℕ-discrete}
-use lib.Dec.{eqb}
-use Rattle.votes.specs.Tests.{_⊎_, inl, inr, split, no-both, and-l, and-r, and-i, or-e, or-l, or-r}
+use Rattle.votes.specs.Tests.{inl, inr, split, and-l, and-r, and-i, or-e, or-l, or-r}
 
 -- every k of 1..m passes; some k of 1..m passes; how many do
 unfoldable pub allTo : ℕ → (ℕ → Bool) → Bool

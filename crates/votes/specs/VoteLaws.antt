@@ -1,6 +1,6 @@
 -- Facts on vote sets (document 01: sheets), for any n: who is on them, when they are complete and unanimous, and that a join does not
 -- depend on order or repetition.
-use Prim.Native.Nat.{ℕ, zero, suc, _+_, _-_, _≤_, _<_}
+use Prim.Native.Nat.{ℕ, zero, suc, _+_, _-_, _≤_}
 use mathlib.Core.Path.{_≡_, refl, sym, _∙_, ap}
 use mathlib.Core.Bool.{Bool, true, false, _&&_, _||_, cond}
 use mathlib.Core.List.{List}
@@ -9,8 +9,8 @@ use native.Mathlib.Decide.{ℕ-discrete}
 use native.Mathlib.Nat.{zero-add, suc-add}
 use lib.ListN.{length}
 use lib.Dec.{eqb}
-use lib.Bits.{bitOr, or-comm, or-self, or-zero-r}
-use Rattle.votes.specs.Tests.{_⊎_, inl, inr, split, no-both, and-l, and-r, and-i, or-e, or-l, or-r, same-test, by-cond, eqb-no}
+use lib.Bits.{or-comm, or-self, or-zero-r}
+use Rattle.votes.specs.Tests.{inl, inr, split, no-both, and-l, and-r, and-i, or-e, or-l, or-r, same-test, by-cond, eqb-no}
 use Rattle.votes.specs.Quantify.{allTo, anyTo, all-at, all-of, any-at, any-of, Found}
 use Rattle.votes.specs.Update.{upd, upd-same, upd-other}
 use Rattle.votes.specs.Mask.{width, has, insert, fullTo, within}
