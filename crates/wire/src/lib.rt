@@ -5,7 +5,9 @@ mod codes;
 mod event;
 mod number;
 
+pub use event::fields_of;
 pub use event::read_event;
+pub use event::write_event;
 
 // What stands in an event record after its mark.
 pub struct Fields {
