@@ -1,0 +1,5 @@
+pub mod Bytes
+pub mod Codes
+pub mod Marks
+pub mod Writing
+pub mod Events
