@@ -16,3 +16,5 @@ pub mod Moves
 pub mod CleanLog
 pub mod Live
 pub mod News
+pub mod Phases
+pub mod Simulation
