@@ -83,11 +83,12 @@ module _ (n f : ℕ) where
 
   -- the decision: all acknowledgements held and complete
   module _ (f<n : f < n) (1≤f : 1 ≤ f) (b : View) (inv : Inv n f b) (i : ℕ) (ran : runs (b .ctl i) ≡ true) (at2 : phase (b .ctl i) ≡ 2)
-    (held : (j : ℕ) → 1 ≤ j → j ≤ f → hasAck (b .ctl i) j ≡ true)
-    (whole : (j : ℕ) → 1 ≤ j → j ≤ f → (k : ℕ) → 1 ≤ k → k ≤ n → knows (ackOn (b .world .sent j)) k ≡ true)
-    (second : i ≤ f → (hasAck (b .ctl i) (suc f) ≡ true) × ((k : ℕ) → 1 ≤ k → k ≤ f → knows (ackOn (b .world .sent (suc f))) k ≡ true)) where
+      (held : (j : ℕ) → 1 ≤ j → j ≤ f → hasAck (b .ctl i) j ≡ true)
+      (whole : (j : ℕ) → 1 ≤ j → j ≤ f → (k : ℕ) → 1 ≤ k → k ≤ n → knows (ackOn (b .world .sent j)) k ≡ true)
+      (second : i ≤ f → (hasAck (b .ctl i) (suc f) ≡ true) × ((k : ℕ) → 1 ≤ k → k ≤ f → knows (ackOn (b .world .sent (suc f))) k ≡ true)) where
     abbrev c : Controller
     c = b .ctl i
+
     abbrev L : ℕ → Sent
     L = b .world .sent
 
@@ -97,11 +98,12 @@ module _ (n f : ℕ) where
     is-direct : decides n f i c ≡ true
     unfolding decides backupsComplete secondKnows
     is-direct = and-i (allTo f (λ j. hasAck c j && complete n (ackOf c j))) (not (leb i f) || (hasAck c (suc f) && complete f (ackOf c (suc f))))
-      (all-of f (λ j. hasAck c j && complete n (ackOf c j)) (λ j a h. and-i (hasAck c j) (complete n (ackOf c j)) (held j a h) (rw (fact j (held j a h) .copy) (knows-complete n (ackOn (L j)) (whole j a h)))))
-      (elim (split (leb i f)) [
-          inr e ↦ rw e
-        | inl e ↦ let s : (hasAck c (suc f) ≡ true) × ((k : ℕ) → 1 ≤ k → k ≤ f → knows (ackOn (L (suc f))) k ≡ true) = second (leb-le i f e) in
-            or-r (not (leb i f)) _ (and-i (hasAck c (suc f)) (complete f (ackOf c (suc f))) (s .0) (rw (fact (suc f) (s .0) .copy) (knows-complete f (ackOn (L (suc f))) (s .1)))) ])
+        (all-of f (λ j. hasAck c j && complete n (ackOf c j)) (λ j a h. and-i (hasAck c j) (complete n (ackOf c j)) (held j a h) (rw (fact j (held j a h) .copy) (knows-complete n (ackOn (L j)) (whole j a h)))))
+        (elim (split (leb i f)) [
+          | inr e ↦ rw e
+          | inl e ↦ let s : (hasAck c (suc f) ≡ true) × ((k : ℕ) → 1 ≤ k → k ≤ f → knows (ackOn (L (suc f))) k ≡ true) = second (leb-le i f e) in
+              or-r (not (leb i f)) _ (and-i (hasAck c (suc f)) (complete f (ackOf c (suc f))) (s .0) (rw (fact (suc f) (s .0) .copy) (knows-complete f (ackOn (L (suc f))) (s .1))))
+        ])
 
     join-known : (k : ℕ) → 1 ≤ k → k ≤ n → knows (ackJoin n c) k ≡ true
     unfolding ackJoin

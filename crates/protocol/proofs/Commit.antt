@@ -24,8 +24,9 @@ grows-upd L i l g = upd-all (λ k x. Grown k (L k) x) L i l g (λ k. grown-refl 
 -- two functions changed at one place
 pub upd-all₂ : {A B : Type 0} (P : ℕ → A → B → Type 0) (f : ℕ → A) (g : ℕ → B) (i : ℕ) (a : A) (b : B) → P i a b → ((k : ℕ) → P k (f k) (g k)) → (k : ℕ) → P k (upd f i a k) (upd g i b k)
 upd-all₂ P f g i a b here there k = elim (split (eqb k i)) [
-    inl e ↦ rw (eqb-eq k i e, upd-same f i a, upd-same g i b) here
-  | inr e ↦ rw (upd-other f i a k e, upd-other g i b k e) (there k) ]
+  | inl e ↦ rw (eqb-eq k i e, upd-same f i a, upd-same g i b) here
+  | inr e ↦ rw (upd-other f i a k e, upd-other g i b k e) (there k)
+]
 
 cond-or : (v a b p q : Bool) → cond v a b ≡ true → cond v (a || p) (b || q) ≡ true
 cond-or true a b p q e = or-l a p e
@@ -43,38 +44,44 @@ module _ (n f : ℕ) where
 
   pub lines-after : (b : View) (i : ℕ) (l : Sent) → Inv n f b → Grown i (b .world .sent i) l → SentOk f (upd (b .world .sent) i l) i l → (k : ℕ) → SentOk f (upd (b .world .sent) i l) k (upd (b .world .sent) i l k)
   lines-after b i l inv g o =
-    let L : ℕ → Sent = b .world .sent in
-    let L′ : ℕ → Sent = upd L i l in
-    upd-all (λ k x. SentOk f L′ k x) L i l o (λ k. sent-mono L L′ (grows-upd L i l g) f k (L k) (inv .lines k))
+      let L : ℕ → Sent = b .world .sent in
+      let L′ : ℕ → Sent = upd L i l in
+      upd-all (λ k x. SentOk f L′ k x) L i l o (λ k. sent-mono L L′ (grows-upd L i l g) f k (L k) (inv .lines k))
 
   pub commit-inv : (b : View) (i : ℕ) (a : Answer) → Inv n f b → Fits b i a → Inv n f (commitV b i a)
   unfolding commitV
   commit-inv b i a inv t =
-    let L : ℕ → Sent = b .world .sent in
-    let L′ : ℕ → Sent = upd L i (sentAfter (L i) a) in
-    let g : Grows L L′ = grows-upd L i (sentAfter (L i) a) (t .grown) in
-    record {
-      lines = lines-after b i (sentAfter (L i) a) inv (t .grown) (t .sent-ok);
-      owns = upd-all₂ (λ k c x. Own n f k c x) (b .ctl) L i (a .controller) (sentAfter (L i) a) (t .own-ok) (inv .owns);
-      ctls = upd-all (λ k c. CtlOk n f L′ (b .world .decision) k c) (b .ctl) i (a .controller) (t .ctl-ok) (λ k. ctl-mono L L′ g (b .world .decision) (b .world .decision) (λ v e. e) n f k (b .ctl k) (inv .ctls k));
-      move = λ e. elim (or-e (b .world .moveProposed) (isMove (a .proposal)) e) [ inl p ↦ all-mono L L′ g n f (inv .move p) | inr p ↦ t .move-ok p ];
-      stay = λ e. elim (or-e (b .world .stayProposed) (isStay (a .proposal)) e) [ inl p ↦ stay-mono L L′ g n f (inv .stay p) | inr p ↦ t .stay-ok p ];
-      card-old = inv .card-old;
-      card-ok = λ k e v x. out-mono L L′ g (b .world .decision) (b .world .decision) (λ v e. e) n f v (inv .card-ok k e v x);
-      chosen = λ v e. cond-or v (b .world .moveProposed) (b .world .stayProposed) (isMove (a .proposal)) (isStay (a .proposal)) (inv .chosen v e) }
+      let L : ℕ → Sent = b .world .sent in
+      let L′ : ℕ → Sent = upd L i (sentAfter (L i) a) in
+      let g : Grows L L′ = grows-upd L i (sentAfter (L i) a) (t .grown) in
+      record {
+        lines = lines-after b i (sentAfter (L i) a) inv (t .grown) (t .sent-ok);
+        owns = upd-all₂ (λ k c x. Own n f k c x) (b .ctl) L i (a .controller) (sentAfter (L i) a) (t .own-ok) (inv .owns);
+        ctls = upd-all (λ k c. CtlOk n f L′ (b .world .decision) k c) (b .ctl) i (a .controller) (t .ctl-ok) (λ k. ctl-mono L L′ g (b .world .decision) (b .world .decision) (λ v e. e) n f k (b .ctl k) (inv .ctls k));
+        move = λ e. elim (or-e (b .world .moveProposed) (isMove (a .proposal)) e) [ inl p ↦ all-mono L L′ g n f (inv .move p) | inr p ↦ t .move-ok p ];
+        stay = λ e. elim (or-e (b .world .stayProposed) (isStay (a .proposal)) e) [ inl p ↦ stay-mono L L′ g n f (inv .stay p) | inr p ↦ t .stay-ok p ];
+        card-old = inv .card-old;
+        card-ok = λ k e v x. out-mono L L′ g (b .world .decision) (b .world .decision) (λ v e. e) n f v (inv .card-ok k e v x);
+        chosen = λ v e. cond-or v (b .world .moveProposed) (b .world .stayProposed) (isMove (a .proposal)) (isStay (a .proposal)) (inv .chosen v e);
+      }
 
   -- an answer that sends nothing and puts no word
   module _ (b : View) (inv : Inv n f b) (i : ℕ) where
     pub quiet-fits : (c : Controller) → Own n f i c (b .world .sent i) → CtlOk n f (b .world .sent) (b .world .decision) i c → Fits b i (quiet c)
     unfolding quiet sentAfter
     quiet-fits c o k =
-      let L : ℕ → Sent = b .world .sent in
-      let g : Grows L (upd L i (L i)) = grows-upd L i (L i) (grown-refl i (L i)) in
-      record { grown = grown-refl i (L i); sent-ok = sent-mono L (upd L i (L i)) g f i (L i) (inv .lines i); own-ok = o;
-        ctl-ok = ctl-mono L (upd L i (L i)) g (b .world .decision) (b .world .decision) (λ v e. e) n f i c k;
-        move-ok = λ e. absurd (false≢true e); stay-ok = λ e. absurd (false≢true e) }
+        let L : ℕ → Sent = b .world .sent in
+        let g : Grows L (upd L i (L i)) = grows-upd L i (L i) (grown-refl i (L i)) in
+        record {
+          grown = grown-refl i (L i);
+          sent-ok = sent-mono L (upd L i (L i)) g f i (L i) (inv .lines i);
+          own-ok = o;
+          ctl-ok = ctl-mono L (upd L i (L i)) g (b .world .decision) (b .world .decision) (λ v e. e) n f i c k;
+          move-ok = λ e. absurd (false≢true e);
+          stay-ok = λ e. absurd (false≢true e);
+        }
 
     pub passed-fits : Fits b i (passed (b .ctl i))
     unfolding passed sentAfter quiet
     passed-fits = let t : Fits b i (quiet (b .ctl i)) = quiet-fits (b .ctl i) (inv .owns i) (inv .ctls i) in
-      record { grown = t .grown; sent-ok = t .sent-ok; own-ok = t .own-ok; ctl-ok = t .ctl-ok; move-ok = t .move-ok; stay-ok = t .stay-ok }
+        record { grown = t .grown; sent-ok = t .sent-ok; own-ok = t .own-ok; ctl-ok = t .ctl-ok; move-ok = t .move-ok; stay-ok = t .stay-ok }

@@ -36,21 +36,39 @@ use Rattle.protocol.proofs.Events.{count-zero}
 -- the choice is made, or given again
 pub chosen-inv : (n f : ℕ) (b : View) (w : Bool) → Inv n f b → cond w (b .world .moveProposed) (b .world .stayProposed) ≡ true → noOther (b .world .decision) w ≡ true → Inv n f (chosen b w)
 unfolding chosen
-chosen-inv n f b w inv p q = record { lines = inv .lines; owns = inv .owns;
+chosen-inv n f b w inv p q = record {
+  lines = inv .lines;
+  owns = inv .owns;
   ctls = λ k. ctl-mono (b .world .sent) (b .world .sent) (λ k. grown-refl k (b .world .sent k)) (b .world .decision) (wordOf w) (λ v e. given-is (b .world .decision) w v q e) n f k (b .ctl k) (inv .ctls k);
   card-old = inv .card-old;
   card-ok = λ k e v x. out-mono (b .world .sent) (b .world .sent) (λ k. grown-refl k (b .world .sent k)) (b .world .decision) (wordOf w) (λ v e. given-is (b .world .decision) w v q e) n f v (inv .card-ok k e v x);
-  move = inv .move; stay = inv .stay; chosen = λ v e. let z : w ≡ v = word-is w v e in rw z at p }
+  move = inv .move;
+  stay = inv .stay;
+  chosen = λ v e. let z : w ≡ v = word-is w v e in rw z at p;
+}
 
 own-concluded : (n f i : ℕ) (o : Outcome) (c : Controller) (l : Sent) → (runs c ≡ true → 3 ≤ phase c) → Own n f i c l → Own n f i (conclude c o) l
 unfolding conclude
 own-concluded n f i v c l late o =
-  let p : isRunning (noting (c .condition) v) ≡ runs c = noting-runs (c .condition) v in
-  let q : phaseIn (noting (c .condition) v) ≡ phase c = noting-phase (c .condition) v in
-  record { fresh0 = λ r e. o .fresh0 (sym p ∙ r) (sym q ∙ e); fresh1 = λ r e. o .fresh1 (sym p ∙ r) (rw q at e); fresh2 = λ r e. o .fresh2 (sym p ∙ r) (rw q at e);
-    undecided = λ r e. absurd (far (late (sym p ∙ r)) (rw q at e));
-    own = λ e. o .own (rw q at e); same = λ e. o .same (rw q at e); late = λ e. o .late (rw q at e); help-copy = λ e. o .help-copy (rw q at e); waiter = λ e. absurd (false≢true e); idle = λ e. refl; early = λ e. o .early (rw q at e);
-    own-ack = λ e. o .own-ack (rw q at e); ack-count = o .ack-count; help-count = o .help-count; room = o .room }
+    let p : isRunning (noting (c .condition) v) ≡ runs c = noting-runs (c .condition) v in
+    let q : phaseIn (noting (c .condition) v) ≡ phase c = noting-phase (c .condition) v in
+    record {
+      fresh0 = λ r e. o .fresh0 (sym p ∙ r) (sym q ∙ e);
+      fresh1 = λ r e. o .fresh1 (sym p ∙ r) (rw q at e);
+      fresh2 = λ r e. o .fresh2 (sym p ∙ r) (rw q at e);
+      undecided = λ r e. absurd (far (late (sym p ∙ r)) (rw q at e));
+      own = λ e. o .own (rw q at e);
+      same = λ e. o .same (rw q at e);
+      late = λ e. o .late (rw q at e);
+      help-copy = λ e. o .help-copy (rw q at e);
+      waiter = λ e. absurd (false≢true e);
+      idle = λ e. refl;
+      early = λ e. o .early (rw q at e);
+      own-ack = λ e. o .own-ack (rw q at e);
+      ack-count = o .ack-count;
+      help-count = o .help-count;
+      room = o .room;
+    }
   where
     far : 3 ≤ phase c → phase c ≤ 2 → ⊥
     far x y = omega arith
@@ -72,10 +90,16 @@ decide-fits n f b i w inv late p ch = quiet-fits n f b inv i (conclude (b .ctl i
 
 pub saved-inv : (n f : ℕ) (b : View) (i : ℕ) (card : Checkpoint) → card .order ≡ b .order → card .outcome ≡ outcome (b .ctl i) → Inv n f b → Inv n f (savedV b i card)
 unfolding savedV
-saved-inv n f b i card p q inv = record { lines = inv .lines; owns = inv .owns; ctls = inv .ctls; move = inv .move; stay = inv .stay;
+saved-inv n f b i card p q inv = record {
+  lines = inv .lines;
+  owns = inv .owns;
+  ctls = inv .ctls;
+  move = inv .move;
+  stay = inv .stay;
   card-old = upd-all (λ k (c : Saved). cardOrder c ≤ b .order) (b .cards) i (Card card) (omega arith) (inv .card-old);
   card-ok = upd-all (λ k (c : Saved). cardOrder c ≡ b .order → (v : Bool) → cardOutcome c ≡ wordOf v → OutEv n f (b .world .sent) (b .world .decision) v) (b .cards) i (Card card) (λ e v x. inv .ctls i .outcome-ok v (sym q ∙ x)) (inv .card-ok);
-  chosen = inv .chosen }
+  chosen = inv .chosen;
+}
 
 -- a controller that holds nothing, at stage 0
 pub record Blank (c : Controller) : Type 0 where
@@ -107,19 +131,41 @@ renew-keeps c = by-cond (RenewKeeps c) (isStopped (c .condition)) (cleared Stopp
 
 -- a bench on which nothing has happened keeps the invariant, whatever cards of older orders it has
 pub blank-inv : (n f o : ℕ) (w : World) (ctl : ℕ → Controller) (cards : ℕ → Saved) → ((k : ℕ) → w .sent k ≡ unsentAll) → w .moveProposed ≡ false → w .stayProposed ≡ false → w .decision ≡ None
-  → ((k : ℕ) → Blank (ctl k)) → ((k : ℕ) → 1 ≤ k → k ≤ n → n ≤ length ((ctl k) .acks)) → ((k : ℕ) → cardOrder (cards k) ≤ o) → ((k : ℕ) → cardOrder (cards k) ≡ o → cardOutcome (cards k) ≡ None)
-  → Inv n f (record { order = o; world = w; ctl = ctl; cards = cards })
+    → ((k : ℕ) → Blank (ctl k)) → ((k : ℕ) → 1 ≤ k → k ≤ n → n ≤ length ((ctl k) .acks)) → ((k : ℕ) → cardOrder (cards k) ≤ o) → ((k : ℕ) → cardOrder (cards k) ≡ o → cardOutcome (cards k) ≡ None)
+    → Inv n f (record { order = o; world = w; ctl = ctl; cards = cards })
 unfolding unsentAll
 blank-inv n f o w ctl cards ln pm ps ch bl room old fresh = record {
-    lines = λ k. rw (ln k) (record { ack-ok = λ e. none k e; help-ok = λ e. none k e; ack-in-help = λ e. none k e; vote-to = λ j e. none j e; ack-to = λ j e. none j e; helped-to = λ j e. none j e; vote-within = λ j e. none j e; vote-only = λ j e. none j e });
-    owns = λ k. let s : phase (ctl k) ≡ 0 = bl k .phase in record { fresh0 = λ e r. rw (ln k) (has-none k); fresh1 = λ e r. rw (ln k) (has-none k); fresh2 = λ e r. rw (ln k) (has-none k); undecided = λ e r. bl k .outcome;
-      own = λ e. absurd (omega arith); same = λ e. absurd (omega arith); late = λ e. absurd (omega arith); help-copy = λ e. absurd (omega arith); waiter = λ e. absurd (no-both ((ctl k) .waiting) e (bl k .waiting)); idle = λ e. bl k .waiting; early = λ e. bl k .helps-none; own-ack = λ e. absurd (omega arith);
-      ack-count = bl k .cnt-none ∙ sym (count-zero n) ∙ ap (λ (m : ℕ). countTo n (has m)) (sym (bl k .acks-none)); help-count = bl k .cnt-help-none ∙ sym (count-zero n) ∙ ap (λ (m : ℕ). countTo n (has m)) (sym (bl k .helps-none)); room = room k };
-    ctls = λ k. record { votes-ok = rw (bl k .votes) (empty-ok _); helped-ok = rw (bl k .helped) (empty-ok _);
-      acks-ok = λ j e. none j (sym (ap (λ (m : ℕ). has m j) (bl k .acks-none)) ∙ e); helps-ok = λ j e. none j (sym (ap (λ (m : ℕ). has m j) (bl k .helps-none)) ∙ e); outcome-ok = λ v e. none-word v (sym (bl k .outcome) ∙ e) };
-    move = λ e. absurd (no-both (w .moveProposed) e pm); stay = λ e. absurd (no-both (w .stayProposed) e ps);
-    card-old = old; card-ok = λ k e v x. none-word v (sym (fresh k e) ∙ x);
-    chosen = λ v e. none-word v (sym ch ∙ e) }
+  lines = λ k. rw (ln k) (record { ack-ok = λ e. none k e; help-ok = λ e. none k e; ack-in-help = λ e. none k e; vote-to = λ j e. none j e; ack-to = λ j e. none j e; helped-to = λ j e. none j e; vote-within = λ j e. none j e; vote-only = λ j e. none j e });
+  owns = λ k. let s : phase (ctl k) ≡ 0 = bl k .phase in record {
+    fresh0 = λ e r. rw (ln k) (has-none k);
+    fresh1 = λ e r. rw (ln k) (has-none k);
+    fresh2 = λ e r. rw (ln k) (has-none k);
+    undecided = λ e r. bl k .outcome;
+    own = λ e. absurd (omega arith);
+    same = λ e. absurd (omega arith);
+    late = λ e. absurd (omega arith);
+    help-copy = λ e. absurd (omega arith);
+    waiter = λ e. absurd (no-both ((ctl k) .waiting) e (bl k .waiting));
+    idle = λ e. bl k .waiting;
+    early = λ e. bl k .helps-none;
+    own-ack = λ e. absurd (omega arith);
+    ack-count = bl k .cnt-none ∙ sym (count-zero n) ∙ ap (λ (m : ℕ). countTo n (has m)) (sym (bl k .acks-none));
+    help-count = bl k .cnt-help-none ∙ sym (count-zero n) ∙ ap (λ (m : ℕ). countTo n (has m)) (sym (bl k .helps-none));
+    room = room k;
+  };
+  ctls = λ k. record {
+    votes-ok = rw (bl k .votes) (empty-ok _);
+    helped-ok = rw (bl k .helped) (empty-ok _);
+    acks-ok = λ j e. none j (sym (ap (λ (m : ℕ). has m j) (bl k .acks-none)) ∙ e);
+    helps-ok = λ j e. none j (sym (ap (λ (m : ℕ). has m j) (bl k .helps-none)) ∙ e);
+    outcome-ok = λ v e. none-word v (sym (bl k .outcome) ∙ e);
+  };
+  move = λ e. absurd (no-both (w .moveProposed) e pm);
+  stay = λ e. absurd (no-both (w .stayProposed) e ps);
+  card-old = old;
+  card-ok = λ k e v x. none-word v (sym (fresh k e) ∙ x);
+  chosen = λ v e. none-word v (sym ch ∙ e);
+}
   where
     none : {X : Type 0} (j : ℕ) → has 0 j ≡ true → X
     none j e = absurd (no-both (has 0 j) e (has-none j))
@@ -127,4 +173,4 @@ blank-inv n f o w ctl cards ln pm ps ch bl room old fresh = record {
 pub opened-inv : (n f : ℕ) (b : View) (o : ℕ) → b .order < o → Inv n f b → Inv n f (openedV b o)
 unfolding openedV newWorld
 opened-inv n f b o h inv = blank-inv n f o _ _ (b .cards) (λ k. refl) refl refl refl (λ k. renew-blank (b .ctl k)) (λ k x y. rw (renew-keeps (b .ctl k) .acks) (inv .owns k .room x y))
-  (λ k. let q : cardOrder (b .cards k) ≤ b .order = inv .card-old k in omega arith) (λ k e. let q : cardOrder (b .cards k) ≤ b .order = inv .card-old k in absurd (omega arith))
+    (λ k. let q : cardOrder (b .cards k) ≤ b .order = inv .card-old k in omega arith) (λ k e. let q : cardOrder (b .cards k) ≤ b .order = inv .card-old k in absurd (omega arith))

@@ -27,11 +27,13 @@ module _ (n f : ℕ) (f<n : f < n) where
       where
         clash : (j : ℕ) → f < j → j ≤ n → knows (helpOn (L j)) (s .at) ≡ true → ⊥
         clash j a b e = no-both (wills (helpOn (L j)) (s .at)) (known-willing all j (s .helped j a b) (s .at) (s .low) (s .high) e) (s .lacks j a b)
+
         by-more : HelpMove n f L ⊎ SecondAck n f L → ⊥
         by-more (inl m) = clash (m .at) (m .low) (m .high) (unanimous-known n (helpOn (L (m .at))) (m .moves) (s .at) (s .low) (s .high))
         by-more (inr m) = elim (decLe (s .at) f) [
-            yes h ↦ clash (suc f) (omega arith) f<n (ok (suc f) .ack-in-help (m .acked) (s .helped (suc f) (omega arith) f<n) (s .at) (m .knows (s .at) (s .low) h))
-          | no h ↦ clash (s .at) (omega arith) (s .high) (s .helped (s .at) (omega arith) (s .high)) ]
+          | yes h ↦ clash (suc f) (omega arith) f<n (ok (suc f) .ack-in-help (m .acked) (s .helped (suc f) (omega arith) f<n) (s .at) (m .knows (s .at) (s .low) h))
+          | no h ↦ clash (s .at) (omega arith) (s .high) (s .helped (s .at) (omega arith) (s .high))
+        ]
 
   move-stay : Move ≡ Stay → ⊥
   move-stay e = let z : _≡_ {A = ℕ} 0 1 = cc in omega arith
@@ -40,8 +42,9 @@ module _ (n f : ℕ) (f<n : f < n) where
   clash : (b : View) → Inv n f b → OutEv n f (b .world .sent) (b .world .decision) true → OutEv n f (b .world .sent) (b .world .decision) false → ⊥
   clash b inv p (inl u) = no-both (willBy (u .at) (b .world .sent (u .at))) (p .0 (u .at) (u .low) (u .high) .1) (u .unwilling)
   clash b inv p (inr c) = elim (p .1) [
-      inl d ↦ direct-excludes-stay (b .world .sent) (inv .lines) (p .0) d (inv .stay (inv .chosen false c))
-    | inr c′ ↦ absurd (move-stay (sym c′ ∙ c)) ]
+    | inl d ↦ direct-excludes-stay (b .world .sent) (inv .lines) (p .0) d (inv .stay (inv .chosen false c))
+    | inr c′ ↦ absurd (move-stay (sym c′ ∙ c))
+  ]
 
   -- two outcomes with grounds in one world are equal
   pub agree : (b : View) → Inv n f b → (x y : Bool) → OutEv n f (b .world .sent) (b .world .decision) x → OutEv n f (b .world .sent) (b .world .decision) y → x ≡ y

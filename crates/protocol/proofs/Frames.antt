@@ -85,7 +85,7 @@ conclude-taken c w = noting-taken (c .condition) (wordOf w) (some-word w)
 pub conclude-gate : (c : Controller) (o : Outcome) → ((conclude c o) .position ≡ c .position) ⊎ Moved c (conclude c o)
 unfolding conclude
 conclude-gate c o = by-cond (λ (p : ℕ). (p ≡ c .position) ⊎ Moved c (conclude c o)) (runs c && isNone (outcome c) && isMove o) (c .target) (c .position)
-  (λ e. inr (record { ran = search (and-l, and-r); free = search (and-l, and-r); taken = taken-by (search (and-l, and-r)) })) (λ e. inl refl)
+    (λ e. inr (record { ran = search (and-l, and-r); free = search (and-l, and-r); taken = taken-by (search (and-l, and-r)) })) (λ e. inl refl)
   where
     taken-by : isMove o ≡ true → Taken (conclude c o)
     taken-by m = unfold conclude in noting-taken (c .condition) o (move-taken o m)
@@ -101,7 +101,7 @@ module _ (n f : ℕ) where
   settle-framed : (c : Controller) (l : Sent) (a : Answer) → Framed c l a → Framed c l (settle n f a)
   unfolding settle proposes propose sentAfter
   settle-framed c l a h = by-cond (Framed c l) (enough n f (a .controller)) _ _
-    (λ e. record { vote = h .vote; taken = h .taken; gate = elim (h .gate) [ inl p ↦ inl p | inr m ↦ inr (record { ran = m .ran; free = m .free; taken = m .taken }) ] }) (λ e. h)
+      (λ e. record { vote = h .vote; taken = h .taken; gate = elim (h .gate) [ inl p ↦ inl p | inr m ↦ inr (record { ran = m .ran; free = m .free; taken = m .taken }) ] }) (λ e. h)
 
   pub arrives-framed : (kind : Kind) (j : ℕ) (s : VoteSet) (c : Controller) (l : Sent) → Framed c l (arrives kind n f j s c)
   unfolding arrives voteArrives ackArrives helpedArrives helpArrives learn keepAck keepHelped
@@ -128,8 +128,10 @@ module _ (n f : ℕ) where
           gate : ((conclude (frozen n c) (wordOf (unanimous n (ackJoin n c)))) .position ≡ (frozen n c) .position) ⊎ Moved (frozen n c) (conclude (frozen n c) (wordOf (unanimous n (ackJoin n c)))) → ((conclude (frozen n c) (wordOf (unanimous n (ackJoin n c)))) .position ≡ c .position) ⊎ Moved c (conclude (frozen n c) (wordOf (unanimous n (ackJoin n c))))
           gate (inl p) = unfold frozen freeze advance in inl p
           gate (inr m) = unfold frozen freeze advance in inr (record { ran = q; free = m .free; taken = m .taken })
+
       put : Framed c l (proposes (laidDown n c (frozen n c)) (verdict n (ackJoin n c)))
       put = unfold proposes laidDown propose frozen freeze advance sentAfter in record { vote = refl; taken = λ h r. h q; gate = inl refl }
+
       waits : Framed c l (callsHelp n f i c)
       waits = unfold callsHelp keepHelped await frozen freeze advance sentAfter in record { vote = refl; taken = λ h r. h q; gate = inl refl }
 

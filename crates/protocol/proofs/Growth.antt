@@ -17,13 +17,20 @@ module _ (L L′ : ℕ → Sent) (g : Grows L L′) where
   sheet-mono s o = record {
     cast = λ k e. g k .voted (o .cast k e);
     true-to = λ k e. o .true-to k e ∙ sym (g k .will (o .cast k e));
-    within = o .within }
+    within = o .within;
+  }
 
   pub sent-mono : (f i : ℕ) (l : Sent) → SentOk f L i l → SentOk f L′ i l
   sent-mono f i l o = record {
     ack-ok = λ e. sheet-mono (ackOn l) (o .ack-ok e);
     help-ok = λ e. sheet-mono (helpOn l) (o .help-ok e);
-    ack-in-help = o .ack-in-help; vote-to = o .vote-to; ack-to = o .ack-to; helped-to = o .helped-to; vote-within = o .vote-within; vote-only = o .vote-only }
+    ack-in-help = o .ack-in-help;
+    vote-to = o .vote-to;
+    ack-to = o .ack-to;
+    helped-to = o .helped-to;
+    vote-within = o .vote-within;
+    vote-only = o .vote-only;
+  }
 
   module _ (n f : ℕ) where
     pub all-mono : AllWilling n f L → AllWilling n f L′
@@ -33,8 +40,10 @@ module _ (L L′ : ℕ → Sent) (g : Grows L L′) where
     direct-mono d = record {
       acks = λ j a b. (g j .acked (d .acks j a b .0), rw (g j .ack (d .acks j a b .0)) (d .acks j a b .1));
       more = elim (d .more) [
-          inl m ↦ inl (record { at = m .at; low = m .low; high = m .high; helped = g (m .at) .helped (m .helped); moves = rw (g (m .at) .help (m .helped)) (m .moves) })
-        | inr m ↦ inr (record { acked = g (suc f) .acked (m .acked); knows = λ k a b. rw (g (suc f) .ack (m .acked)) (m .knows k a b) }) ] }
+        | inl m ↦ inl (record { at = m .at; low = m .low; high = m .high; helped = g (m .at) .helped (m .helped); moves = rw (g (m .at) .help (m .helped)) (m .moves) })
+        | inr m ↦ inr (record { acked = g (suc f) .acked (m .acked); knows = λ k a b. rw (g (suc f) .ack (m .acked)) (m .knows k a b) })
+      ];
+    }
 
     pub stay-mono : StayEv n f L → StayEv n f L′
     stay-mono (inl s) = inl (record { at = s .at; low = s .low; high = s .high; acked = g (s .at) .acked (s .acked); stays = rw (g (s .at) .ack (s .acked)) (s .stays) })
@@ -59,4 +68,5 @@ module _ (L L′ : ℕ → Sent) (g : Grows L L′) (ch ch′ : Outcome) (gc : (
     acks-ok = λ j e. ack-mono L L′ g n f i (ackOf c j) j (o .acks-ok j e);
     helps-ok = λ j e. help-mono L L′ g n f (c .helped) j (o .helps-ok j e);
     helped-ok = sheet-mono L L′ g (c .helped) (o .helped-ok);
-    outcome-ok = λ v e. out-mono v (o .outcome-ok v e) }
+    outcome-ok = λ v e. out-mono v (o .outcome-ok v e);
+  }

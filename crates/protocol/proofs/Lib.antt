@@ -18,3 +18,9 @@ pub mod Live
 pub mod News
 pub mod Phases
 pub mod Simulation
+pub mod Moments
+pub mod CleanSteps
+pub mod Bound
+pub mod Start
+pub mod Numbers
+pub mod Theorem

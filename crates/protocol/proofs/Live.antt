@@ -74,7 +74,7 @@ module _ (n f : ℕ) where
   settle-live : (e : Event) (j : ℕ) (c : Controller) (l : Sent) (a : Answer) → Acts e j c l a → Acts e j c l (settle n f a)
   unfolding settle proposes propose sentAfter
   settle-live e j c l a h = by-cond (Acts e j c l) (enough n f (a .controller)) _ _
-    (λ q. record { live = record { running = h .live .running; votes = h .live .votes; acks = h .live .acks; phase = h .live .phase; acked = h .live .acked } }) (λ q. h)
+      (λ q. record { live = record { running = h .live .running; votes = h .live .votes; acks = h .live .acks; phase = h .live .phase; acked = h .live .acked } }) (λ q. h)
 
   module _ (small : n ≤ limit) where
     -- an acknowledgement kept: the condition and the own sheet stay
@@ -89,13 +89,13 @@ module _ (n f : ℕ) where
         learned : Live e j c (learn c s) l l
         learned = unfold learn in record { running = refl; votes = λ r k h. join-knows (c .votes) s k ∙ or-l (knows (c .votes) k) (knows s k) h; acks = λ r k h. h; phase = λ r. stays refl; acked = λ h. inl (h, refl) }
     arrives-live e Ack i j s c l a b = by-cond (Acts e j c l) (not (hasAck c i) && (leb (phase c) 2 || c .waiting)) _ _
-      (λ q. settle-live e j c l _ (quiet-live e j c _ l (keep-live e i j s c l a b))) (λ q. passed-live e j c l)
+        (λ q. settle-live e j c l _ (quiet-live e j c _ l (keep-live e i j s c l a b))) (λ q. passed-live e j c l)
     arrives-live e Help i j s c l a b = by-cond (Acts e j c l) (eqb (phase c) 3 && not (has (c .help .to) i)) _ (passed c) (λ q. answers) (λ q. passed-live e j c l)
       where
         answers : Acts e j c l (record { taken = true; controller = answered c i; vote = NoPost; ack = NoPost; help = NoPost; helped = To (insert 0 i) (c .help .votes); proposal = None })
         answers = unfold answered sentAfter in record { live = record { running = refl; votes = λ r k h. h; acks = λ r k h. h; phase = λ r. stays refl; acked = λ h. inl (h, refl) } }
     arrives-live e Helped i j s c l a b = by-cond (Acts e j c l) (not (hasHelped c i) && c .waiting) _ _
-      (λ q. settle-live e j c l _ (quiet-live e j c _ l kept)) (λ q. passed-live e j c l)
+        (λ q. settle-live e j c l _ (quiet-live e j c _ l kept)) (λ q. passed-live e j c l)
       where
         kept : Live e j c (keepHelped c i s) l l
         kept = unfold keepHelped in record { running = refl; votes = λ r k h. h; acks = λ r k h. h; phase = λ r. stays refl; acked = λ h. inl (h, refl) }
@@ -106,6 +106,7 @@ module _ (n f : ℕ) where
       where
         kept : (k : ℕ) → knows (c .votes) k ≡ true → knows ((countOwn f j c) .votes) k ≡ true
         kept k h = unfold countOwn keepAck in by-cond (λ (x : Controller). knows (x .votes) k ≡ true) (isBackup f j && not (hasAck c j)) (keepAck c j (c .votes)) c (λ e. h) (λ e. h)
+
         grow : (k : ℕ) → hasAck c k ≡ true → hasAck (countOwn f j c) k ≡ true
         grow k h = unfold countOwn keepAck in by-cond (λ (x : Controller). hasAck x k ≡ true) (isBackup f j && not (hasAck c j)) (keepAck c j (c .votes)) c (λ e. insert-keeps (c .«acks_from») j k a (omega arith) h) (λ e. h)
 
@@ -124,8 +125,10 @@ module _ (n f : ℕ) where
     where
       direct : Acts (Timeout j) j c l (laidDown n c (conclude (frozen n c) (verdict n (ackJoin n c))))
       direct = unfold laidDown sentAfter conclude frozen freeze advance in record { live = record { running = sym r₀; votes = λ r k h. h; acks = λ r k h. h; phase = λ r. rung refl (rw st); acked = λ h. inl (h, refl) } }
+
       put : Acts (Timeout j) j c l (proposes (laidDown n c (frozen n c)) (verdict n (ackJoin n c)))
       put = unfold proposes laidDown propose sentAfter frozen freeze advance in record { live = record { running = sym r₀; votes = λ r k h. h; acks = λ r k h. h; phase = λ r. rung refl (rw st); acked = λ h. inl (h, refl) } }
+
       waits : Acts (Timeout j) j c l (callsHelp n f j c)
       waits = unfold callsHelp keepHelped await sentAfter frozen freeze advance in record { live = record { running = sym r₀; votes = λ r k h. h; acks = λ r k h. h; phase = λ r. rung refl (rw st); acked = λ h. inl (h, refl) } }
 
@@ -167,8 +170,8 @@ module _ (n f : ℕ) where
   perform-tame s b (Cast i w t) g q = commit-tame _ b i _ (vote-live s i w t _ _ (search (ask-l, ask-r, and-l, and-r) depth 14) (eqb-eq _ _ (search (ask-l, ask-r, and-l, and-r) depth 14)))
   perform-tame s b (Deliver i j k) g q = commit-tame _ b j _ (arrives-live s _ k i j _ _ _ (leb-le _ _ (search (ask-l, ask-r, and-l, and-r) depth 14)) (leb-le _ _ (search (ask-l, ask-r, and-l, and-r) depth 14)))
   perform-tame s b (Timeout i) g q = commit-tame (Timeout i) b i _ (by-cond (Acts (Timeout i) i (b .ctl i) (b .world .sent i)) (eqb (phase (b .ctl i)) 1) _ _
-    (λ e. first-live s i _ _ (leb-le _ _ (search (ask-l, ask-r, and-l, and-r) depth 14)) (leb-le _ _ (search (ask-l, ask-r, and-l, and-r) depth 14)) (search (ask-l, ask-r, and-l, and-r) depth 14) (eqb-eq _ _ e))
-    (λ e. second-live i _ _ (search (ask-l, ask-r, and-l, and-r) depth 14) (eqb-eq _ _ (second (eqb (phase (b .ctl i)) 1) _ e (search (ask-l, ask-r, and-l, and-r) depth 14)))))
+      (λ e. first-live s i _ _ (leb-le _ _ (search (ask-l, ask-r, and-l, and-r) depth 14)) (leb-le _ _ (search (ask-l, ask-r, and-l, and-r) depth 14)) (search (ask-l, ask-r, and-l, and-r) depth 14) (eqb-eq _ _ e))
+      (λ e. second-live i _ _ (search (ask-l, ask-r, and-l, and-r) depth 14) (eqb-eq _ _ (second (eqb (phase (b .ctl i)) 1) _ e (search (ask-l, ask-r, and-l, and-r) depth 14)))))
   perform-tame s b (Decide i w) g q = decide-tame b i w
   perform-tame s b (Stop i) g q = absurd g
   perform-tame s b (Save i) g q = save-tame b i

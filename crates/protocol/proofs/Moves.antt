@@ -51,7 +51,8 @@ module _ (n f : ℕ) where
   commit-facts b e i a t = record {
     voted = λ k w. (refl, inl (same k .0 ∙ w .0, same k .1 ∙ w .1));
     taken = λ o. upd-all (λ k c. Taken (b .ctl k) → Taken c) (b .ctl) i (a .controller) (t .taken) (λ k h. h);
-    moved = upd-all (λ k (c : Controller). (c .position ≡ (b .ctl k) .position) ⊎ Moved (b .ctl k) c) (b .ctl) i (a .controller) (t .gate) (λ k. inl refl) }
+    moved = upd-all (λ k (c : Controller). (c .position ≡ (b .ctl k) .position) ⊎ Moved (b .ctl k) c) (b .ctl) i (a .controller) (t .gate) (λ k. inl refl);
+  }
     where
       same : (k : ℕ) → (votedBy k (b .world .sent k) ≡ votedBy k (upd (b .world .sent) i (sentAfter (b .world .sent i) a) k)) × (willBy k (b .world .sent k) ≡ willBy k (upd (b .world .sent) i (sentAfter (b .world .sent i) a) k))
       same = upd-all (λ k (x : Sent). (votedBy k (b .world .sent k) ≡ votedBy k x) × (willBy k (b .world .sent k) ≡ willBy k x)) (b .world .sent) i (sentAfter (b .world .sent i) a) (rw (t .vote) (refl, refl)) (λ k. (refl, refl))
@@ -59,14 +60,20 @@ module _ (n f : ℕ) where
   vote-facts : (b : View) (i : ℕ) (w : Bool) (t : ℕ) → 1 ≤ i → i ≤ width → runs (b .ctl i) ≡ true → accepts n f b (Cast i w t) ≡ true → Facts b (Cast i w t) (commitV b i (voteRule n f i w t (b .ctl i)))
   unfolding commitV voteRule sentAfter
   vote-facts b i w t lo hi r q = record {
-    voted = λ k x. (refl, cast w q k (elim (split (eqb k i)) [
-        inl e ↦ inl (eqb-eq k i e, willing w (sym (ap (λ (l : Sent). willBy i l) (upd-same (b .world .sent) i _)) ∙ (rw (eqb-eq k i e) at x) .1))
-      | inr e ↦ inr (rw (upd-other (b .world .sent) i _ k e) at x) ]));
+    voted = λ k x. (
+      refl,
+      cast w q k (elim (split (eqb k i)) [
+        | inl e ↦ inl (eqb-eq k i e, willing w (sym (ap (λ (l : Sent). willBy i l) (upd-same (b .world .sent) i _)) ∙ (rw (eqb-eq k i e) at x) .1))
+        | inr e ↦ inr (rw (upd-other (b .world .sent) i _ k e) at x)
+      ]),
+    );
     taken = λ o. upd-all (λ k c. Taken (b .ctl k) → Taken c) (b .ctl) i _ (vote-framed n f i w t (b .ctl i) r .taken) (λ k h. h);
-    moved = upd-all (λ k (c : Controller). (c .position ≡ (b .ctl k) .position) ⊎ Moved (b .ctl k) c) (b .ctl) i _ (inl (vote-framed n f i w t (b .ctl i) r .gate)) (λ k. inl refl) }
+    moved = upd-all (λ k (c : Controller). (c .position ≡ (b .ctl k) .position) ⊎ Moved (b .ctl k) c) (b .ctl) i _ (inl (vote-framed n f i w t (b .ctl i) r .gate)) (λ k. inl refl);
+  }
     where
       willing : (w : Bool) → wills (single i w) i ≡ true → w ≡ true
       willing w e = and-l w (eqb i i) (sym (single-wills i w i lo hi) ∙ e)
+
       cast : (w : Bool) → accepts n f b (Cast i w t) ≡ true → (k : ℕ) → ((k ≡ i) × (w ≡ true)) ⊎ Willing b k → Willing b k ⊎ VoteOf b (Cast i w t) k
       cast w q k (inl p) = inr (record { target = t; is = rw (p .0, p .1); accepted = q })
       cast w q k (inr p) = inl p
@@ -82,8 +89,8 @@ module _ (n f : ℕ) where
   decide-facts : (b : View) (i : ℕ) (w : Bool) → Facts b (Decide i w) (commitV (chosen b w) i (quiet (conclude (b .ctl i) (wordOf w))))
   unfolding chosen
   decide-facts b i w =
-    let t : Facts (chosen b w) (Decide i w) (commitV (chosen b w) i (quiet (conclude (b .ctl i) (wordOf w)))) = commit-facts (chosen b w) (Decide i w) i _ (decide-framed w (b .ctl i) (b .world .sent i)) in
-    record { voted = λ k x. (t .voted k x .0, elim (t .voted k x .1) [ inl p ↦ inl p | inr v ↦ no-vote k (v .target) (v .is) ]); taken = t .taken; moved = t .moved }
+      let t : Facts (chosen b w) (Decide i w) (commitV (chosen b w) i (quiet (conclude (b .ctl i) (wordOf w)))) = commit-facts (chosen b w) (Decide i w) i _ (decide-framed w (b .ctl i) (b .world .sent i)) in
+      record { voted = λ k x. (t .voted k x .0, elim (t .voted k x .1) [ inl p ↦ inl p | inr v ↦ no-vote k (v .target) (v .is) ]); taken = t .taken; moved = t .moved }
     where
       no-vote : (k t : ℕ) → Decide i w ≡ Cast k true t → Willing b k ⊎ VoteOf b (Decide i w) k
       no-vote k t e = let z : _≡_ {A = ℕ} 0 1 = cc in absurd (omega arith)
@@ -134,7 +141,7 @@ module _ (n f : ℕ) where
   pub restore-still : (b : View) (i k : ℕ) → ((stepV n f b (Restore i)) .ctl k) .position ≡ (b .ctl k) .position
   unfolding stepV performV commitV
   restore-still b i k = by-cond (λ (v : View). (v .ctl k) .position ≡ (b .ctl k) .position) (accepts n f b (Restore i)) _ b
-    (λ q. upd-all (λ k (c : Controller). c .position ≡ (b .ctl k) .position) (b .ctl) i _ still (λ k. refl) k) (λ q. refl)
+      (λ q. upd-all (λ k (c : Controller). c .position ≡ (b .ctl k) .position) (b .ctl) i _ still (λ k. refl) k) (λ q. refl)
     where
       still : ((quiet (cleared (Standby (recalled (b .order) (b .cards i))) (b .ctl i))) .controller .position) ≡ (b .ctl i) .position
       still = unfold quiet cleared in refl
@@ -149,35 +156,39 @@ module _ (n f : ℕ) where
     unfolding runV
     voted-run [] b k w = inl (refl, w)
     voted-run (e ∷ es) b k w = elim (voted-run es (stepV n f b e) k w) [
-        inr v ↦ inr (record { before = e ∷ v .before; after = v .after; target = v .target; parts = ap (λ (l : List Event). e ∷ l) (v .parts); accepted = v .accepted; same-order = v .same-order })
+      | inr v ↦ inr (record { before = e ∷ v .before; after = v .after; target = v .target; parts = ap (λ (l : List Event). e ∷ l) (v .parts); accepted = v .accepted; same-order = v .same-order })
       | inl p ↦ let t : ((stepV n f b e) .order ≡ b .order) × (Willing b k ⊎ VoteOf b e k) = step-facts small b e .voted k (p .1) in elim (t .1) [
-            inl x ↦ inl (p .0 ∙ t .0, x)
-          | inr x ↦ inr (record { before = []; after = es; target = x .target; parts = ap (λ (z : Event). z ∷ es) (x .is); accepted = rw (x .is) at (x .accepted); same-order = sym (p .0 ∙ t .0) }) ] ]
+        | inl x ↦ inl (p .0 ∙ t .0, x)
+        | inr x ↦ inr (record { before = []; after = es; target = x .target; parts = ap (λ (z : Event). z ∷ es) (x .is); accepted = rw (x .is) at (x .accepted); same-order = sym (p .0 ∙ t .0) })
+      ]
+    ]
 
     taken-run : (es : List Event) (b : View) → Inv n f b → (runV n f b es) .order ≡ b .order → (k : ℕ) → Taken (b .ctl k) → Taken ((runV n f b es) .ctl k)
     unfolding runV
     taken-run [] b inv o k h = h
     taken-run (e ∷ es) b inv o k h =
-      let x : Next n f f<n 1≤f small b (stepV n f b e) = step-next n f f<n 1≤f small b e inv in
-      let i₁ : Inv n f (stepV n f b e) = next-inv n f f<n 1≤f small b _ x in
-      let p : b .order ≤ (stepV n f b e) .order = next-order n f f<n 1≤f small b _ x in
-      let q : (stepV n f b e) .order ≤ (runV n f (stepV n f b e) es) .order = run-order n f f<n 1≤f small es (stepV n f b e) i₁ in
-      taken-run es (stepV n f b e) i₁ (omega arith) k (step-facts small b e .taken (omega arith) k h)
+        let x : Next n f f<n 1≤f small b (stepV n f b e) = step-next n f f<n 1≤f small b e inv in
+        let i₁ : Inv n f (stepV n f b e) = next-inv n f f<n 1≤f small b _ x in
+        let p : b .order ≤ (stepV n f b e) .order = next-order n f f<n 1≤f small b _ x in
+        let q : (stepV n f b e) .order ≤ (runV n f (stepV n f b e) es) .order = run-order n f f<n 1≤f small es (stepV n f b e) i₁ in
+        taken-run es (stepV n f b e) i₁ (omega arith) k (step-facts small b e .taken (omega arith) k h)
 
     -- after a gate has moved, it does not move again in that order
     pub two-moves : (b₀ : View) → Inv n f b₀ → (e₁ : Event) (es : List Event) (e₂ : Event) (k : ℕ)
-      → (stepV n f (runV n f (stepV n f b₀ e₁) es) e₂) .order ≡ (stepV n f b₀ e₁) .order
-      → (((stepV n f b₀ e₁) .ctl k) .position ≡ (b₀ .ctl k) .position → ⊥)
-      → (((stepV n f (runV n f (stepV n f b₀ e₁) es) e₂) .ctl k) .position ≡ ((runV n f (stepV n f b₀ e₁) es) .ctl k) .position → ⊥) → ⊥
+        → (stepV n f (runV n f (stepV n f b₀ e₁) es) e₂) .order ≡ (stepV n f b₀ e₁) .order
+        → (((stepV n f b₀ e₁) .ctl k) .position ≡ (b₀ .ctl k) .position → ⊥)
+        → (((stepV n f (runV n f (stepV n f b₀ e₁) es) e₂) .ctl k) .position ≡ ((runV n f (stepV n f b₀ e₁) es) .ctl k) .position → ⊥) → ⊥
     two-moves b₀ inv e₁ es e₂ k o m₁ m₂ =
-      let b₁ : View = stepV n f b₀ e₁ in
-      let b₂ : View = runV n f b₁ es in
-      let i₁ : Inv n f b₁ = next-inv n f f<n 1≤f small b₀ b₁ (step-next n f f<n 1≤f small b₀ e₁ inv) in
-      let i₂ : Inv n f b₂ = run-inv n f f<n 1≤f small es b₁ i₁ in
-      let o₂ : b₁ .order ≤ b₂ .order = run-order n f f<n 1≤f small es b₁ i₁ in
-      let o₃ : b₂ .order ≤ (stepV n f b₂ e₂) .order = next-order n f f<n 1≤f small b₂ (stepV n f b₂ e₂) (step-next n f f<n 1≤f small b₂ e₂ i₂) in
-      elim (step-facts small b₀ e₁ .moved k) [
-          inl s ↦ m₁ s
-        | inr y ↦ elim (step-facts small b₂ e₂ .moved k) [
-              inl s ↦ m₂ s
-            | inr z ↦ no-both (isNone (outcome (b₂ .ctl k))) (z .free) (taken-run es b₁ i₁ (omega arith) k (y .taken) (z .ran)) ] ]
+        let b₁ : View = stepV n f b₀ e₁ in
+        let b₂ : View = runV n f b₁ es in
+        let i₁ : Inv n f b₁ = next-inv n f f<n 1≤f small b₀ b₁ (step-next n f f<n 1≤f small b₀ e₁ inv) in
+        let i₂ : Inv n f b₂ = run-inv n f f<n 1≤f small es b₁ i₁ in
+        let o₂ : b₁ .order ≤ b₂ .order = run-order n f f<n 1≤f small es b₁ i₁ in
+        let o₃ : b₂ .order ≤ (stepV n f b₂ e₂) .order = next-order n f f<n 1≤f small b₂ (stepV n f b₂ e₂) (step-next n f f<n 1≤f small b₂ e₂ i₂) in
+        elim (step-facts small b₀ e₁ .moved k) [
+          | inl s ↦ m₁ s
+          | inr y ↦ elim (step-facts small b₂ e₂ .moved k) [
+            | inl s ↦ m₂ s
+            | inr z ↦ no-both (isNone (outcome (b₂ .ctl k))) (z .free) (taken-run es b₁ i₁ (omega arith) k (y .taken) (z .ran))
+          ]
+        ]

@@ -51,6 +51,7 @@ module _ (n f : ℕ) where
     where
       kept : Holds i (quiet (keepAck c i s))
       kept = unfold quiet keepAck in record { is = insert-own (c .«acks_from») i a b }
+
       already : (x y z : Bool) → y ≡ true → (not x && (y || z)) ≡ false → x ≡ true
       already true y z p q = refl
       already false true z p q = sym q
@@ -70,7 +71,7 @@ module _ (n f : ℕ) where
       low false = omega arith
 
   told-after : (b : View) (i : ℕ) (w : Bool) (t : ℕ) → 1 ≤ i → i ≤ width
-    → (votedBy i ((commitV b i (voteRule n f i w t (b .ctl i))) .world .sent i) ≡ true) × (willBy i ((commitV b i (voteRule n f i w t (b .ctl i))) .world .sent i) ≡ w)
+      → (votedBy i ((commitV b i (voteRule n f i w t (b .ctl i))) .world .sent i) ≡ true) × (willBy i ((commitV b i (voteRule n f i w t (b .ctl i))) .world .sent i) ≡ w)
   unfolding commitV voteRule sentAfter
   told-after b i w t lo hi = (rw (upd-same (b .world .sent) i _) (single-knows i w i lo hi ∙ eqb-same i), rw (upd-same (b .world .sent) i _) (single-wills i w i lo hi ∙ and-yes w (eqb i i) (eqb-same i)))
     where
@@ -92,8 +93,10 @@ module _ (n f : ℕ) where
     where
       direct : Rings 3 (laidDown n c (conclude (frozen n c) (verdict n (ackJoin n c))))
       direct = unfold laidDown conclude frozen freeze advance in record { is = refl }
+
       put : Rings 3 (proposes (laidDown n c (frozen n c)) (verdict n (ackJoin n c)))
       put = unfold proposes laidDown propose frozen freeze advance in record { is = refl }
+
       waits : Rings 3 (callsHelp n f j c)
       waits = unfold callsHelp keepHelped await frozen freeze advance in record { is = refl }
 
@@ -149,22 +152,26 @@ module _ (n f : ℕ) where
   perform-new s b (Lock a c) inv q = tt
   perform-new s b (Order o) inv q = tt
   perform-new s b (Cast i w t) inv q =
-    let lo : 1 ≤ i = leb-le _ _ (search (ask-l, ask-r, and-l, and-r) depth 14) in let hi : i ≤ n = leb-le _ _ (search (ask-l, ask-r, and-l, and-r) depth 14) in
-    record { cast = told-after b i w t lo (omega arith) .0; will = told-after b i w t lo (omega arith) .1; ran = (search (ask-l, ask-r, and-l, and-r) depth 14); begun = begun-after b i w t }
+      let lo : 1 ≤ i = leb-le _ _ (search (ask-l, ask-r, and-l, and-r) depth 14) in let hi : i ≤ n = leb-le _ _ (search (ask-l, ask-r, and-l, and-r) depth 14) in
+      record { cast = told-after b i w t lo (omega arith) .0; will = told-after b i w t lo (omega arith) .1; ran = (search (ask-l, ask-r, and-l, and-r) depth 14); begun = begun-after b i w t }
   perform-new s b (Deliver i j Vote) inv q =
-    let sent : has ((b .world .sent i) .vote .to) j ≡ true = (search (ask-l, ask-r, and-l, and-r) depth 14) in
-    record { ran = (search (ask-l, ask-r, and-l, and-r) depth 14); route = inv .lines i .vote-to j sent .1; known = known-after b i j _ (inv .lines i .vote-to j sent .0) }
+      let sent : has ((b .world .sent i) .vote .to) j ≡ true = (search (ask-l, ask-r, and-l, and-r) depth 14) in
+      record { ran = (search (ask-l, ask-r, and-l, and-r) depth 14); route = inv .lines i .vote-to j sent .1; known = known-after b i j _ (inv .lines i .vote-to j sent .0) }
   perform-new s b (Deliver i j Ack) inv q =
-    let sent : has ((b .world .sent i) .ack .to) j ≡ true = (search (ask-l, ask-r, and-l, and-r) depth 14) in
-    let lo : 1 ≤ i = leb-le _ _ (search (ask-l, ask-r, and-l, and-r) depth 14) in let hi : i ≤ n = leb-le _ _ (search (ask-l, ask-r, and-l, and-r) depth 14) in
-    record { acked = inv .lines i .ack-to j sent .0; held = held-after b i j _ lo (omega arith) }
+      let sent : has ((b .world .sent i) .ack .to) j ≡ true = (search (ask-l, ask-r, and-l, and-r) depth 14) in
+      let lo : 1 ≤ i = leb-le _ _ (search (ask-l, ask-r, and-l, and-r) depth 14) in let hi : i ≤ n = leb-le _ _ (search (ask-l, ask-r, and-l, and-r) depth 14) in
+      record { acked = inv .lines i .ack-to j sent .0; held = held-after b i j _ lo (omega arith) }
   perform-new s b (Deliver i j Help) inv q = tt
   perform-new s b (Deliver i j Helped) inv q = tt
-  perform-new s b (Timeout i) inv q = record { ran = (search (ask-l, ask-r, and-l, and-r) depth 14); at = record { lo = leb-le _ _ (search (ask-l, ask-r, and-l, and-r) depth 14); hi = leb-le _ _ (search (ask-l, ask-r, and-l, and-r) depth 14) };
+  perform-new s b (Timeout i) inv q = record {
+    ran = (search (ask-l, ask-r, and-l, and-r) depth 14);
+    at = record { lo = leb-le _ _ (search (ask-l, ask-r, and-l, and-r) depth 14); hi = leb-le _ _ (search (ask-l, ask-r, and-l, and-r) depth 14) };
     at-phase = elim (or-e (eqb (phase (b .ctl i)) 1) (eqb (phase (b .ctl i)) 2) (search (ask-l, ask-r, and-l, and-r) depth 14)) [ inl e ↦ inl (eqb-eq _ _ e) | inr e ↦ inr (eqb-eq _ _ e) ];
     after = elim (split (eqb (phase (b .ctl i)) 1)) [
-        inl e ↦ rw e (omega (arith, rung-after b i _ 2 (first-rings i (b .ctl i))))
-      | inr e ↦ rw e (omega (arith, rung-after b i _ 3 (second-rings i (b .ctl i)))) ] }
+      | inl e ↦ rw e (omega (arith, rung-after b i _ 2 (first-rings i (b .ctl i))))
+      | inr e ↦ rw e (omega (arith, rung-after b i _ 3 (second-rings i (b .ctl i))))
+    ];
+  }
   perform-new s b (Decide i w) inv q = tt
   perform-new s b (Stop i) inv q = tt
   perform-new s b (Save i) inv q = tt

@@ -71,13 +71,13 @@ module _ (n f : ℕ) (f<n : f < n) (1≤f : 1 ≤ f) (small : n ≤ limit) where
   commit-next b i a inv t = inl (record { order = refl; keeps = record { inv = commit-inv n f b i a inv t; lines = grows-upd (b .world .sent) i (sentAfter (b .world .sent i) a) (t .grown); decision = λ v e. e } })
 
   decide-next : (b : View) (i : ℕ) (w : Bool) → Inv n f b → (runs (b .ctl i) ≡ true → 3 ≤ phase (b .ctl i)) → cond w (b .world .moveProposed) (b .world .stayProposed) ≡ true → noOther (b .world .decision) w ≡ true
-    → Next b (commitV (chosen b w) i (quiet (conclude (b .ctl i) (wordOf w))))
+      → Next b (commitV (chosen b w) i (quiet (conclude (b .ctl i) (wordOf w))))
   unfolding chosen commitV
   decide-next b i w inv late p q =
-    let b₁ : View = chosen b w in
-    let inv₁ : Inv n f b₁ = chosen-inv n f b w inv p q in
-    let t : Fits n f b₁ i (quiet (conclude (b .ctl i) (wordOf w))) = decide-fits n f b₁ i w inv₁ late p refl in
-    inl (record { order = refl; keeps = record { inv = commit-inv n f b₁ i _ inv₁ t; lines = grows-upd (b .world .sent) i _ (t .grown); decision = λ v e. given-is (b .world .decision) w v q e } })
+      let b₁ : View = chosen b w in
+      let inv₁ : Inv n f b₁ = chosen-inv n f b w inv p q in
+      let t : Fits n f b₁ i (quiet (conclude (b .ctl i) (wordOf w))) = decide-fits n f b₁ i w inv₁ late p refl in
+      inl (record { order = refl; keeps = record { inv = commit-inv n f b₁ i _ inv₁ t; lines = grows-upd (b .world .sent) i _ (t .grown); decision = λ v e. given-is (b .world .decision) w v q e } })
 
   saved-next : (b : View) (i : ℕ) → Inv n f b → Next b (savedV b i (cardAt n f b i))
   unfolding savedV
@@ -101,8 +101,9 @@ module _ (n f : ℕ) (f<n : f < n) (1≤f : 1 ≤ f) (small : n ≤ limit) where
   perform-next b (Deliver i j Help) inv q = commit-next b j _ inv (help-in-fits n f small b inv j i)
   perform-next b (Deliver i j Helped) inv q = commit-next b j _ inv (helped-in-fits n f small b inv j f<n i (leb-le _ _ (search (ask-l, ask-r, and-l, and-r) depth 14)) (leb-le _ _ (search (ask-l, ask-r, and-l, and-r) depth 14)) (leb-le _ _ (search (ask-l, ask-r, and-l, and-r) depth 14)) (search (ask-l, ask-r, and-l, and-r) depth 14))
   perform-next b (Timeout i) inv q = elim (split (eqb (phase (b .ctl i)) 1)) [
-      inl e ↦ rw e (commit-next b i _ inv (first-fits n f small b inv i (leb-le _ _ (search (ask-l, ask-r, and-l, and-r) depth 14)) (leb-le _ _ (search (ask-l, ask-r, and-l, and-r) depth 14)) (search (ask-l, ask-r, and-l, and-r) depth 14) (eqb-eq _ _ e)))
-    | inr e ↦ rw e (commit-next b i _ inv (second-fits n f f<n 1≤f small b inv i (leb-le _ _ (search (ask-l, ask-r, and-l, and-r) depth 14)) (leb-le _ _ (search (ask-l, ask-r, and-l, and-r) depth 14)) (search (ask-l, ask-r, and-l, and-r) depth 14) (eqb-eq _ _ (second (eqb (phase (b .ctl i)) 1) _ e (search (ask-l, ask-r, and-l, and-r) depth 14))))) ]
+    | inl e ↦ rw e (commit-next b i _ inv (first-fits n f small b inv i (leb-le _ _ (search (ask-l, ask-r, and-l, and-r) depth 14)) (leb-le _ _ (search (ask-l, ask-r, and-l, and-r) depth 14)) (search (ask-l, ask-r, and-l, and-r) depth 14) (eqb-eq _ _ e)))
+    | inr e ↦ rw e (commit-next b i _ inv (second-fits n f f<n 1≤f small b inv i (leb-le _ _ (search (ask-l, ask-r, and-l, and-r) depth 14)) (leb-le _ _ (search (ask-l, ask-r, and-l, and-r) depth 14)) (search (ask-l, ask-r, and-l, and-r) depth 14) (eqb-eq _ _ (second (eqb (phase (b .ctl i)) 1) _ e (search (ask-l, ask-r, and-l, and-r) depth 14)))))
+  ]
   perform-next b (Decide i w) inv q = decide-next b i w inv (at-three b i (search (ask-l, ask-r, and-l, and-r) depth 14)) (sym (proposed-is n f b w) ∙ (search (ask-l, ask-r, and-l, and-r) depth 14)) (search (ask-l, ask-r, and-l, and-r) depth 14)
   perform-next b (Stop i) inv q = commit-next b i _ inv (stop-fits n f small b inv i)
   perform-next b (Save i) inv q = saved-next b i inv
@@ -111,8 +112,9 @@ module _ (n f : ℕ) (f<n : f < n) (1≤f : 1 ≤ f) (small : n ≤ limit) where
   pub step-next : (b : View) (e : Event) → Inv n f b → Next b (stepV n f b e)
   unfolding stepV
   step-next b e inv = elim (split (accepts n f b e)) [
-      inl q ↦ rw q (perform-next b e inv q)
-    | inr q ↦ rw q (inl (record { order = refl; keeps = record { inv = inv; lines = λ k. grown-refl k (b .world .sent k); decision = λ v e. e } })) ]
+    | inl q ↦ rw q (perform-next b e inv q)
+    | inr q ↦ rw q (inl (record { order = refl; keeps = record { inv = inv; lines = λ k. grown-refl k (b .world .sent k); decision = λ v e. e } }))
+  ]
 
   pub next-inv : (b b′ : View) → Next b b′ → Inv n f b′
   next-inv b b′ (inl s) = s .keeps .inv
@@ -131,25 +133,26 @@ module _ (n f : ℕ) (f<n : f < n) (1≤f : 1 ≤ f) (small : n ≤ limit) where
   unfolding runV
   run-order [] b inv = omega arith
   run-order (e ∷ es) b inv =
-    let x : Next b (stepV n f b e) = step-next b e inv in
-    let p : b .order ≤ (stepV n f b e) .order = next-order b _ x in
-    let q : (stepV n f b e) .order ≤ (runV n f (stepV n f b e) es) .order = run-order es (stepV n f b e) (next-inv b _ x) in
-    omega arith
+      let x : Next b (stepV n f b e) = step-next b e inv in
+      let p : b .order ≤ (stepV n f b e) .order = next-order b _ x in
+      let q : (stepV n f b e) .order ≤ (runV n f (stepV n f b e) es) .order = run-order es (stepV n f b e) (next-inv b _ x) in
+      omega arith
 
   -- the grounds of an outcome last as long as the order
   run-out : (es : List Event) (b : View) → Inv n f b → (runV n f b es) .order ≡ b .order → (v : Bool) → OutEv n f (b .world .sent) (b .world .decision) v
-    → OutEv n f ((runV n f b es) .world .sent) ((runV n f b es) .world .decision) v
+      → OutEv n f ((runV n f b es) .world .sent) ((runV n f b es) .world .decision) v
   unfolding runV
   run-out [] b inv o v g = g
   run-out (e ∷ es) b inv o v g = elim (step-next b e inv) [
-      inl s ↦ let k : Keeps b (stepV n f b e) = s .keeps in let so : (stepV n f b e) .order ≡ b .order = s .order in
+    | inl s ↦ let k : Keeps b (stepV n f b e) = s .keeps in let so : (stepV n f b e) .order ≡ b .order = s .order in
         run-out es (stepV n f b e) (k .inv) (o ∙ sym so) v (out-mono (b .world .sent) ((stepV n f b e) .world .sent) (k .lines) (b .world .decision) ((stepV n f b e) .world .decision) (k .decision) n f v g)
     | inr s ↦ let so : b .order < (stepV n f b e) .order = s .order in
-        let q : (stepV n f b e) .order ≤ (runV n f (stepV n f b e) es) .order = run-order es (stepV n f b e) (s .inv) in absurd (omega arith) ]
+        let q : (stepV n f b e) .order ≤ (runV n f (stepV n f b e) es) .order = run-order es (stepV n f b e) (s .inv) in absurd (omega arith)
+  ]
 
   -- AGREEMENT, for any two moments of one order
   pub agreement : (b : View) → Inv n f b → (es : List Event) (i j : ℕ) (x y : Bool) → (runV n f b es) .order ≡ b .order
-    → outcome (b .ctl i) ≡ wordOf x → outcome ((runV n f b es) .ctl j) ≡ wordOf y → x ≡ y
+      → outcome (b .ctl i) ≡ wordOf x → outcome ((runV n f b es) .ctl j) ≡ wordOf y → x ≡ y
   agreement b inv es i j x y o p q =
-    let inv₂ : Inv n f (runV n f b es) = run-inv es b inv in
-    agree n f f<n (runV n f b es) inv₂ x y (run-out es b inv o x (inv .ctls i .outcome-ok x p)) (inv₂ .ctls j .outcome-ok y q)
+      let inv₂ : Inv n f (runV n f b es) = run-inv es b inv in
+      agree n f f<n (runV n f b es) inv₂ x y (run-out es b inv o x (inv .ctls i .outcome-ok x p)) (inv₂ .ctls j .outcome-ok y q)

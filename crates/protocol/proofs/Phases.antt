@@ -45,8 +45,9 @@ module _ (n f : ℕ) where
   route-low : (i j : ℕ) → voteRoute f i j ≡ true → j ≤ suc f
   unfolding voteRoute
   route-low i j e = elim (or-e (leb j f) (leb i f && eqb j (suc f)) (and-r (not (eqb i j)) _ e)) [
-      inl q ↦ let h : j ≤ f = leb-le j f q in omega arith
-    | inr q ↦ let h : j ≡ suc f = eqb-eq j (suc f) (and-r (leb i f) _ q) in omega arith ]
+    | inl q ↦ let h : j ≤ f = leb-le j f q in omega arith
+    | inr q ↦ let h : j ≡ suc f = eqb-eq j (suc f) (and-r (leb i f) _ q) in omega arith
+  ]
 
   vote-route : (i j : ℕ) → (i ≡ j → ⊥) → j ≤ f → voteRoute f i j ≡ true
   unfolding voteRoute
@@ -88,8 +89,11 @@ module _ (n f : ℕ) where
   A-phase : (e : Event) (j s s′ : ℕ) → NotTimeout e → PhaseMove n f e j s s′ → (s ≤ 2 → s′ ≤ 2) × (j ≤ suc f → s ≤ 1 → s′ ≤ 1) × (suc f < j → (1 ≤ s → 2 ≤ s) → 1 ≤ s′ → 2 ≤ s′)
   A-phase e j s s′ nb (stays p) = (λ h. omega arith, λ h k. omega arith, λ h k l. let x : 2 ≤ s = k (omega arith) in omega arith)
   A-phase e j s s′ nb (rung q p) = absurd (subst NotTimeout q nb)
-  A-phase e j s s′ nb (voted w t q z p) = (λ h. omega (arith, cond-bounds (leb j (suc f))), λ h k. let p′ : s′ ≡ 1 = (rw (le-leb j (suc f) h) at p) in omega arith,
-    λ h k l. let p′ : s′ ≡ 2 = (rw (not-true (leb j (suc f)) (λ x. let y : j ≤ suc f = leb-le j (suc f) x in omega arith)) at p) in omega arith)
+  A-phase e j s s′ nb (voted w t q z p) = (
+    λ h. omega (arith, cond-bounds (leb j (suc f))),
+    λ h k. let p′ : s′ ≡ 1 = (rw (le-leb j (suc f) h) at p) in omega arith,
+    λ h k l. let p′ : s′ ≡ 2 = (rw (not-true (leb j (suc f)) (λ x. let y : j ≤ suc f = leb-le j (suc f) x in omega arith)) at p) in omega arith,
+  )
 
   A-step : (b b′ : View) (e : Event) (log : List Event) → NotTimeout e → PhaseA b log → Tame n f e b b′ → New n f e b b′ → PhaseA b′ (e ∷ log)
   A-step b b′ e log nb a t nw = record {
@@ -97,16 +101,20 @@ module _ (n f : ℕ) where
     low₂ = λ j r. let r₀ : runs (b .ctl j) ≡ true = back j r in A-phase e j _ _ nb (t j .phase r₀) .0 (a .low₂ j r₀);
     far = λ j r h. let r₀ : runs (b .ctl j) ≡ true = back j r in A-phase e j _ _ nb (t j .phase r₀) .2 h (a .far j r₀ h);
     votes = λ k w x i. elim i [
-        inl q ↦ let v : NewVote n f b b′ k w = subst (λ z. New n f z b b′) (sym q) nw in (t k .running ∙ v .ran, v .begun)
-      | inr m ↦ let p : (runs (b .ctl k) ≡ true) × (1 ≤ phase (b .ctl k)) = a .votes k w x m in (t k .running ∙ p .0, phase-up e k _ _ 1 (t k .phase (p .0)) (omega arith) (p .1)) ];
+      | inl q ↦ let v : NewVote n f b b′ k w = subst (λ z. New n f z b b′) (sym q) nw in (t k .running ∙ v .ran, v .begun)
+      | inr m ↦ let p : (runs (b .ctl k) ≡ true) × (1 ≤ phase (b .ctl k)) = a .votes k w x m in (t k .running ∙ p .0, phase-up e k _ _ 1 (t k .phase (p .0)) (omega arith) (p .1))
+    ];
     sheets = λ i j x. elim x [
-        inl q ↦ let v : NewVoteTo n f b b′ i j = subst (λ z. New n f z b b′) (sym q) nw in (t j .running ∙ v .ran, v .known (a .low₁ j (v .ran) (route-low i j (v .route))))
-      | inr m ↦ let p : (runs (b .ctl j) ≡ true) × (knows ((b .ctl j) .votes) i ≡ true) = a .sheets i j m in (t j .running ∙ p .0, t j .votes (p .0) i (p .1)) ];
+      | inl q ↦ let v : NewVoteTo n f b b′ i j = subst (λ z. New n f z b b′) (sym q) nw in (t j .running ∙ v .ran, v .known (a .low₁ j (v .ran) (route-low i j (v .route))))
+      | inr m ↦ let p : (runs (b .ctl j) ≡ true) × (knows ((b .ctl j) .votes) i ≡ true) = a .sheets i j m in (t j .running ∙ p .0, t j .votes (p .0) i (p .1))
+    ];
     blank = λ j. not-true _ (λ h. elim (t j .acked h) [ inl p ↦ no-both _ (p .0) (a .blank j) | inr p ↦ subst NotTimeout (p .0) nb ]);
     noacks = λ i j x. elim x [
-        inl q ↦ let v : NewAckTo n f b b′ i j = subst (λ z. New n f z b b′) (sym q) nw in no-both _ (v .acked) (a .blank i)
-      | inr m ↦ a .noacks i j m ];
-    nobells = λ i x. elim x [ inl q ↦ subst NotTimeout (sym q) nb | inr m ↦ a .nobells i m ] }
+      | inl q ↦ let v : NewAckTo n f b b′ i j = subst (λ z. New n f z b b′) (sym q) nw in no-both _ (v .acked) (a .blank i)
+      | inr m ↦ a .noacks i j m
+    ];
+    nobells = λ i x. elim x [ inl q ↦ subst NotTimeout (sym q) nb | inr m ↦ a .nobells i m ];
+  }
     where
       back : (j : ℕ) → runs (b′ .ctl j) ≡ true → runs (b .ctl j) ≡ true
       back j r = sym (t j .running) ∙ r
@@ -134,7 +142,8 @@ module _ (n f : ℕ) where
       acks = λ j k x y u v h. elim (t j .acked h) [ inl p ↦ rw (p .1) (a .acks j k x y u v (p .0)) | inr p ↦ rw (p .1) (a .sheets j k x y u v) ];
       ack₂ = λ k x y h. elim (t (suc f) .acked h) [ inl p ↦ rw (p .1) (a .ack₂ k x y (p .0)) | inr p ↦ rw (p .1) (a .sheet₂ k x y) ];
       belled = λ j x y h. ring j x y (t j .phase (a .runs j x (omega arith))) h;
-      rungs = λ j x y h. elim h [ inl q ↦ let v : NewTimeout n f b b′ j = subst (λ z. New n f z b b′) (sym q) nw in v .after | inr m ↦ phase-up e j _ _ 2 (t j .phase (a .runs j x y)) (omega arith) (a .rungs j x y m) ] }
+      rungs = λ j x y h. elim h [ inl q ↦ let v : NewTimeout n f b b′ j = subst (λ z. New n f z b b′) (sym q) nw in v .after | inr m ↦ phase-up e j _ _ 2 (t j .phase (a .runs j x y)) (omega arith) (a .rungs j x y m) ];
+    }
       where
         ring : (j : ℕ) → 1 ≤ j → j ≤ suc f → PhaseMove n f e j (phase (b .ctl j)) (phase (b′ .ctl j)) → 2 ≤ phase (b′ .ctl j) → In (Timeout j) (e ∷ log)
         ring j x y (stays p) h = inr (a .belled j x y (omega arith))
@@ -148,13 +157,15 @@ module _ (n f : ℕ) where
       begun = λ k x y. vote-of k x y .1;
       far = λ k x y. a .far k (vote-of k (omega arith) y .0) x (vote-of k (omega arith) y .1);
       sheets = λ j k x y u w. elim (ℕ-discrete k j) [
-          yes q ↦ rw q (inv .owns j .own (vote-of j x (omega arith) .1))
-        | no q ↦ a .sheets k j (v .sent k j u w x (omega arith) (vote-route k j q y)) .1 ];
+        | yes q ↦ rw q (inv .owns j .own (vote-of j x (omega arith) .1))
+        | no q ↦ a .sheets k j (v .sent k j u w x (omega arith) (vote-route k j q y)) .1
+      ];
       sheet₂ = λ k x y. a .sheets k (suc f) (v .sent k (suc f) x (omega arith) (omega arith) f<n (vote-route₂ k y)) .1;
       acks = λ j k x y u w h. absurd (no-both _ h (a .blank j));
       ack₂ = λ k x y h. absurd (no-both _ h (a .blank (suc f)));
       belled = λ j x y h. let l : phase (b .ctl j) ≤ 1 = a .low₁ j (vote-of j x (omega arith) .0) y in absurd (omega arith);
-      rungs = λ j x y h. absurd (a .nobells j h) }
+      rungs = λ j x y h. absurd (a .nobells j h);
+    }
       where
         vote-of : (k : ℕ) → 1 ≤ k → k ≤ n → (runs (b .ctl k) ≡ true) × (1 ≤ phase (b .ctl k))
         vote-of k x y = let p : Voted n f log k = v .votes k x y in a .votes k (p .willing) (p .target) (p .entry)
@@ -178,11 +189,14 @@ module _ (n f : ℕ) where
 
     -- a timeout at phase 1, or no timeout
     B-step : (b b′ : View) (e : Event) (log : List Event) → PhaseB b log → Tame n f e b b′ → New n f e b b′ → ((j : ℕ) → e ≡ Timeout j → phase (b .ctl j) ≡ 1) → PhaseB b′ (e ∷ log)
-    B-step b b′ e log p t nw one = record { base = base-step b b′ e log (p .base) t nw;
+    B-step b b′ e log p t nw one = record {
+      base = base-step b b′ e log (p .base) t nw;
       low = λ j x y. up j x y (t j .phase (p .base .runs j x y));
       held = λ i j m x y. elim m [
-          inl q ↦ let v : NewAckTo n f b b′ i j = subst (λ z. New n f z b b′) (sym q) nw in v .held (p .low j x y)
-        | inr k ↦ t j .acks (p .base .runs j x y) i (p .held i j k x y) ] }
+        | inl q ↦ let v : NewAckTo n f b b′ i j = subst (λ z. New n f z b b′) (sym q) nw in v .held (p .low j x y)
+        | inr k ↦ t j .acks (p .base .runs j x y) i (p .held i j k x y)
+      ];
+    }
       where
         up : (j : ℕ) → 1 ≤ j → j ≤ n → PhaseMove n f e j (phase (b .ctl j)) (phase (b′ .ctl j)) → phase (b′ .ctl j) ≤ 2
         up j x y (stays q) = let h : phase (b .ctl j) ≤ 2 = p .low j x y in omega arith
@@ -190,8 +204,10 @@ module _ (n f : ℕ) where
         up j x y (voted w u q z s) = let h : 1 ≤ phase (b .ctl j) = p .base .begun j x y in absurd (omega arith)
 
     C-step : (b b′ : View) (e : Event) (log : List Event) → PhaseC b log → Tame n f e b b′ → New n f e b b′ → PhaseC b′ (e ∷ log)
-    C-step b b′ e log p t nw = record { base = base-step b b′ e log (p .base) t nw;
-      all = λ i j x y u w r. t j .acks (p .base .runs j u w) i (p .all i j x y u w r) }
+    C-step b b′ e log p t nw = record {
+      base = base-step b b′ e log (p .base) t nw;
+      all = λ i j x y u w r. t j .acks (p .base .runs j u w) i (p .all i j x y u w r);
+    }
 
     abbrev Tidy : View → List Event → Type 0
     Tidy b log = PhaseA b log ⊎ (PhaseB b log ⊎ PhaseC b log)
@@ -202,8 +218,9 @@ module _ (n f : ℕ) where
 
     told-step : (b b′ : View) (e : Event) (log : List Event) → Told b log → Grows (b .world .sent) (b′ .world .sent) → New n f e b b′ → Told b′ (e ∷ log)
     told-step b b′ e log h g nw k w t m = elim m [
-        inl q ↦ let v : NewVote n f b b′ k w = subst (λ z. New n f z b b′) (sym q) nw in (v .cast, v .will)
-      | inr x ↦ let p : (votedBy k (b .world .sent k) ≡ true) × (willBy k (b .world .sent k) ≡ w) = h k w t x in (g k .voted (p .0), g k .will (p .0) ∙ p .1) ]
+      | inl q ↦ let v : NewVote n f b b′ k w = subst (λ z. New n f z b b′) (sym q) nw in (v .cast, v .will)
+      | inr x ↦ let p : (votedBy k (b .world .sent k) ≡ true) × (willBy k (b .world .sent k) ≡ w) = h k w t x in (g k .voted (p .0), g k .will (p .0) ∙ p .1)
+    ]
 
     tidy-quiet : (b b′ : View) (e : Event) (log : List Event) → NotTimeout e → Tame n f e b b′ → New n f e b b′ → Tidy b log → Tidy b′ (e ∷ log)
     tidy-quiet b b′ e log nb t nw (inl a) = inl (A-step b b′ e log nb a t nw)
@@ -230,22 +247,32 @@ module _ (n f : ℕ) where
       where
         same : (j : ℕ) → phase (b .ctl i) ≡ 1 → Timeout i ≡ Timeout j → phase (b .ctl j) ≡ 1
         same j s q = let z : i ≡ j = cc in rw z at s
+
         go : Late b log → Tidy b′ (Timeout i ∷ log)
         go (inr p) = inr (inr (C-step b b′ (Timeout i) log p t nw))
         go (inl p) = elim (nw .at-phase) [
-            inl s ↦ inr (inl (B-step b b′ (Timeout i) log p t nw (λ j q. same j s q)))
-          | inr s ↦ inr (inr (C-step b b′ (Timeout i) log (B-to-C b log p (c .1 (second-of b log i (p .base) (nw .at .lo) s))) t nw)) ]
+          | inl s ↦ inr (inl (B-step b b′ (Timeout i) log p t nw (λ j q. same j s q)))
+          | inr s ↦ inr (inr (C-step b b′ (Timeout i) log (B-to-C b log p (c .1 (second-of b log i (p .base) (nw .at .lo) s))) t nw))
+        ]
 
     pub record Good (b : View) (log : List Event) : Type 0 where
       tidy : Tidy b log
       told : Told b log
 
     pub blank-good : (b : View) → ((k : ℕ) → Blank (b .ctl k)) → ((k : ℕ) → ackedBy k (b .world .sent k) ≡ false) → Good b []
-    blank-good b bl ln = record { told = λ k w t m. absurd m; tidy = inl (record {
-      low₁ = λ j r h. let s : phase (b .ctl j) ≡ 0 = bl j .phase in omega arith;
-      low₂ = λ j r. let s : phase (b .ctl j) ≡ 0 = bl j .phase in omega arith;
-      far = λ j r h k. let s : phase (b .ctl j) ≡ 0 = bl j .phase in omega arith;
-      votes = λ k w t m. absurd m; sheets = λ i j m. absurd m; blank = ln; noacks = λ i j m. m; nobells = λ i m. m }) }
+    blank-good b bl ln = record {
+      told = λ k w t m. absurd m;
+      tidy = inl (record {
+        low₁ = λ j r h. let s : phase (b .ctl j) ≡ 0 = bl j .phase in omega arith;
+        low₂ = λ j r. let s : phase (b .ctl j) ≡ 0 = bl j .phase in omega arith;
+        far = λ j r h k. let s : phase (b .ctl j) ≡ 0 = bl j .phase in omega arith;
+        votes = λ k w t m. absurd m;
+        sheets = λ i j m. absurd m;
+        blank = ln;
+        noacks = λ i j m. m;
+        nobells = λ i m. m;
+      });
+    }
 
     opened-good : (b : View) (o : ℕ) → Good (openedV b o) []
     unfolding openedV newWorld unsentAll
@@ -266,18 +293,21 @@ module _ (n f : ℕ) where
     module _ (1≤f : 1 ≤ f) (small : n ≤ limit) where
       perform-grows : (b : View) (e : Event) → Inv n f b → Goes n f e → accepts n f b e ≡ true → Grows (b .world .sent) ((performV n f b e) .world .sent)
       perform-grows b e inv g q = elim (perform-next n f f<n 1≤f small b e inv q) [
-          inl s ↦ s .keeps .lines
-        | inr s ↦ let h : b .order < (performV n f b e) .order = s .order in let o : (performV n f b e) .order ≡ b .order = perform-order b e g in absurd (omega arith) ]
+        | inl s ↦ s .keeps .lines
+        | inr s ↦ let h : b .order < (performV n f b e) .order = s .order in let o : (performV n f b e) .order ≡ b .order = perform-order b e g in absurd (omega arith)
+      ]
 
       quiet-good : (b : View) (e : Event) (log : List Event) → Inv n f b → Goes n f e → NotTimeout e → accepts n f b e ≡ true → Good b log → Good (performV n f b e) (e ∷ log)
       quiet-good b e log inv g nb q h = record {
         tidy = tidy-quiet b (performV n f b e) e log nb (perform-tame n f small b e g q) (perform-new n f small b e inv q) (h .tidy);
-        told = told-step b (performV n f b e) e log (h .told) (perform-grows b e inv g q) (perform-new n f small b e inv q) }
+        told = told-step b (performV n f b e) e log (h .told) (perform-grows b e inv g q) (perform-new n f small b e inv q);
+      }
 
       timeout-good : (b : View) (i : ℕ) (log : List Event) → Inv n f b → CleanStep n f (Timeout i) log → accepts n f b (Timeout i) ≡ true → Good b log → Good (performV n f b (Timeout i)) (Timeout i ∷ log)
       timeout-good b i log inv c q h = record {
         tidy = tidy-timeout b (performV n f b (Timeout i)) i log inv c (perform-tame n f small b (Timeout i) tt q) (perform-new n f small b (Timeout i) inv q) (h .tidy);
-        told = told-step b (performV n f b (Timeout i)) (Timeout i) log (h .told) (perform-grows b (Timeout i) inv tt q) (perform-new n f small b (Timeout i) inv q) }
+        told = told-step b (performV n f b (Timeout i)) (Timeout i) log (h .told) (perform-grows b (Timeout i) inv tt q) (perform-new n f small b (Timeout i) inv q);
+      }
 
       perform-good : (b : View) (e : Event) (log : List Event) → Inv n f b → accepts n f b e ≡ true → (Clean n f log → Good b log) → Clean n f (entered e log) → Good (performV n f b e) (entered e log)
       unfolding entered
@@ -310,22 +340,25 @@ module _ (n f : ℕ) where
 
         at2 : phase (b .ctl i) ≡ 2
         at2 = elim (nw .at-phase) [
-            inr s ↦ s
+          | inr s ↦ s
           | inl s ↦ elim sec [
-                inl h ↦ let x : 2 ≤ phase (b .ctl i) = last .base .far i h (nw .at .hi) in absurd (omega arith)
-              | inr m ↦ let x : 2 ≤ phase (b .ctl i) = last .base .rungs i (nw .at .lo) (nw .at .hi) m in absurd (omega arith) ] ]
+            | inl h ↦ let x : 2 ≤ phase (b .ctl i) = last .base .far i h (nw .at .hi) in absurd (omega arith)
+            | inr m ↦ let x : 2 ≤ phase (b .ctl i) = last .base .rungs i (nw .at .lo) (nw .at .hi) m in absurd (omega arith)
+          ]
+        ]
 
         held : (j : ℕ) → 1 ≤ j → j ≤ f → hasAck (b .ctl i) j ≡ true
         held j x y = elim (ℕ-discrete j i) [
-            yes e ↦ rw e (inv .owns i .own-ack (omega (arith, at2)) (omega arith))
-          | no e ↦ last .all j i x (omega arith) (nw .at .lo) (nw .at .hi) (ack-route j i e y) ]
+          | yes e ↦ rw e (inv .owns i .own-ack (omega (arith, at2)) (omega arith))
+          | no e ↦ last .all j i x (omega arith) (nw .at .lo) (nw .at .hi) (ack-route j i e y)
+        ]
 
         whole : (j : ℕ) → 1 ≤ j → j ≤ f → (k : ℕ) → 1 ≤ k → k ≤ n → knows (ackOn (b .world .sent j)) k ≡ true
         whole j x y k u v = last .base .acks j k x y u v (inv .ctls i .acks-ok j (held j x y) .acked)
 
         secondary : i ≤ f → (hasAck (b .ctl i) (suc f) ≡ true) × ((k : ℕ) → 1 ≤ k → k ≤ f → knows (ackOn (b .world .sent (suc f))) k ≡ true)
         secondary h = let a : hasAck (b .ctl i) (suc f) ≡ true = last .all (suc f) i (omega arith) f<n (nw .at .lo) (nw .at .hi) (ack-route₂ i h) in
-          (a, λ k x y. last .base .ack₂ k x y (inv .ctls i .acks-ok (suc f) a .acked))
+            (a, λ k x y. last .base .ack₂ k x y (inv .ctls i .acks-ok (suc f) a .acked))
 
         timeout-outcome : (v : Bool) → outcome ((secondTimeout n f i (b .ctl i)) .controller) ≡ wordOf v → outcome ((performV n f b (Timeout i)) .ctl i) ≡ wordOf v
         unfolding performV commitV timeoutRule
@@ -336,9 +369,9 @@ module _ (n f : ℕ) where
 
         moves-all : ((k : ℕ) (w : Bool) (t : ℕ) → 1 ≤ k → k ≤ n → In (Cast k w t) log → w ≡ true) → outcome ((performV n f b (Timeout i)) .ctl i) ≡ wordOf true
         moves-all h = timeout-outcome true (decides-move n f f<n 1≤f b inv i (nw .ran) at2 held whole secondary (λ k x y.
-          let v : Voted n f log k = cl .0 .votes k x y in
-          let p : (votedBy k (b .world .sent k) ≡ true) × (willBy k (b .world .sent k) ≡ v .willing) = good .told k (v .willing) (v .target) (v .entry) in
-          (p .0, p .1 ∙ h k (v .willing) (v .target) x y (v .entry))))
+            let v : Voted n f log k = cl .0 .votes k x y in
+            let p : (votedBy k (b .world .sent k) ≡ true) × (willBy k (b .world .sent k) ≡ v .willing) = good .told k (v .willing) (v .target) (v .entry) in
+            (p .0, p .1 ∙ h k (v .willing) (v .target) x y (v .entry))))
 
         stays-one : (k t : ℕ) → 1 ≤ k → k ≤ n → In (Cast k false t) log → outcome ((performV n f b (Timeout i)) .ctl i) ≡ wordOf false
         stays-one k t x y m = timeout-outcome false (decides-stay n f f<n 1≤f b inv i (nw .ran) at2 held whole secondary k x y (good .told k false t m .1))
@@ -349,9 +382,9 @@ module _ (n f : ℕ) where
         pub stay : (k t : ℕ) → 1 ≤ k → k ≤ n → In (Cast k false t) log → outcome ((stepV n f b (Timeout i)) .ctl i) ≡ wordOf false
 
       pub clean-decides : (b₀ : View) → Inv n f b₀ → Good b₀ [] → (es : List Event) (i : ℕ) → accepts n f (runV n f b₀ es) (Timeout i) ≡ true
-        → Second n f i (logV n f b₀ [] es) → Clean n f (Timeout i ∷ logV n f b₀ [] es) → Decides (runV n f b₀ es) (logV n f b₀ [] es) i
+          → Second n f i (logV n f b₀ [] es) → Clean n f (Timeout i ∷ logV n f b₀ [] es) → Decides (runV n f b₀ es) (logV n f b₀ [] es) i
       unfolding stepV
       clean-decides b₀ inv₀ good₀ es i q sec cl =
-        let inv : Inv n f (runV n f b₀ es) = run-inv n f f<n 1≤f small es b₀ inv₀ in
-        let good : Good (runV n f b₀ es) (logV n f b₀ [] es) = run-good es b₀ [] inv₀ (λ c. good₀) (cl .0) in
-        record { move = λ h. rw q (moves-all _ _ i inv good q sec (cl .1) h); stay = λ k t x y m. rw q (stays-one _ _ i inv good q sec (cl .1) k t x y m) }
+          let inv : Inv n f (runV n f b₀ es) = run-inv n f f<n 1≤f small es b₀ inv₀ in
+          let good : Good (runV n f b₀ es) (logV n f b₀ [] es) = run-good es b₀ [] inv₀ (λ c. good₀) (cl .0) in
+          record { move = λ h. rw q (moves-all _ _ i inv good q sec (cl .1) h); stay = λ k t x y m. rw q (stays-one _ _ i inv good q sec (cl .1) k t x y m) }

@@ -28,8 +28,9 @@ pub count-some : (m : ℕ) (p : ℕ → Bool) → 0 < countTo m p → Found m p
 unfolding countTo
 count-some zero p h = absurd (omega arith)
 count-some (suc m) p h = elim (split (p (suc m))) [
-    inl e ↦ record { at = suc m; low = omega arith; high = omega arith; holds = e }
-  | inr e ↦ let h′ : 0 < 0 + countTo m p = (rw e at h) in let r : Found m p = count-some m p (omega arith) in record { at = r .at; low = r .low; high = omega arith; holds = r .holds } ]
+  | inl e ↦ record { at = suc m; low = omega arith; high = omega arith; holds = e }
+  | inr e ↦ let h′ : 0 < 0 + countTo m p = (rw e at h) in let r : Found m p = count-some m p (omega arith) in record { at = r .at; low = r .low; high = omega arith; holds = r .holds }
+]
 
 pub not-above : (m : ℕ) → ltb 0 m ≡ false → m ≡ 0
 not-above zero e = refl
@@ -44,20 +45,29 @@ module _ (n f : ℕ) (L : ℕ → Sent) (ok : (k : ℕ) → SentOk f L k (L k)) 
   -- Stay put over a join of acknowledgements that has a backup's
   pub ack-stay : (i : ℕ) (c : Controller) (j : ℕ) → 1 ≤ j → j ≤ f → j ≤ n → hasAck c j ≡ true → HeldAck n f L i (ackOf c j) j → unanimous n (ackJoin n c) ≡ false → StayEv n f L
   unfolding ackJoin
-  ack-stay i c j a b b′ e h s = inl (record { at = j; low = a; high = b; acked = h .acked;
-    stays = not-true (unanimous n (ackOn (L j))) (λ m. no-both (unanimous n (joinAll n (c .«acks_from») (c .acks))) (all-unanimous n (c .«acks_from») (c .acks) n j a b′ e (rw (h .copy) m)) s) })
+  ack-stay i c j a b b′ e h s = inl (record {
+    at = j;
+    low = a;
+    high = b;
+    acked = h .acked;
+    stays = not-true (unanimous n (ackOn (L j))) (λ m. no-both (unanimous n (joinAll n (c .«acks_from») (c .acks))) (all-unanimous n (c .«acks_from») (c .acks) n j a b′ e (rw (h .copy) m)) s);
+  })
 
   -- Stay put over all help answers
   pub help-stay : (c : Controller) → OkSheet L (c .helped) → ((j : ℕ) → hasHelped c j ≡ true → HeldHelp n f L (c .helped) j) → ((j : ℕ) → f < j → j ≤ n → hasHelped c j ≡ true) → unanimous n (c .helped) ≡ false → StayEv n f L
   help-stay c o h every s =
-    let r : Found n (λ k. not (knows (c .helped) k && wills (c .helped) k)) = stay-lacks n (c .helped) s in
-    inr (record { at = r .at; low = r .low; high = r .high;
-      helped = λ j a b. h j (every j a b) .helped;
-      lacks = λ j a b. not-true (wills (helpOn (L j)) (r .at)) (λ e.
-        let w : wills (c .helped) (r .at) ≡ true = h j (every j a b) .covers (r .at) e in
-        no-both (knows (c .helped) (r .at) && wills (c .helped) (r .at))
-          (and-i (knows (c .helped) (r .at)) (wills (c .helped) (r .at)) (o .within (r .at) w) w)
-          (not-t (knows (c .helped) (r .at) && wills (c .helped) (r .at)) (r .holds))) })
+      let r : Found n (λ k. not (knows (c .helped) k && wills (c .helped) k)) = stay-lacks n (c .helped) s in
+      inr (record {
+        at = r .at;
+        low = r .low;
+        high = r .high;
+        helped = λ j a b. h j (every j a b) .helped;
+        lacks = λ j a b. not-true (wills (helpOn (L j)) (r .at)) (λ e.
+            let w : wills (c .helped) (r .at) ≡ true = h j (every j a b) .covers (r .at) e in
+            no-both (knows (c .helped) (r .at) && wills (c .helped) (r .at))
+            (and-i (knows (c .helped) (r .at)) (wills (c .helped) (r .at)) (o .within (r .at) w) w)
+            (not-t (knows (c .helped) (r .at) && wills (c .helped) (r .at)) (r .holds)));
+      })
 
 -- a word put is one of the two
 pub move-put : (n : ℕ) (x : Bool) → isMove (wordOf x) ≡ true → x ≡ true
@@ -72,8 +82,23 @@ stay-put n false e = refl
 module _ (n f : ℕ) where
   pub own-put : (i : ℕ) (c : Controller) (l : Sent) (o : Outcome) → Own n f i c l → Own n f i (propose c o) l
   unfolding propose
-  own-put i c l v o = record { fresh0 = o .fresh0; fresh1 = o .fresh1; fresh2 = o .fresh2; undecided = o .undecided; own = o .own; same = o .same; late = o .late; help-copy = o .help-copy;
-    waiter = λ e. absurd (false≢true e); idle = λ e. refl; early = o .early; own-ack = o .own-ack; ack-count = o .ack-count; help-count = o .help-count; room = o .room }
+  own-put i c l v o = record {
+    fresh0 = o .fresh0;
+    fresh1 = o .fresh1;
+    fresh2 = o .fresh2;
+    undecided = o .undecided;
+    own = o .own;
+    same = o .same;
+    late = o .late;
+    help-copy = o .help-copy;
+    waiter = λ e. absurd (false≢true e);
+    idle = λ e. refl;
+    early = o .early;
+    own-ack = o .own-ack;
+    ack-count = o .ack-count;
+    help-count = o .help-count;
+    room = o .room;
+  }
 
   pub ctl-put : (L : ℕ → Sent) (ch : Outcome) (i : ℕ) (c : Controller) (v : Outcome) → CtlOk n f L ch i c → CtlOk n f L ch i (propose c v)
   unfolding propose
@@ -83,36 +108,40 @@ module _ (n f : ℕ) (f<n : f < n) (L : ℕ → Sent) (ok : (k : ℕ) → SentOk
   settled-move : unanimous n (gathered n c) ≡ true → AllWilling n f L
   unfolding gathered
   settled-move e = elim (split (ltb 0 (c .cnt .0))) [
-      inl h ↦ move-all L n f (ackJoin n c) (acks-true n f L ok i c (o .acks-ok)) (rw h at e)
-    | inr h ↦ move-all L n f (c .helped) (o .helped-ok) (rw h at e) ]
+    | inl h ↦ move-all L n f (ackJoin n c) (acks-true n f L ok i c (o .acks-ok)) (rw h at e)
+    | inr h ↦ move-all L n f (c .helped) (o .helped-ok) (rw h at e)
+  ]
 
   settled-stay : f < i → n ≤ c .cnt .0 + c .«cnt_help» .0 + f → unanimous n (gathered n c) ≡ false → StayEv n f L
   unfolding gathered
   settled-stay a q e = elim (split (ltb 0 (c .cnt .0))) [
-      inl h ↦ let x : 1 ≤ c .cnt .0 = leb-le 1 (c .cnt .0) h in
+    | inl h ↦ let x : 1 ≤ c .cnt .0 = leb-le 1 (c .cnt .0) h in
         let y : c .cnt .0 ≡ countTo n (has (c .«acks_from»)) = w .ack-count in
         let r : Found n (has (c .«acks_from»)) = count-some n (has (c .«acks_from»)) (omega arith) in
         let t : HeldAck n f L i (ackOf c (r .at)) (r .at) = o .acks-ok (r .at) (r .holds) in
         ack-stay n f L ok i c (r .at) (r .low) (t .backup a) (r .high) (r .holds) t (rw h at e)
     | inr h ↦ let z : c .cnt .0 ≡ 0 = not-above (c .cnt .0) h in
         let y : c .«cnt_help» .0 ≡ countTo n (has (c .«helped_from»)) = w .help-count in
-        help-stay n f L ok c (o .helped-ok) (o .helps-ok) (count-all n f (has (c .«helped_from»)) (λ k x. o .helps-ok k x .beyond) (omega arith)) (rw h at e) ]
+        help-stay n f L ok c (o .helped-ok) (o .helps-ok) (count-all n f (has (c .«helped_from»)) (λ k x. o .helps-ok k x .beyond) (omega arith)) (rw h at e)
+  ]
 
 module _ (n f : ℕ) (f<n : f < n) (b : View) (inv : Inv n f b) (i : ℕ) where
   pub settle-fits : (a : Answer) → Fits n f b i a → Fits n f b i (settle n f a)
   unfolding settle proposes enough verdict sentAfter
   settle-fits a t =
-    let L′ : ℕ → Sent = upd (b .world .sent) i (sentAfter (b .world .sent i) a) in
-    let ok : (k : ℕ) → SentOk f L′ k (L′ k) = lines-after n f b i (sentAfter (b .world .sent i) a) inv (t .grown) (t .sent-ok) in
-    let c : Controller = a .controller in
-    by-cond (Fits n f b i) (c .waiting && leb n (c .cnt .0 + c .«cnt_help» .0 + f)) _ _
+      let L′ : ℕ → Sent = upd (b .world .sent) i (sentAfter (b .world .sent i) a) in
+      let ok : (k : ℕ) → SentOk f L′ k (L′ k) = lines-after n f b i (sentAfter (b .world .sent i) a) inv (t .grown) (t .sent-ok) in
+      let c : Controller = a .controller in
+      by-cond (Fits n f b i) (c .waiting && leb n (c .cnt .0 + c .«cnt_help» .0 + f)) _ _
       (λ e. record {
-        grown = t .grown; sent-ok = t .sent-ok;
+        grown = t .grown;
+        sent-ok = t .sent-ok;
         own-ok = own-put n f i c (sentAfter (b .world .sent i) a) (wordOf (unanimous n (gathered n c))) (t .own-ok);
         ctl-ok = ctl-put n f L′ (b .world .decision) i c (wordOf (unanimous n (gathered n c))) (t .ctl-ok);
         move-ok = λ p. settled-move n f f<n L′ ok (b .world .decision) i c (sentAfter (b .world .sent i) a) (t .own-ok) (t .ctl-ok) (move-put n (unanimous n (gathered n c)) p);
         stay-ok = λ p. settled-stay n f f<n L′ ok (b .world .decision) i c (sentAfter (b .world .sent i) a) (t .own-ok) (t .ctl-ok)
-          (t .own-ok .waiter (and-l (c .waiting) (leb n (c .cnt .0 + c .«cnt_help» .0 + f)) e))
-          (leb-le n (c .cnt .0 + c .«cnt_help» .0 + f) (and-r (c .waiting) (leb n (c .cnt .0 + c .«cnt_help» .0 + f)) e))
-          (stay-put n (unanimous n (gathered n c)) p) })
+            (t .own-ok .waiter (and-l (c .waiting) (leb n (c .cnt .0 + c .«cnt_help» .0 + f)) e))
+            (leb-le n (c .cnt .0 + c .«cnt_help» .0 + f) (and-r (c .waiting) (leb n (c .cnt .0 + c .«cnt_help» .0 + f)) e))
+            (stay-put n (unanimous n (gathered n c)) p);
+      })
       (λ e. t)

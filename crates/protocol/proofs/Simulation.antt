@@ -35,9 +35,12 @@ use Rattle.protocol.proofs.View.{World, View, newWorld, recalled, commi
 use Rattle.protocol.proofs.Orders.{second}
 
 unfoldable pub view : Bench → View
-view b = record { order = b .order;
+view b = record {
+  order = b .order;
   world = record { sent = λ k. sentBy b k; moveProposed = b .«move_proposed»; stayProposed = b .«stay_proposed»; decision = b .decision };
-  ctl = λ k. controller b k; cards = λ k. card b k }
+  ctl = λ k. controller b k;
+  cards = λ k. card b k;
+}
 
 -- a part of a function changed at one place
 part : {A B : Type 0} (g : A → B) (F : ℕ → A) (i : ℕ) (a : A) → (λ (k : ℕ). g (upd F i a k)) ≡ upd (λ k. g (F k)) i (g a)
@@ -59,17 +62,21 @@ module _ (b : Bench) (i : ℕ) (lo : 1 ≤ i) (hi : i ≤ length (b .stations)) 
 
   view-commit : (a : Answer) → view (commit b i a) ≡ commitV (view b) i a
   unfolding view commit stationAfter commitV station
-  view-commit a = λ t. record { order = b .order;
+  view-commit a = λ t. record {
+    order = b .order;
     world = record { sent = field (λ s. s .sent) (stationAfter (station b i) a) t; moveProposed = b .«move_proposed» || isMove (a .proposal); stayProposed = b .«stay_proposed» || isStay (a .proposal); decision = b .decision };
     ctl = field (λ s. s .controller) (stationAfter (station b i) a) t;
-    cards = kept (λ s. s .card) (stationAfter (station b i) a) refl t }
+    cards = kept (λ s. s .card) (stationAfter (station b i) a) refl t;
+  }
 
   view-save : (new : Saved) → view (withStation b i (keeping (station b i) new)) ≡ record { order = b .order; world = (view b) .world; ctl = (view b) .ctl; cards = upd (λ k. card b k) i new }
   unfolding view withStation keeping station
-  view-save new = λ t. record { order = b .order;
+  view-save new = λ t. record {
+    order = b .order;
     world = record { sent = kept (λ s. s .sent) (keeping (station b i) new) refl t; moveProposed = b .«move_proposed»; stayProposed = b .«stay_proposed»; decision = b .decision };
     ctl = kept (λ s. s .controller) (keeping (station b i) new) refl t;
-    cards = field (λ s. s .card) (keeping (station b i) new) t }
+    cards = field (λ s. s .card) (keeping (station b i) new) t;
+  }
 
 renewed-fresh : renewed (freshStation []) ≡ freshStation []
 unfolding renewed freshStation fresh renew cleared
@@ -81,9 +88,12 @@ renewed-at g b = fun-ext _ _ (λ k. ap g (map-at renewed (freshStation []) renew
 
 view-open : (b : Bench) (o : ℕ) → view (opened b o) ≡ openedV (view b) o
 unfolding view opened openedV newWorld station renewed
-view-open b o = λ t. record { order = o;
+view-open b o = λ t. record {
+  order = o;
   world = record { sent = renewed-at (λ s. s .sent) b t; moveProposed = false; stayProposed = false; decision = None };
-  ctl = renewed-at (λ s. s .controller) b t; cards = renewed-at (λ s. s .card) b t }
+  ctl = renewed-at (λ s. s .controller) b t;
+  cards = renewed-at (λ s. s .card) b t;
+}
 
 view-chosen : (b : Bench) (w : Bool) → view (decidedAs b w) ≡ chosen (view b) w
 unfolding view decidedAs chosen station
@@ -104,7 +114,7 @@ module _ (b : Bench) (sized : sizes (b .n) (b .f) ≡ true) (open′ : leb 1 (b 
   addressed-is kind i j m r = rw (eqb-same (b .order), eqb-same (b .n), eqb-same (b .f), eqb-same j, m, r)
 
   receive-is : (kind : Kind) (i j : ℕ) (c : Controller) → member (b .n) i ≡ true → member (b .n) j ≡ true → route (b .f) kind i j ≡ true → runs c ≡ true
-    → receive (memberAt b j) (message b kind i j) c ≡ arrives kind (b .n) (b .f) i ((ofKind kind (sentBy b i)) .votes) c
+      → receive (memberAt b j) (message b kind i j) c ≡ arrives kind (b .n) (b .f) i ((ofKind kind (sentBy b i)) .votes) c
   unfolding receive
   receive-is kind i j c m m′ r q = rw (members j m′, q, addressed-is kind i j m r)
 
@@ -157,6 +167,7 @@ ranges n f e = record { low = leb-le _ _ (search (and-l, and-r)); high = leb-le 
 module _ (b : Bench) (ok : Sound b) where
   abbrev n : ℕ
   n = b .n
+
   abbrev f : ℕ
   f = b .f
 
@@ -242,8 +253,9 @@ module _ (b : Bench) (ok : Sound b) where
   pub step-sim : (e : Event) → view (step b e) ≡ stepV n f (view b) e
   unfolding step stepV
   step-sim e = elim (split (accepts n f (view b) e)) [
-      inl q ↦ rw (reply-sim e, q) (perform-sim e q)
-    | inr q ↦ rw (reply-sim e, q) ]
+    | inl q ↦ rw (reply-sim e, q) (perform-sim e q)
+    | inr q ↦ rw (reply-sim e, q)
+  ]
 
 pub record Runs (b b′ : Bench) (v : View) : Type 0 where
   pub sound : Sound b′
@@ -256,7 +268,11 @@ pub run-sim : (n f : ℕ) (es : List Event) (b : Bench) → Sound b → b .n ≡
 unfolding run runV
 run-sim n f [] b ok p q = record { sound = ok; same-n = refl; same-f = refl; view-is = refl }
 run-sim n f (e ∷ es) b ok p q =
-  let s : Steps b ok (step b e) = step-steps b ok e in
-  let r : Runs (step b e) (run (step b e) es) (runV n f (view (step b e)) es) = run-sim n f es (step b e) (s .sound) (s .same-n ∙ p) (s .same-f ∙ q) in
-  record { sound = r .sound; same-n = r .same-n ∙ s .same-n; same-f = r .same-f ∙ s .same-f;
-    view-is = r .view-is ∙ ap (λ (v : View). runV n f v es) (step-sim b ok e ∙ ap (λ (x : ℕ). stepV x (b .f) (view b) e) p ∙ ap (λ (x : ℕ). stepV n x (view b) e) q) }
+    let s : Steps b ok (step b e) = step-steps b ok e in
+    let r : Runs (step b e) (run (step b e) es) (runV n f (view (step b e)) es) = run-sim n f es (step b e) (s .sound) (s .same-n ∙ p) (s .same-f ∙ q) in
+    record {
+      sound = r .sound;
+      same-n = r .same-n ∙ s .same-n;
+      same-f = r .same-f ∙ s .same-f;
+      view-is = r .view-is ∙ ap (λ (v : View). runV n f v es) (step-sim b ok e ∙ ap (λ (x : ℕ). stepV x (b .f) (view b) e) p ∙ ap (λ (x : ℕ). stepV n x (view b) e) q);
+    }

@@ -61,10 +61,17 @@ recalled order s = cond (eqb (cardOrder s) order) (cardOutcome s) None
 
 -- one controller's answer put back
 unfoldable pub commitV : View → ℕ → Answer → View
-commitV v i a = record { order = v .order;
-  world = record { sent = upd (v .world .sent) i (sentAfter (v .world .sent i) a);
-    moveProposed = v .world .moveProposed || isMove (a .proposal); stayProposed = v .world .stayProposed || isStay (a .proposal); decision = v .world .decision };
-  ctl = upd (v .ctl) i (a .controller); cards = v .cards }
+commitV v i a = record {
+  order = v .order;
+  world = record {
+    sent = upd (v .world .sent) i (sentAfter (v .world .sent i) a);
+    moveProposed = v .world .moveProposed || isMove (a .proposal);
+    stayProposed = v .world .stayProposed || isStay (a .proposal);
+    decision = v .world .decision;
+  };
+  ctl = upd (v .ctl) i (a .controller);
+  cards = v .cards;
+}
 
 unfoldable pub chosen : View → Bool → View
 chosen v move = record { order = v .order; world = record { sent = v .world .sent; moveProposed = v .world .moveProposed; stayProposed = v .world .stayProposed; decision = wordOf move }; ctl = v .ctl; cards = v .cards }
@@ -91,18 +98,18 @@ module _ (n f : ℕ) where
   questionsV v (Lock a c) = ask 6 false ∷ []
   questionsV v (Order o) = ask 8 (leb 1 o) ∷ ask 12 (ltb (v .order) o) ∷ ask 13 (mayOpenV v) ∷ []
   questionsV v (Cast i willing target) = ask 7 (member n i) ∷ ask 11 (reachable target) ∷ ask 14 (leb 1 (v .order))
-    ∷ ask 15 (runs (v .ctl i)) ∷ ask 16 (eqb (phase (v .ctl i)) 0) ∷ []
+      ∷ ask 15 (runs (v .ctl i)) ∷ ask 16 (eqb (phase (v .ctl i)) 0) ∷ []
   questionsV v (Deliver i j kind) = ask 7 (member n i && member n j && not (eqb i j)) ∷ ask 10 (route f kind i j)
-    ∷ ask 14 (leb 1 (v .order)) ∷ ask 15 (runs (v .ctl j)) ∷ ask 17 (has ((ofKind kind (v .world .sent i)) .to) j) ∷ []
+      ∷ ask 14 (leb 1 (v .order)) ∷ ask 15 (runs (v .ctl j)) ∷ ask 17 (has ((ofKind kind (v .world .sent i)) .to) j) ∷ []
   questionsV v (Timeout i) = ask 7 (member n i) ∷ ask 14 (leb 1 (v .order))
-    ∷ ask 15 (runs (v .ctl i)) ∷ ask 16 (eqb (phase (v .ctl i)) 1 || eqb (phase (v .ctl i)) 2) ∷ []
+      ∷ ask 15 (runs (v .ctl i)) ∷ ask 16 (eqb (phase (v .ctl i)) 1 || eqb (phase (v .ctl i)) 2) ∷ []
   questionsV v (Decide i move) = ask 7 (member n i) ∷ ask 14 (leb 1 (v .order))
-    ∷ ask 15 (runs (v .ctl i) || standsBy (v .ctl i)) ∷ ask 16 (standsBy (v .ctl i) || eqb (phase (v .ctl i)) 3)
-    ∷ ask 18 (wasProposedV v move && noOther (v .world .decision) move) ∷ []
+      ∷ ask 15 (runs (v .ctl i) || standsBy (v .ctl i)) ∷ ask 16 (standsBy (v .ctl i) || eqb (phase (v .ctl i)) 3)
+      ∷ ask 18 (wasProposedV v move && noOther (v .world .decision) move) ∷ []
   questionsV v (Stop i) = ask 7 (member n i) ∷ ask 14 (leb 1 (v .order)) ∷ ask 15 (runs (v .ctl i) || standsBy (v .ctl i)) ∷ []
   questionsV v (Save i) = ask 7 (member n i) ∷ ask 14 (leb 1 (v .order)) ∷ ask 15 (runs (v .ctl i) || standsBy (v .ctl i)) ∷ []
   questionsV v (Restore i) = ask 7 (member n i) ∷ ask 14 (leb 1 (v .order)) ∷ ask 15 (isStopped ((v .ctl i) .condition))
-    ∷ ask 19 (isCard (v .cards i)) ∷ []
+      ∷ ask 19 (isCard (v .cards i)) ∷ []
 
   unfoldable pub accepts : View → Event → Bool
   accepts v e = isAccepted (firstNo (questionsV v e))

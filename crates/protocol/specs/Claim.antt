@@ -91,7 +91,7 @@ module _ (n f : ℕ) where
     pub votes-first : (i : ℕ) (bell : InOrder es (Timeout i)) → ((j : ℕ) → InOrder (bell .before) (Timeout j) → ⊥) → VotesIn (bell .before)
     -- and every acknowledgement .. was delivered before the first of its second bells."
     pub acks-first : (i : ℕ) (bell : InOrder es (Timeout i)) → SecondBell (bell .before) i
-      → ((j : ℕ) (earlier : InOrder (bell .before) (Timeout j)) → SecondBell (earlier .before) j → ⊥) → AcksIn (bell .before)
+        → ((j : ℕ) (earlier : InOrder (bell .before) (Timeout j)) → SecondBell (earlier .before) j → ⊥) → AcksIn (bell .before)
 
 -- "All are willing when each of those votes has b = 1."
 abbrev pub AllWilling : List Event → Type 0
@@ -114,14 +114,14 @@ pub record Demand3 : Type 0 where
   pub validity : (es : List Event) (i : ℕ) → Holds es i Move → (k : ℕ) → 1 ≤ k → k ≤ (after es) .n → WillingVote es k
   -- a gate moves at most once in an order,
   pub moves-once : (es : List Event) (e : Event) (more : List Event) (e′ : Event) (k : ℕ)
-    → SameOrder (es ++ (e ∷ [])) (more ++ (e′ ∷ [])) → Moves es e k → Moves (es ++ (e ∷ more)) e′ k → ⊥
+      → SameOrder (es ++ (e ∷ [])) (more ++ (e′ ∷ [])) → Moves es e k → Moves (es ++ (e ∷ more)) e′ k → ⊥
   -- and at no restore;
   pub still-at-restore : (es : List Event) (i k : ℕ) → Moves es (Restore i) k → ⊥
   -- and in every clean order each second bell leaves its controller holding Move if all are willing,
   pub clean-move : (es : List Event) (i : ℕ) → Accepted es (Timeout i) → SecondBell ((after es) .n) ((after es) .f) es i
-    → Clean ((after es) .n) ((after es) .f) (es ++ (Timeout i ∷ [])) → AllWilling es → Holds (es ++ (Timeout i ∷ [])) i Move
+      → Clean ((after es) .n) ((after es) .f) (es ++ (Timeout i ∷ [])) → AllWilling es → Holds (es ++ (Timeout i ∷ [])) i Move
   -- Stay if not."
   pub clean-stay : (es : List Event) (i : ℕ) → Accepted es (Timeout i) → SecondBell ((after es) .n) ((after es) .f) es i
-    → Clean ((after es) .n) ((after es) .f) (es ++ (Timeout i ∷ [])) → OneUnwilling es → Holds (es ++ (Timeout i ∷ [])) i Stay
+      → Clean ((after es) .n) ((after es) .f) (es ++ (Timeout i ∷ [])) → OneUnwilling es → Holds (es ++ (Timeout i ∷ [])) i Stay
   -- "The bench program": "In any order, kinds 1 and 2 together are at most 2fn telegrams."
   pub at-most-2fn : (es : List Event) → telegrams (after es) Vote + telegrams (after es) Ack ≤ 2 * ((after es) .f * (after es) .n)
