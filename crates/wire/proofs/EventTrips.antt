@@ -127,9 +127,7 @@ module _ (s : List ℕ) (all : AllBytes s) (ten : length s ≡ eventLength) (mar
 
   same-bytes : recordOf (fieldsIn s) ≡ s
   unfolding fieldsIn
-  same-bytes =
-      ap (λ (l : List ℕ). l ++ (byte s 2 ∷ byte s 3 ∷ byte s 4 ∷ byte s 5 ∷ bytes4 (number4 s 6))) marked
-      ∙ (ap (λ (l : List ℕ). byte s 0 ∷ byte s 1 ∷ byte s 2 ∷ byte s 3 ∷ byte s 4 ∷ byte s 5 ∷ l) value-bytes ∙ sym (spread 10 s ten))
+  same-bytes = (λ i. marked i ++ (byte s 2 ∷ byte s 3 ∷ byte s 4 ∷ byte s 5 ∷ value-bytes i)) ∙ sym (spread 10 s ten)
 
 -- what was read, written again, gives the same bytes
 pub event-written-back : (s : List ℕ) (e : Event) → AllBytes s → readEvent s ≡ Read e → eventBytes e ≡ s

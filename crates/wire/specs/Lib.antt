@@ -3,3 +3,4 @@ pub mod Codes
 pub mod Marks
 pub mod Writing
 pub mod Events
+pub mod Checkpoints

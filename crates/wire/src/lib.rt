@@ -1,10 +1,14 @@
 // The records of document 01 as bytes: readers and writers of telegrams, cards and events.
+use model::Checkpoint;
 use model::Event;
 
+mod checkpoint;
 mod codes;
 mod event;
 mod number;
 
+pub use checkpoint::read_checkpoint;
+pub use checkpoint::write_checkpoint;
 pub use event::fields_of;
 pub use event::read_event;
 pub use event::write_event;
@@ -21,5 +25,10 @@ pub struct Fields {
 // A record, or the number of the first question that was answered "no".
 pub enum ReadEvent {
     Read(Event),
+    Refused(u8),
+}
+
+pub enum ReadCheckpoint {
+    Read(Checkpoint),
     Refused(u8),
 }

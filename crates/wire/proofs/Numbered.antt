@@ -1,0 +1,10 @@
+-- No question has the number 0.
+use mathlib.Core.Path.{_≡_, refl}
+use mathlib.Core.Bool.{true}
+use Rattle.model.specs.QuestionLaws.{numbered}
+use Rattle.model.specs.declared.Checkpoint.{Checkpoint}
+use Rattle.wire.specs.Checkpoints.{aboutCheckpoint}
+
+pub checkpoint-numbered : (p : Checkpoint) → numbered (aboutCheckpoint p) ≡ true
+unfolding aboutCheckpoint
+checkpoint-numbered p = refl
