@@ -4,9 +4,8 @@ use mathlib.Core.Path.{_≡_, refl, sym}
 use mathlib.Core.List.{List, [], _∷_, map}
 use native.Mathlib.Omega.{arith}
 use native.Mathlib.Decide.{ℕ-discrete}
-use lib.ListN.{getD, set, length, length-set, List·getD-eq-default}
+use lib.ListN.{getD, length, length-set, List·getD-eq-default}
 use lib.Seq.{getD-set-same, getD-set-other}
-use lib.Dec.{eqb}
 use Rattle.votes.specs.Tests.{eqb-no, eq-eqb}
 use Rattle.votes.specs.Update.{upd, fun-ext}
 use Rattle.votes.specs.VoteSets.{nth, put}
@@ -37,6 +36,7 @@ module _ {A : Type 0} (d : A) where
   pub nth-put : (l : List A) (i : ℕ) (a : A) → 1 ≤ i → i ≤ length l → nth d (put l i a) ≡ upd (nth d l) i a
   nth-put l i a x y = fun-ext (nth d (put l i a)) (upd (nth d l) i a) (nth-put-at l i a x y)
 
+-- the list keeps its length
 pub length-put : {A : Type 0} (l : List A) (i : ℕ) (a : A) → length (put l i a) ≡ length l
 unfolding put
 length-put l i a = length-set l (i - 1) a

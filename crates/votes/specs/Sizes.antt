@@ -1,14 +1,14 @@
 -- How many of 1..n are in a set: laws of `countTo n (has m)`, for any n.
-use Prim.Native.Nat.{ℕ, zero, suc, _+_, _*_, _^_, _/_, _%_, _≤_, _<_}
+use Prim.Native.Nat.{ℕ, zero, suc, _+_, _^_, _/_, _%_, _≤_, _<_}
 use mathlib.Core.Path.{_≡_, refl, sym, _∙_, ap}
-use mathlib.Core.Bool.{Bool, true, false, not, cond, false≢true}
+use mathlib.Core.Bool.{Bool, true, false, cond, false≢true}
 use native.Mathlib.Omega.{arith}
 use native.Mathlib.Decide.{ℕ-discrete}
 use native.Mathlib.Nat.{mod-lt, mod-le, lt-of-le-of-lt}
 use lib.Pow.{pow-pos}
 use lib.Count.{ones, ones-cat, ones-le}
 use lib.Dec.{eqb}
-use Rattle.votes.specs.Tests.{_⊎_, inl, inr, split, no-both, eqb-eq, eqb-no, eq-eqb, same-test}
+use Rattle.votes.specs.Tests.{inl, inr, split, eqb-eq, eqb-no, eq-eqb, same-test}
 use Rattle.votes.specs.Quantify.{allTo, all-at, all-of, countTo, count-le, count-all}
 use Rattle.votes.specs.Update.{upd, upd-same, upd-other}
 use Rattle.votes.specs.Mask.{width, has, insert, fullTo, within}
@@ -40,7 +40,7 @@ count-mono (suc m) p q h = let ih : countTo m p ≤ countTo m q = count-mono m p
   | inr e ↦ rw e (omega arith)
 ]
 
--- the count is 0 exactly if none of 1..m passes
+-- a count of 0: none of 1..m passes
 pub count-none : (m : ℕ) (p : ℕ → Bool) → countTo m p ≡ 0 → (k : ℕ) → 1 ≤ k → k ≤ m → p k ≡ false
 unfolding countTo
 count-none zero p e k a b = absurd (omega arith)
@@ -52,6 +52,7 @@ count-none (suc m) p e k a b = elim (split (p (suc m))) [
   ]
 ]
 
+-- and where none passes it is 0
 pub none-count : (m : ℕ) (p : ℕ → Bool) → ((k : ℕ) → 1 ≤ k → k ≤ m → p k ≡ false) → countTo m p ≡ 0
 unfolding countTo
 none-count zero p h = refl
