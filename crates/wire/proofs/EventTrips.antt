@@ -73,9 +73,10 @@ event-read-back e h =
 both : (x y : ℕ) → (unused x && unused y) ≡ true → (x ≡ 0) × (y ≡ 0)
 both x y t = (eqb-eq x 0 (and-l (unused x) (unused y) t), eqb-eq y 0 (and-r (unused x) (unused y) t))
 
-all-three : (x y z : ℕ) → (unused x && (unused y && unused z)) ≡ true → (x ≡ 0) × ((y ≡ 0) × (z ≡ 0))
+all-three : (x y z : ℕ) → (unused x && unused y && unused z) ≡ true → (x ≡ 0) × ((y ≡ 0) × (z ≡ 0))
 all-three x y z t =
-    (eqb-eq x 0 (and-l (unused x) (unused y && unused z) t), both y z (and-r (unused x) (unused y && unused z) t))
+    let e : (x ≡ 0) × (y ≡ 0) = both x y (and-l (unused x && unused y) (unused z) t) in
+    (e .0, (e .1, eqb-eq z 0 (and-r (unused x && unused y) (unused z) t)))
 
 flag-then : (x y : ℕ) → (isFlag x && unused y) ≡ true → (flagNumber (flagOf x) ≡ x) × (y ≡ 0)
 flag-then x y t = (number-of-flag x (and-l (isFlag x) (unused y) t), eqb-eq y 0 (and-r (isFlag x) (unused y) t))
@@ -83,9 +84,10 @@ flag-then x y t = (number-of-flag x (and-l (isFlag x) (unused y) t), eqb-eq y 0 
 kind-then : (x y : ℕ) → (isKind x && unused y) ≡ true → (kindNumber (kindOf x) ≡ x) × (y ≡ 0)
 kind-then x y t = (number-of-kind x (and-l (isKind x) (unused y) t), eqb-eq y 0 (and-r (isKind x) (unused y) t))
 
-flag-both : (x y z : ℕ) → (isFlag x && (unused y && unused z)) ≡ true → (flagNumber (flagOf x) ≡ x) × ((y ≡ 0) × (z ≡ 0))
+flag-both : (x y z : ℕ) → (isFlag x && unused y && unused z) ≡ true → (flagNumber (flagOf x) ≡ x) × ((y ≡ 0) × (z ≡ 0))
 flag-both x y z t =
-    (number-of-flag x (and-l (isFlag x) (unused y && unused z) t), both y z (and-r (isFlag x) (unused y && unused z) t))
+    let e : (flagNumber (flagOf x) ≡ x) × (y ≡ 0) = flag-then x y (and-l (isFlag x && unused y) (unused z) t) in
+    (e .0, (e .1, eqb-eq z 0 (and-r (isFlag x && unused y) (unused z) t)))
 
 abbrev fields : ℕ → ℕ → ℕ → ℕ → ℕ → Fields
 fields k a b c v = record { kind = k; a = a; b = b; c = c; value = v }

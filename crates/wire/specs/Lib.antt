@@ -4,3 +4,4 @@ pub mod Marks
 pub mod Writing
 pub mod Events
 pub mod Checkpoints
+pub mod Messages
