@@ -73,9 +73,10 @@ event-read-back e h =
 both : (x y : ℕ) → (unused x && unused y) ≡ true → (x ≡ 0) × (y ≡ 0)
 both x y t = (eqb-eq x 0 (and-l (unused x) (unused y) t), eqb-eq y 0 (and-r (unused x) (unused y) t))
 
-all-three : (x y z : ℕ) → (unused x && (unused y && unused z)) ≡ true → (x ≡ 0) × ((y ≡ 0) × (z ≡ 0))
+all-three : (x y z : ℕ) → (unused x && unused y && unused z) ≡ true → (x ≡ 0) × ((y ≡ 0) × (z ≡ 0))
 all-three x y z t =
-    (eqb-eq x 0 (and-l (unused x) (unused y && unused z) t), both y z (and-r (unused x) (unused y && unused z) t))
+    let e : (x ≡ 0) × (y ≡ 0) = both x y (and-l (unused x && unused y) (unused z) t) in
+    (e .0, (e .1, eqb-eq z 0 (and-r (unused x && unused y) (unused z) t)))
 
 flag-then : (x y : ℕ) → (isFlag x && unused y) ≡ true → (flagNumber (flagOf x) ≡ x) × (y ≡ 0)
 flag-then x y t = (number-of-flag x (and-l (isFlag x) (unused y) t), eqb-eq y 0 (and-r (isFlag x) (unused y) t))
@@ -83,9 +84,10 @@ flag-then x y t = (number-of-flag x (and-l (isFlag x) (unused y) t), eqb-eq y 0 
 kind-then : (x y : ℕ) → (isKind x && unused y) ≡ true → (kindNumber (kindOf x) ≡ x) × (y ≡ 0)
 kind-then x y t = (number-of-kind x (and-l (isKind x) (unused y) t), eqb-eq y 0 (and-r (isKind x) (unused y) t))
 
-flag-both : (x y z : ℕ) → (isFlag x && (unused y && unused z)) ≡ true → (flagNumber (flagOf x) ≡ x) × ((y ≡ 0) × (z ≡ 0))
+flag-both : (x y z : ℕ) → (isFlag x && unused y && unused z) ≡ true → (flagNumber (flagOf x) ≡ x) × ((y ≡ 0) × (z ≡ 0))
 flag-both x y z t =
-    (number-of-flag x (and-l (isFlag x) (unused y && unused z) t), both y z (and-r (isFlag x) (unused y && unused z) t))
+    let e : (flagNumber (flagOf x) ≡ x) × (y ≡ 0) = flag-then x y (and-l (isFlag x && unused y) (unused z) t) in
+    (e .0, (e .1, eqb-eq z 0 (and-r (isFlag x && unused y) (unused z) t)))
 
 abbrev fields : ℕ → ℕ → ℕ → ℕ → ℕ → Fields
 fields k a b c v = record { kind = k; a = a; b = b; c = c; value = v }
@@ -127,9 +129,7 @@ module _ (s : List ℕ) (all : AllBytes s) (ten : length s ≡ eventLength) (mar
 
   same-bytes : recordOf (fieldsIn s) ≡ s
   unfolding fieldsIn
-  same-bytes =
-      ap (λ (l : List ℕ). l ++ (byte s 2 ∷ byte s 3 ∷ byte s 4 ∷ byte s 5 ∷ bytes4 (number4 s 6))) marked
-      ∙ (ap (λ (l : List ℕ). byte s 0 ∷ byte s 1 ∷ byte s 2 ∷ byte s 3 ∷ byte s 4 ∷ byte s 5 ∷ l) value-bytes ∙ sym (spread 10 s ten))
+  same-bytes = (λ i. marked i ++ (byte s 2 ∷ byte s 3 ∷ byte s 4 ∷ byte s 5 ∷ value-bytes i)) ∙ sym (spread 10 s ten)
 
 -- what was read, written again, gives the same bytes
 pub event-written-back : (s : List ℕ) (e : Event) → AllBytes s → readEvent s ≡ Read e → eventBytes e ≡ s

@@ -53,14 +53,14 @@ row k t e = record { kind = k; listed = t; event = e }
 unfoldable pub rows : Fields → List Row
 rows x =
     row 0 (unused (x .c) && unused (x .value)) (Lock (x .a) (x .b))
-    ∷ row 1 (unused (x .a) && (unused (x .b) && unused (x .c))) (Order (x .value))
+    ∷ row 1 (unused (x .a) && unused (x .b) && unused (x .c)) (Order (x .value))
     ∷ row 2 (isFlag (x .b) && unused (x .c)) (Cast (x .a) (flagOf (x .b)) (x .value))
     ∷ row 3 (isKind (x .c) && unused (x .value)) (Deliver (x .a) (x .b) (kindOf (x .c)))
-    ∷ row 4 (unused (x .b) && (unused (x .c) && unused (x .value))) (Timeout (x .a))
-    ∷ row 5 (isFlag (x .b) && (unused (x .c) && unused (x .value))) (Decide (x .a) (flagOf (x .b)))
-    ∷ row 6 (unused (x .b) && (unused (x .c) && unused (x .value))) (Stop (x .a))
-    ∷ row 7 (unused (x .b) && (unused (x .c) && unused (x .value))) (Save (x .a))
-    ∷ row 8 (unused (x .b) && (unused (x .c) && unused (x .value))) (Restore (x .a))
+    ∷ row 4 (unused (x .b) && unused (x .c) && unused (x .value)) (Timeout (x .a))
+    ∷ row 5 (isFlag (x .b) && unused (x .c) && unused (x .value)) (Decide (x .a) (flagOf (x .b)))
+    ∷ row 6 (unused (x .b) && unused (x .c) && unused (x .value)) (Stop (x .a))
+    ∷ row 7 (unused (x .b) && unused (x .c) && unused (x .value)) (Save (x .a))
+    ∷ row 8 (unused (x .b) && unused (x .c) && unused (x .value)) (Restore (x .a))
     ∷ []
 
 -- the row of a kind; a kind without one is no listed value

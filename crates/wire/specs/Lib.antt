@@ -3,3 +3,5 @@ pub mod Codes
 pub mod Marks
 pub mod Writing
 pub mod Events
+pub mod Checkpoints
+pub mod Messages

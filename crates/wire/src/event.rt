@@ -42,7 +42,7 @@ fn lock_listed(c: u8, value: u32) -> bool
 }
 
 fn order_listed(a: u8, b: u8, c: u8) -> bool
-    ensures { λ r. ⌜ r ≡ (unused a && (unused b && unused c)) ⌝ }
+    ensures { λ r. ⌜ r ≡ (unused a && unused b && unused c) ⌝ }
 {
     if a != 0 {
         return false;
@@ -63,13 +63,13 @@ fn delivery_listed(c: u8, value: u32) -> bool
 }
 
 fn decision_listed(b: u8, c: u8, value: u32) -> bool
-    ensures { λ r. ⌜ r ≡ (isFlag b && (unused c && unused value)) ⌝ }
+    ensures { λ r. ⌜ r ≡ (isFlag b && unused c && unused value) ⌝ }
 {
     is_flag(b) && lock_listed(c, value)
 }
 
 fn other_listed(b: u8, c: u8, value: u32) -> bool
-    ensures { λ r. ⌜ r ≡ (unused b && (unused c && unused value)) ⌝ }
+    ensures { λ r. ⌜ r ≡ (unused b && unused c && unused value) ⌝ }
 {
     b == 0 && lock_listed(c, value)
 }
