@@ -1,12 +1,12 @@
 -- Kinds 1 and 2 together are at most 2fn telegrams in any order: what was sent lies within the routes.
 use Prim.Native.Nat.{ℕ, zero, suc, _+_, _*_, _-_, _≤_, _<_}
-use mathlib.Core.Path.{_≡_, refl, sym, _∙_}
-use mathlib.Core.Bool.{Bool, true, false, not, _&&_, _||_}
+use mathlib.Core.Path.{_≡_, sym, _∙_}
+use mathlib.Core.Bool.{Bool, true, false, not, _&&_}
 use native.Mathlib.Omega.{arith}
 use native.Mathlib.Decide.{decLe, ℕ-discrete}
 use native.Mathlib.Nat.{mul-comm, suc-mul}
 use lib.Dec.{eqb, leb}
-use Rattle.votes.specs.Tests.{_⊎_, inl, inr, split, and-l, and-r, or-e, leb-le, eqb-eq, eqb-same}
+use Rattle.votes.specs.Tests.{inl, inr, split, and-l, and-r, or-e, leb-le, eqb-eq, eqb-same}
 use Rattle.votes.specs.Quantify.{countTo, count-le}
 use Rattle.votes.specs.Mask.{has}
 use Rattle.votes.specs.Update.{upd, upd-other}
@@ -16,7 +16,7 @@ use Rattle.model.specs.declared.Kind.the-variants.{Vote, Ack}
 use Rattle.protocol.specs.declared.Bench.{Bench}
 use Rattle.protocol.specs.Benches.{sentBy}
 use Rattle.protocol.specs.Display.{sumTo, sentCount, telegrams}
-use Rattle.protocol.proofs.Invariant.{SentOk, Inv}
+use Rattle.protocol.proofs.Invariant.{Inv}
 use Rattle.protocol.proofs.Simulation.{view}
 
 -- none above k, so at most k

@@ -1,6 +1,6 @@
 -- The clean order over the log of its accepted events, newest first, step by step; and the decision of a second timeout in it.
-use Prim.Native.Nat.{ℕ, suc, _+_, _≤_, _<_}
-use mathlib.Core.Path.{_≡_, refl, sym, _∙_, ap}
+use Prim.Native.Nat.{ℕ, suc, _≤_, _<_}
+use mathlib.Core.Path.{_≡_, _∙_, ap}
 use mathlib.Core.Bool.{Bool, true, false, not, _&&_, _||_, cond}
 use mathlib.Core.List.{List, [], _∷_}
 use native.Mathlib.Omega.{arith}
@@ -12,13 +12,12 @@ use Rattle.votes.specs.VoteLaws.{knows-in-all, knows-complete}
 use Rattle.model.specs.Routes.{voteRoute, ackRoute}
 use Rattle.model.specs.Numbers.{wordOf}
 use Rattle.model.specs.declared.Kind.the-variants.{Vote, Ack}
-use Rattle.model.specs.declared.Outcome.{Outcome}
 use Rattle.model.specs.declared.Outcome.the-variants.{None}
 use Rattle.model.specs.declared.Event.{Event}
 use Rattle.model.specs.declared.Event.the-variants.{Lock, Order, Cast, Deliver, Timeout, Decide, Stop, Save, Restore}
 use Rattle.protocol.specs.declared.Controller.{Controller}
 use Rattle.protocol.specs.declared.Sent.{Sent}
-use Rattle.protocol.specs.Controllers.{runs, phase, outcome, hasAck, ackOf, orElse, noting, advance, freeze, conclude}
+use Rattle.protocol.specs.Controllers.{runs, phase, outcome, hasAck, ackOf, advance, freeze, conclude}
 use Rattle.protocol.specs.Rules.{verdict, ackJoin, backupsComplete, secondKnows, decides, frozen, laidDown, secondTimeout}
 use Rattle.protocol.proofs.View.{View, accepts, stepV}
 use Rattle.protocol.proofs.Invariant.{willBy, ackOn, OkSheet, AllWilling, HeldAck, Inv}
@@ -40,6 +39,17 @@ entered (Decide i w) log = Decide i w ∷ log
 entered (Stop i) log = Stop i ∷ log
 entered (Save i) log = Save i ∷ log
 entered (Restore i) log = Restore i ∷ log
+
+abbrev pub NotTimeout : Event → Type 0
+NotTimeout (Lock a c) = Unit {0}
+NotTimeout (Order o) = Unit {0}
+NotTimeout (Cast i w t) = Unit {0}
+NotTimeout (Deliver i j k) = Unit {0}
+NotTimeout (Timeout i) = ⊥
+NotTimeout (Decide i w) = Unit {0}
+NotTimeout (Stop i) = Unit {0}
+NotTimeout (Save i) = Unit {0}
+NotTimeout (Restore i) = Unit {0}
 
 module _ (n f : ℕ) where
   unfoldable pub pushV : View → Event → List Event → List Event

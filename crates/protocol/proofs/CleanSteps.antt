@@ -1,30 +1,16 @@
 -- The clean order as the statement has it gives the stepwise form that the proof uses: through the log, "before the order's first bell" and
 -- "before the first of its second bells" become "at each bell the votes are in" and "at each second bell the acknowledgements are in".
-use Prim.Native.Nat.{ℕ, suc, _+_, _≤_, _<_}
+use Prim.Native.Nat.{ℕ, suc, _+_}
 use mathlib.Core.Path.{_≡_, refl, sym, _∙_, ap, subst}
-use mathlib.Core.Bool.{Bool, true, false}
 use mathlib.Core.List.{List, [], _∷_, _++_}
-use native.Mathlib.Omega.{arith}
 use native.Mathlib.Decide.{decLe, ℕ-discrete}
 use Rattle.votes.specs.Tests.{_⊎_, inl, inr}
-use Rattle.model.specs.declared.Kind.the-variants.{Vote, Ack}
 use Rattle.model.specs.declared.Event.{Event}
 use Rattle.model.specs.declared.Event.the-variants.{Lock, Order, Cast, Deliver, Timeout, Decide, Stop, Save, Restore}
-use Rattle.protocol.specs.Claim.{InOrder, SecondBell, CastBy}
+use Rattle.protocol.specs.Claim.{SecondBell, CastBy}
 use Rattle.protocol.specs.Claim as claim
-use Rattle.protocol.proofs.CleanLog.{In, Voted, VotesIn, AcksIn, Second, CleanStep, Clean}
-use Rattle.protocol.proofs.Moments.{logAt, same-head, same-tail, nil-split, Split, in-split, split-in, Placed, placed, in-order, Stands, stands, in-log}
-
-abbrev NotTimeout : Event → Type 0
-NotTimeout (Lock a c) = Unit {0}
-NotTimeout (Order o) = Unit {0}
-NotTimeout (Cast i w t) = Unit {0}
-NotTimeout (Deliver i j k) = Unit {0}
-NotTimeout (Timeout i) = ⊥
-NotTimeout (Decide i w) = Unit {0}
-NotTimeout (Stop i) = Unit {0}
-NotTimeout (Save i) = Unit {0}
-NotTimeout (Restore i) = Unit {0}
+use Rattle.protocol.proofs.CleanLog.{NotTimeout, In, Voted, VotesIn, AcksIn, Second, CleanStep, Clean}
+use Rattle.protocol.proofs.Moments.{logAt, same-head, same-tail, nil-split, Placed, placed, in-order, Stands, stands, in-log}
 
 record IsTimeout (e : Event) : Type 0 where
   at : ℕ

@@ -1,9 +1,9 @@
 -- One controller's answer put back keeps the invariant, if the answer fits. Every event of an order goes through this.
-use Prim.Native.Nat.{ℕ, _≤_}
-use mathlib.Core.Path.{_≡_, refl, sym, _∙_}
+use Prim.Native.Nat.{ℕ}
+use mathlib.Core.Path.{_≡_, refl}
 use mathlib.Core.Bool.{Bool, true, false, _||_, cond, false≢true}
 use lib.Dec.{eqb}
-use Rattle.votes.specs.Tests.{_⊎_, inl, inr, split, eqb-eq, or-e, or-l}
+use Rattle.votes.specs.Tests.{inl, inr, split, eqb-eq, or-e, or-l}
 use Rattle.votes.specs.Update.{upd, upd-same, upd-other, upd-all}
 use Rattle.model.specs.Numbers.{isMove, isStay}
 use Rattle.protocol.specs.declared.Controller.{Controller}
@@ -11,8 +11,8 @@ use Rattle.protocol.specs.declared.Answer.{Answer}
 use Rattle.protocol.specs.declared.Sent.{Sent}
 use Rattle.protocol.specs.Rules.{quiet, passed}
 use Rattle.protocol.specs.Benches.{sentAfter}
-use Rattle.protocol.proofs.View.{World, View, commitV}
-use Rattle.protocol.proofs.Invariant.{SentOk, Grown, Grows, AllWilling, StayEv, OutEv, Own, CtlOk, Inv}
+use Rattle.protocol.proofs.View.{View, commitV}
+use Rattle.protocol.proofs.Invariant.{SentOk, Grown, Grows, AllWilling, StayEv, Own, CtlOk, Inv}
 use Rattle.protocol.proofs.Growth.{sent-mono, all-mono, stay-mono, out-mono, ctl-mono}
 
 pub grown-refl : (i : ℕ) (l : Sent) → Grown i l l

@@ -1,10 +1,10 @@
 -- The arbiter's word, a save, a new order: they keep the invariant.
-use Prim.Native.Nat.{ℕ, zero, suc, _≤_, _<_}
+use Prim.Native.Nat.{ℕ, _≤_, _<_}
 use mathlib.Core.Path.{_≡_, refl, sym, _∙_, ap}
 use mathlib.Core.Bool.{Bool, true, false, cond, true≢false, false≢true}
 use native.Mathlib.Omega.{arith}
 use lib.ListN.{length}
-use Rattle.votes.specs.Tests.{_⊎_, inl, inr, no-both, by-cond}
+use Rattle.votes.specs.Tests.{inr, no-both, by-cond}
 use Rattle.votes.specs.Quantify.{countTo}
 use Rattle.votes.specs.Mask.{has}
 use Rattle.votes.specs.MaskLaws.{has-none}
@@ -27,7 +27,7 @@ use Rattle.protocol.specs.Benches.{unsentAll}
 use Rattle.protocol.specs.Questions.{noOther}
 use Rattle.protocol.proofs.View.{World, View, newWorld, cardOrder, cardOutcome, chosen, openedV, savedV}
 use Rattle.protocol.proofs.Words.{word-is, none-word, noting-runs, noting-phase, noting-outcome, given-is}
-use Rattle.protocol.proofs.Invariant.{SentOk, OutEv, Own, CtlOk, Inv}
+use Rattle.protocol.proofs.Invariant.{OutEv, Own, CtlOk, Inv}
 use Rattle.protocol.proofs.Growth.{out-mono, ctl-mono}
 use Rattle.protocol.proofs.TrueSheets.{empty-ok}
 use Rattle.protocol.proofs.Commit.{Fits, grown-refl, quiet-fits}

@@ -1,50 +1,43 @@
 -- The other events: each answer fits.
-use Prim.Native.Nat.{ℕ, zero, suc, _+_, _≤_, _<_}
+use Prim.Native.Nat.{ℕ, zero, suc, _≤_, _<_}
 use mathlib.Core.Path.{_≡_, refl, sym, _∙_, ap, subst}
 use mathlib.Core.Bool.{Bool, true, false, not, _&&_, _||_, cond, true≢false, false≢true}
-use mathlib.Core.List.{List}
 use native.Mathlib.Omega.{arith}
 use lib.Bits.{bitOr}
-use lib.Dec.{leb, ltb, eqb}
+use lib.Dec.{leb, eqb}
 use lib.ListN.{length}
-use Rattle.votes.specs.Tests.{_⊎_, inl, inr, no-both, split, by-cond, and-l, and-r, and-i, or-e, or-l, or-r, not-t, leb-le, le-leb, eqb-eq, eqb-same}
+use Rattle.votes.specs.Tests.{inl, inr, no-both, split, by-cond, and-l, and-r, or-e, or-l, or-r, not-t, leb-le, le-leb, eqb-eq, eqb-same}
 use Rattle.votes.specs.Quantify.{countTo}
-use Rattle.votes.specs.Mask.{width, has, insert}
-use Rattle.votes.specs.MaskLaws.{has-none, has-or}
+use Rattle.votes.specs.Mask.{has, insert}
+use Rattle.votes.specs.MaskLaws.{has-none, has-or, insert-own}
 use Rattle.votes.specs.Collect.{has-collect}
-use Rattle.votes.specs.Update.{upd, upd-same, upd-all}
-use Rattle.votes.specs.VoteSets.{empty, knows, wills, single, join}
+use Rattle.votes.specs.Update.{upd, upd-same}
+use Rattle.votes.specs.VoteSets.{knows, single}
 use Rattle.votes.specs.VoteLaws.{single-knows, single-wills, join-knows}
 use Rattle.votes.specs.declared.VoteSet.{VoteSet}
 use Rattle.model.specs.Ranges.{limit, isBackup}
-use Rattle.model.specs.Routes.{voteRoute, ackRoute, helpRoute, route, recipients}
+use Rattle.model.specs.Routes.{voteRoute, ackRoute, route, recipients}
 use Rattle.model.specs.Numbers.{wordOf}
 use Rattle.model.specs.declared.Kind.the-variants.{Vote, Ack}
-use Rattle.model.specs.declared.Checkpoint.{Checkpoint}
 use Rattle.model.specs.declared.Outcome.{Outcome}
-use Rattle.model.specs.declared.Outcome.the-variants.{None, Stay, Move}
+use Rattle.model.specs.declared.Outcome.the-variants.{None}
 use Rattle.protocol.specs.declared.Condition.{Condition}
-use Rattle.protocol.specs.declared.Condition.the-variants.{Running, Stopped, Standby}
-use Rattle.protocol.specs.declared.Outgoing.{Outgoing}
+use Rattle.protocol.specs.declared.Condition.the-variants.{Stopped, Standby}
 use Rattle.protocol.specs.declared.Controller.{Controller}
 use Rattle.protocol.specs.declared.Post.the-variants.{Nothing as NoPost, To}
 use Rattle.protocol.specs.declared.Answer.{Answer}
-use Rattle.protocol.specs.declared.Saved.{Saved}
-use Rattle.protocol.specs.declared.Saved.the-variants.{Nothing, Card}
 use Rattle.protocol.specs.declared.Sent.{Sent}
-use Rattle.protocol.specs.Controllers.{isRunning, phaseIn, outcomeIn, isStopped, runs, phase, outcome, hasAck, ackOf, hasHelped, inPhase, unsent, cleared, advance, learn, aim, keepAck, keepHelped, answered, noting, conclude}
-use Rattle.protocol.specs.Rules.{quiet, passed, voteRule, voteArrives, countOwn, firstTimeout, settle, ackArrives, helpedArrives, helpArrives}
-use Rattle.protocol.specs.Calls.{renew}
-use Rattle.protocol.specs.Benches.{unsentAll, sentAfter}
-use Rattle.protocol.specs.Questions.{noOther}
-use Rattle.protocol.proofs.View.{World, View, newWorld, cardOrder, cardOutcome, recalled, chosen, openedV, savedV}
-use Rattle.protocol.proofs.Words.{word-is, none-word, noting-runs, noting-phase, noting-outcome, given-is}
-use Rattle.protocol.proofs.Invariant.{votedBy, willBy, ackOn, ackedBy, helpOn, fixedBy, OkSheet, SentOk, Grown, Grows, AllWilling, StayEv, OutEv, Own, HeldAck, HeldHelp, CtlOk, Inv}
-use Rattle.protocol.proofs.Growth.{sheet-mono, sent-mono, out-mono, ctl-mono}
+use Rattle.protocol.specs.Controllers.{isRunning, phaseIn, outcomeIn, runs, phase, hasAck, hasHelped, cleared, advance, learn, aim, keepAck, answered}
+use Rattle.protocol.specs.Rules.{quiet, passed, voteRule, voteArrives, countOwn, firstTimeout, ackArrives, helpedArrives, helpArrives}
+use Rattle.protocol.specs.Benches.{sentAfter}
+use Rattle.protocol.proofs.View.{View, cardOrder, recalled}
+use Rattle.protocol.proofs.Words.{none-word}
+use Rattle.protocol.proofs.Invariant.{votedBy, willBy, ackOn, ackedBy, helpOn, fixedBy, OkSheet, SentOk, Grown, Grows, OutEv, Own, HeldAck, CtlOk, Inv}
+use Rattle.protocol.proofs.Growth.{sent-mono, ctl-mono}
 use Rattle.protocol.proofs.TrueSheets.{empty-ok, vote-ok, join-ok}
-use Rattle.protocol.proofs.Commit.{Fits, grown-refl, grows-upd, quiet-fits, passed-fits}
+use Rattle.protocol.proofs.Commit.{Fits, grows-upd, quiet-fits, passed-fits}
 use Rattle.protocol.proofs.Settle.{settle-fits}
-use Rattle.protocol.proofs.Keeping.{insert-own, own-ack-kept, ctl-ack-kept, own-help-kept, ctl-help-kept}
+use Rattle.protocol.proofs.Keeping.{own-ack-kept, ctl-ack-kept, own-help-kept, ctl-help-kept}
 
 pub count-zero : (n : ℕ) → countTo n (has 0) ≡ 0
 unfolding countTo

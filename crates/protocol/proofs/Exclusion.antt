@@ -1,5 +1,5 @@
 -- The heart of agreement, for any n and f: a direct decision of Move excludes a Stay put to the arbiter.
-use Prim.Native.Nat.{ℕ, suc, _+_, _≤_, _<_}
+use Prim.Native.Nat.{ℕ, suc, _≤_, _<_}
 use mathlib.Core.Path.{_≡_, refl, sym, _∙_}
 use mathlib.Core.Bool.{Bool, true, false}
 use native.Mathlib.Omega.{arith}
@@ -7,11 +7,10 @@ use native.Mathlib.Decide.{decLe}
 use Rattle.votes.specs.Tests.{_⊎_, inl, inr, no-both}
 use Rattle.votes.specs.VoteSets.{knows, wills, unanimous}
 use Rattle.votes.specs.VoteLaws.{unanimous-known}
-use Rattle.model.specs.Numbers.{wordOf}
 use Rattle.model.specs.declared.Outcome.the-variants.{Stay, Move}
 use Rattle.protocol.specs.declared.Sent.{Sent}
 use Rattle.protocol.proofs.View.{View}
-use Rattle.protocol.proofs.Invariant.{willBy, ackOn, helpOn, fixedBy, OkSheet, SentOk, AllWilling, HelpMove, SecondAck, DirectMove, AckStay, HelpStay, OutEv, StayEv, Inv}
+use Rattle.protocol.proofs.Invariant.{willBy, ackOn, helpOn, fixedBy, SentOk, AllWilling, HelpMove, SecondAck, DirectMove, OutEv, StayEv, Inv}
 
 module _ (n f : ℕ) (f<n : f < n) where
   module _ (L : ℕ → Sent) (ok : (k : ℕ) → SentOk f L k (L k)) where

@@ -1,7 +1,7 @@
 -- What each rule leaves alone: the vote sent, an outcome once held, the position but for a new Move of a running gate.
 use Prim.Native.Nat.{ℕ}
-use mathlib.Core.Path.{_≡_, refl, sym, _∙_, ap, subst}
-use mathlib.Core.Bool.{Bool, true, false, not, _&&_, _||_, cond, true≢false, false≢true}
+use mathlib.Core.Path.{_≡_, refl, sym, _∙_, ap}
+use mathlib.Core.Bool.{Bool, true, false, not, _&&_, _||_, true≢false, false≢true}
 use lib.Dec.{leb, eqb, ltb}
 use Rattle.votes.specs.Tests.{_⊎_, inl, inr, by-cond, and-l, and-r}
 use Rattle.votes.specs.Mask.{has, insert}
@@ -15,13 +15,12 @@ use Rattle.model.specs.declared.Outcome.{Outcome}
 use Rattle.model.specs.declared.Outcome.the-variants.{None, Stay, Move}
 use Rattle.protocol.specs.declared.Condition.{Condition}
 use Rattle.protocol.specs.declared.Condition.the-variants.{Running, Stopped, Standby}
-use Rattle.protocol.specs.declared.Outgoing.{Outgoing}
 use Rattle.protocol.specs.declared.Controller.{Controller}
 use Rattle.protocol.specs.declared.Post.the-variants.{Nothing as NoPost, To}
 use Rattle.protocol.specs.declared.Answer.{Answer}
 use Rattle.protocol.specs.declared.Sent.{Sent}
-use Rattle.protocol.specs.Controllers.{isRunning, outcomeIn, runs, phase, outcome, hasAck, hasHelped, cleared, advance, learn, aim, keepAck, keepHelped, freeze, answered, await, propose, orElse, noting, moves, conclude}
-use Rattle.protocol.specs.Rules.{passed, quiet, proposes, verdict, voteRule, voteArrives, countOwn, firstTimeout, ackJoin, decides, enough, settle, helpSheet, frozen, laidDown, callsHelp, secondTimeout, ackArrives, helpedArrives, helpArrives}
+use Rattle.protocol.specs.Controllers.{isRunning, outcomeIn, runs, phase, outcome, hasAck, hasHelped, cleared, advance, learn, aim, keepAck, keepHelped, freeze, answered, await, propose, orElse, noting, conclude}
+use Rattle.protocol.specs.Rules.{passed, quiet, proposes, verdict, voteRule, voteArrives, countOwn, firstTimeout, ackJoin, decides, enough, settle, frozen, laidDown, callsHelp, secondTimeout, ackArrives, helpedArrives, helpArrives}
 use Rattle.protocol.specs.Calls.{arrives}
 use Rattle.protocol.specs.Benches.{sentAfter}
 use Rattle.protocol.proofs.View.{timeoutRule}

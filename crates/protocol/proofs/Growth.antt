@@ -1,16 +1,16 @@
 -- What has grounds keeps them as the world grows.
-use Prim.Native.Nat.{ℕ, suc, _≤_, _<_}
-use mathlib.Core.Path.{_≡_, refl, sym, _∙_}
+use Prim.Native.Nat.{ℕ, suc}
+use mathlib.Core.Path.{_≡_, sym, _∙_}
 use mathlib.Core.Bool.{Bool, true, false}
-use Rattle.votes.specs.Tests.{_⊎_, inl, inr}
-use Rattle.votes.specs.VoteSets.{knows, wills, unanimous}
+use Rattle.votes.specs.Tests.{inl, inr}
+use Rattle.votes.specs.VoteSets.{knows}
 use Rattle.votes.specs.declared.VoteSet.{VoteSet}
 use Rattle.model.specs.Numbers.{wordOf}
 use Rattle.model.specs.declared.Outcome.{Outcome}
 use Rattle.protocol.specs.declared.Controller.{Controller}
 use Rattle.protocol.specs.declared.Sent.{Sent}
 use Rattle.protocol.specs.Controllers.{ackOf}
-use Rattle.protocol.proofs.Invariant.{votedBy, willBy, ackOn, ackedBy, helpOn, fixedBy, OkSheet, SentOk, Grown, Grows, AllWilling, Unwilling, HelpMove, SecondAck, DirectMove, AckStay, HelpStay, OutEv, StayEv, HeldAck, HeldHelp, CtlOk}
+use Rattle.protocol.proofs.Invariant.{ackOn, helpOn, OkSheet, SentOk, Grows, AllWilling, DirectMove, OutEv, StayEv, HeldAck, HeldHelp, CtlOk}
 
 module _ (L L′ : ℕ → Sent) (g : Grows L L′) where
   pub sheet-mono : (s : VoteSet) → OkSheet L s → OkSheet L′ s

@@ -1,5 +1,5 @@
 -- The invariant of one order, and what of it only grows.
-use Prim.Native.Nat.{ℕ, suc, _+_, _≤_, _<_}
+use Prim.Native.Nat.{ℕ, suc, _≤_, _<_}
 use mathlib.Core.Path.{_≡_}
 use mathlib.Core.Bool.{Bool, true, false, cond}
 use lib.ListN.{length}
@@ -14,9 +14,8 @@ use Rattle.model.specs.declared.Outcome.{Outcome}
 use Rattle.model.specs.declared.Outcome.the-variants.{None}
 use Rattle.protocol.specs.declared.Controller.{Controller}
 use Rattle.protocol.specs.declared.Sent.{Sent}
-use Rattle.protocol.specs.declared.Saved.{Saved}
 use Rattle.protocol.specs.Controllers.{runs, phase, outcome, hasAck, ackOf, hasHelped}
-use Rattle.protocol.proofs.View.{World, View, cardOrder, cardOutcome}
+use Rattle.protocol.proofs.View.{View, cardOrder, cardOutcome}
 
 -- what controller i has sent: has it voted, and willingly; is its acknowledgement frozen, its help sheet; each sheet knows its sender
 abbrev pub votedBy : ℕ → Sent → Bool

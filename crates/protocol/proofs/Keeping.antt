@@ -1,34 +1,27 @@
 -- What keeping an acknowledgement or a help answer does to the invariant.
-use Prim.Native.Nat.{ℕ, suc, _+_, _≤_, _<_}
-use mathlib.Core.Path.{_≡_, refl, sym, _∙_, ap}
-use mathlib.Core.Bool.{Bool, true, false, cond}
+use Prim.Native.Nat.{ℕ, suc, _≤_, _<_}
+use mathlib.Core.Path.{_≡_, sym, _∙_, ap}
+use mathlib.Core.Bool.{true, false}
 use native.Mathlib.Omega.{arith}
 use lib.ListN.{length}
-use lib.Dec.{ltb}
 use Rattle.votes.specs.Tests.{or-l, or-r, ltb-yes}
 use Rattle.votes.specs.Quantify.{countTo, count-le}
-use Rattle.votes.specs.Mask.{width, has, insert}
-use Rattle.votes.specs.MaskLaws.{has-insert, insert-is}
-use Rattle.votes.specs.Update.{upd-same, upd-all}
+use Rattle.votes.specs.Mask.{has}
+use Rattle.votes.specs.MaskLaws.{has-insert, insert-is, insert-keeps}
+use Rattle.votes.specs.Update.{upd-all}
 use Rattle.votes.specs.Sizes.{insert-size}
 use Rattle.votes.specs.ListLaws.{nth-put, length-put}
-use Rattle.votes.specs.VoteSets.{empty, knows, wills, join, nth}
+use Rattle.votes.specs.VoteSets.{empty, wills, join, nth}
 use Rattle.votes.specs.VoteLaws.{join-wills}
 use Rattle.votes.specs.declared.VoteSet.{VoteSet}
 use Rattle.model.specs.Ranges.{limit}
 use Rattle.model.specs.declared.Outcome.{Outcome}
 use Rattle.protocol.specs.declared.Controller.{Controller}
 use Rattle.protocol.specs.declared.Sent.{Sent}
-use Rattle.protocol.specs.Controllers.{bump, phase, hasAck, ackOf, hasHelped, keepAck, keepHelped}
+use Rattle.protocol.specs.Controllers.{bump, phase, hasAck, hasHelped, keepAck, keepHelped}
 use Rattle.protocol.proofs.Invariant.{helpOn, fixedBy, OkSheet, Own, HeldAck, HeldHelp, CtlOk}
 use Rattle.protocol.proofs.TrueSheets.{join-ok}
 use Rattle.protocol.proofs.Commit.{upd-all₂}
-
-pub insert-keeps : (m i k : ℕ) → 1 ≤ i → i ≤ width → has m k ≡ true → has (insert m i) k ≡ true
-insert-keeps m i k a b e = has-insert m i k a b ∙ upd-all (λ k x. has m k ≡ true → x ≡ true) (has m) i true (λ q. refl) (λ k q. q) k e
-
-pub insert-own : (m i : ℕ) → 1 ≤ i → i ≤ width → has (insert m i) i ≡ true
-insert-own m i a b = has-insert m i i a b ∙ upd-same (has m) i true
 
 -- a byte counts the senders of a lock
 bumped : (n k m : ℕ) → n ≤ limit → k ≡ countTo n (has m) → bump k ≡ suc k
@@ -49,7 +42,7 @@ module _ (n f : ℕ) (small : n ≤ limit) where
     waiter = o .waiter;
     idle = o .idle;
     early = o .early;
-    own-ack = λ x y. insert-keeps (c .«acks_from») j i a (omega arith) (o .own-ack x y);
+    own-ack = λ x y. insert-keeps (c .«acks_from») j i (o .own-ack x y);
     ack-count = bumped n (c .cnt .0) (c .«acks_from») small (o .ack-count) ∙ ap suc (o .ack-count) ∙ sym (insert-size n (c .«acks_from») j a b (omega arith) q);
     help-count = o .help-count;
     room = λ x y. let h : n ≤ length (c .acks) = o .room x y in rw (length-put (c .acks) j s) h;

@@ -1,17 +1,15 @@
 -- What an accepted event other than order and stop does to a running controller: the frames that the clean order needs.
-use Prim.Native.Nat.{ℕ, suc, _+_, _≤_, _<_}
-use mathlib.Core.Path.{_≡_, refl, sym, _∙_, ap, subst}
-use mathlib.Core.Bool.{Bool, true, false, not, _&&_, _||_, cond, true≢false, false≢true}
-use native.Mathlib.Omega.{arith}
+use Prim.Native.Nat.{ℕ, suc, _≤_}
+use mathlib.Core.Path.{_≡_, refl, sym, _∙_}
+use mathlib.Core.Bool.{Bool, true, false, not, _&&_, _||_, cond, false≢true}
 use lib.Dec.{leb, eqb, ltb}
-use Rattle.votes.specs.Tests.{_⊎_, inl, inr, no-both, split, by-cond, and-l, and-r, or-l, or-r, or-e, not-t, leb-le, le-leb, eqb-eq, eqb-same}
-use Rattle.votes.specs.Mask.{width, has, insert}
-use Rattle.votes.specs.Update.{upd, upd-same}
-use Rattle.votes.specs.VoteSets.{knows, wills, single, join}
-use Rattle.votes.specs.VoteLaws.{single-knows, single-wills, join-knows}
+use Rattle.votes.specs.Tests.{_⊎_, inl, inr, no-both, by-cond, and-l, and-r, or-l, leb-le, eqb-eq}
+use Rattle.votes.specs.MaskLaws.{insert-keeps}
+use Rattle.votes.specs.Mask.{has, insert}
+use Rattle.votes.specs.VoteSets.{knows, single}
+use Rattle.votes.specs.VoteLaws.{join-knows}
 use Rattle.votes.specs.declared.VoteSet.{VoteSet}
 use Rattle.model.specs.Ranges.{limit, member, isBackup}
-use Rattle.model.specs.Routes.{route, voteRoute, ackRoute}
 use Rattle.model.specs.Numbers.{wordOf}
 use Rattle.model.specs.declared.Kind.{Kind}
 use Rattle.model.specs.declared.Kind.the-variants.{Vote, Ack, Help, Helped}
@@ -25,17 +23,15 @@ use Rattle.protocol.specs.declared.Post.the-variants.{Nothing as NoPost,
 use Rattle.protocol.specs.declared.Controller.{Controller}
 use Rattle.protocol.specs.declared.Answer.{Answer}
 use Rattle.protocol.specs.declared.Sent.{Sent}
-use Rattle.protocol.specs.Controllers.{isRunning, isStopped, phaseIn, runs, phase, outcome, hasAck, hasHelped, cleared, advance, learn, aim, keepAck, keepHelped, freeze, answered, await, propose, noting, conclude}
+use Rattle.protocol.specs.Controllers.{isRunning, isStopped, runs, phase, hasAck, hasHelped, cleared, advance, learn, aim, keepAck, keepHelped, freeze, answered, await, propose, conclude}
 use Rattle.protocol.specs.Rules.{passed, quiet, proposes, verdict, voteRule, voteArrives, countOwn, firstTimeout, ackJoin, decides, enough, settle, frozen, laidDown, callsHelp, secondTimeout, ackArrives, helpedArrives, helpArrives}
 use Rattle.protocol.specs.Calls.{arrives}
-use Rattle.protocol.specs.Benches.{ofKind, sentAfter}
+use Rattle.protocol.specs.Benches.{sentAfter}
 use Rattle.protocol.specs.Questions.{firstNo}
-use Rattle.protocol.proofs.View.{View, commitV, chosen, savedV, cardAt, recalled, accepts, timeoutRule, performV, ask-l, ask-r}
+use Rattle.protocol.proofs.View.{View, commitV, chosen, savedV, cardAt, accepts, timeoutRule, performV, ask-l, ask-r}
 use Rattle.protocol.proofs.Words.{noting-runs, noting-phase}
-use Rattle.protocol.proofs.Invariant.{votedBy, willBy, ackOn, ackedBy, SentOk, Inv}
+use Rattle.protocol.proofs.Invariant.{ackOn, ackedBy}
 use Rattle.protocol.proofs.Commit.{upd-all₂}
-use Rattle.protocol.proofs.Keeping.{insert-keeps, insert-own}
-use Rattle.protocol.proofs.Frames.{Steady, own-steady}
 use Rattle.protocol.proofs.Orders.{second}
 
 stopped-idle : (k : Condition) → isStopped k ≡ true → isRunning k ≡ false
@@ -80,7 +76,7 @@ module _ (n f : ℕ) where
     -- an acknowledgement kept: the condition and the own sheet stay
     keep-live : (e : Event) (i j : ℕ) (s : VoteSet) (c : Controller) (l : Sent) → 1 ≤ i → i ≤ n → Live e j c (keepAck c i s) l l
     unfolding keepAck
-    keep-live e i j s c l a b = record { running = refl; votes = λ r k h. h; acks = λ r k h. insert-keeps (c .«acks_from») i k a (omega arith) h; phase = λ r. stays refl; acked = λ h. inl (h, refl) }
+    keep-live e i j s c l a b = record { running = refl; votes = λ r k h. h; acks = λ r k h. insert-keeps (c .«acks_from») i k h; phase = λ r. stays refl; acked = λ h. inl (h, refl) }
 
     arrives-live : (e : Event) (kind : Kind) (i j : ℕ) (s : VoteSet) (c : Controller) (l : Sent) → 1 ≤ i → i ≤ n → Acts e j c l (arrives kind n f i s c)
     unfolding arrives voteArrives ackArrives helpedArrives helpArrives
@@ -108,7 +104,7 @@ module _ (n f : ℕ) where
         kept k h = unfold countOwn keepAck in by-cond (λ (x : Controller). knows (x .votes) k ≡ true) (isBackup f j && not (hasAck c j)) (keepAck c j (c .votes)) c (λ e. h) (λ e. h)
 
         grow : (k : ℕ) → hasAck c k ≡ true → hasAck (countOwn f j c) k ≡ true
-        grow k h = unfold countOwn keepAck in by-cond (λ (x : Controller). hasAck x k ≡ true) (isBackup f j && not (hasAck c j)) (keepAck c j (c .votes)) c (λ e. insert-keeps (c .«acks_from») j k a (omega arith) h) (λ e. h)
+        grow k h = unfold countOwn keepAck in by-cond (λ (x : Controller). hasAck x k ≡ true) (isBackup f j && not (hasAck c j)) (keepAck c j (c .votes)) c (λ e. insert-keeps (c .«acks_from») j k h) (λ e. h)
 
     vote-live : (j : ℕ) (w : Bool) (t : ℕ) (c : Controller) (l : Sent) → runs c ≡ true → phase c ≡ 0 → Acts (Cast j w t) j c l (voteRule n f j w t c)
     unfolding voteRule sentAfter advance aim learn

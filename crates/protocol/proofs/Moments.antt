@@ -1,7 +1,7 @@
 -- The statement's moments and the log of an order: an event stands in the log at its place exactly when it was accepted in the order of that moment.
-use Prim.Native.Nat.{ℕ, suc, _+_, _≤_, _<_}
+use Prim.Native.Nat.{ℕ, _+_}
 use mathlib.Core.Path.{_≡_, refl, sym, _∙_, ap, subst}
-use mathlib.Core.Bool.{Bool, true, false, not, _&&_, _||_, cond, true≢false, false≢true}
+use mathlib.Core.Bool.{Bool, true, false, not, _||_, cond, true≢false, false≢true}
 use mathlib.Core.List.{List, [], _∷_, _++_}
 use native.Mathlib.Omega.{arith}
 use Rattle.votes.specs.Tests.{_⊎_, inl, inr, no-both, split, by-cond}
@@ -12,7 +12,7 @@ use Rattle.protocol.specs.declared.Bench.{Bench}
 use Rattle.protocol.specs.Benches.{newBench, benchOf, withStation, commit}
 use Rattle.protocol.specs.Questions.{Reply, accepted, refused, isAccepted, unless, firstNo, reply}
 use Rattle.protocol.specs.Steps.{opened, decidedAs, perform, step, run}
-use Rattle.protocol.specs.Claim.{after, Accepted, opensOrder, opensAny, SameOrder, InOrder}
+use Rattle.protocol.specs.Claim.{after, opensOrder, opensAny, InOrder}
 use Rattle.protocol.proofs.View.{ask-l}
 use Rattle.protocol.proofs.CleanLog.{In, entered}
 

@@ -1,14 +1,14 @@
 -- No Move without every willing vote accepted before; a gate moves at most once in an order.
 use Prim.Native.Nat.{ℕ, _+_, _≤_, _<_}
-use mathlib.Core.Path.{_≡_, refl, sym, _∙_, ap, subst}
-use mathlib.Core.Bool.{Bool, true, false, not, _&&_, _||_, cond, true≢false, false≢true}
+use mathlib.Core.Path.{_≡_, refl, sym, _∙_, ap}
+use mathlib.Core.Bool.{Bool, true, not, false≢true}
 use mathlib.Core.List.{List, [], _∷_, _++_}
 use native.Mathlib.Omega.{arith}
-use lib.Dec.{leb, eqb, ltb}
-use Rattle.votes.specs.Tests.{_⊎_, inl, inr, no-both, split, by-cond, and-l, and-r, leb-le, eqb-eq, eqb-same}
+use lib.Dec.{eqb}
+use Rattle.votes.specs.Tests.{_⊎_, inl, inr, no-both, split, by-cond, and-l, and-r, leb-le, eqb-eq}
 use Rattle.votes.specs.MaskLaws.{has-none}
 use Rattle.votes.specs.Mask.{has, width}
-use Rattle.votes.specs.VoteSets.{knows, wills, single}
+use Rattle.votes.specs.VoteSets.{wills, single}
 use Rattle.votes.specs.VoteLaws.{single-wills}
 use Rattle.votes.specs.Update.{upd, upd-all, upd-same, upd-other}
 use Rattle.model.specs.Ranges.{limit, member}
@@ -19,16 +19,14 @@ use Rattle.protocol.specs.declared.Condition.the-variants.{Stopped, Stan
 use Rattle.protocol.specs.declared.Controller.{Controller}
 use Rattle.protocol.specs.declared.Answer.{Answer}
 use Rattle.protocol.specs.declared.Sent.{Sent}
-use Rattle.protocol.specs.Controllers.{runs, phase, outcome, isStopped, cleared, conclude}
+use Rattle.protocol.specs.Controllers.{runs, outcome, cleared, conclude}
 use Rattle.protocol.specs.Rules.{quiet, voteRule}
-use Rattle.protocol.specs.Calls.{arrives, renew}
 use Rattle.protocol.specs.Benches.{unsentAll, sentAfter}
 use Rattle.protocol.specs.Questions.{firstNo}
-use Rattle.protocol.proofs.View.{View, newWorld, recalled, commitV, chosen, openedV, savedV, cardAt, accepts, timeoutRule, performV, stepV, runV, ask-l, ask-r}
+use Rattle.protocol.proofs.View.{View, newWorld, recalled, commitV, chosen, openedV, savedV, cardAt, accepts, performV, stepV, runV, ask-l, ask-r}
 use Rattle.protocol.proofs.Invariant.{votedBy, willBy, Inv}
-use Rattle.protocol.proofs.Commit.{upd-all₂}
 use Rattle.protocol.proofs.Decisions.{renew-keeps}
-use Rattle.protocol.proofs.Frames.{Taken, Moved, Framed, decide-framed, cleared-framed, arrives-framed, timeout-framed, VoteFramed, vote-framed}
+use Rattle.protocol.proofs.Frames.{Taken, Moved, Framed, decide-framed, cleared-framed, arrives-framed, timeout-framed, vote-framed}
 use Rattle.protocol.proofs.Orders.{run-inv, run-order, step-next, next-inv, next-order, Next}
 
 module _ (n f : ℕ) where

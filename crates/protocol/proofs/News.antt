@@ -1,31 +1,30 @@
 -- What an accepted event itself adds, as the clean order needs it.
-use Prim.Native.Nat.{ℕ, suc, _+_, _≤_, _<_}
-use mathlib.Core.Path.{_≡_, refl, sym, _∙_, ap, subst}
+use Prim.Native.Nat.{ℕ, suc, _≤_}
+use mathlib.Core.Path.{_≡_, refl, sym, _∙_}
 use mathlib.Core.Bool.{Bool, true, false, not, _&&_, _||_, cond, false≢true}
 use native.Mathlib.Omega.{arith}
 use lib.Dec.{leb, eqb, ltb}
-use Rattle.votes.specs.Tests.{_⊎_, inl, inr, no-both, split, by-cond, and-l, and-r, and-i, or-l, or-r, or-e, not-t, leb-le, le-leb, eqb-eq, eqb-same}
-use Rattle.votes.specs.Mask.{width, has, insert}
-use Rattle.votes.specs.Update.{upd, upd-same}
-use Rattle.votes.specs.VoteSets.{knows, wills, single, join}
+use Rattle.votes.specs.Tests.{_⊎_, inl, inr, split, by-cond, and-l, and-r, or-r, or-e, leb-le, le-leb, eqb-eq, eqb-same}
+use Rattle.votes.specs.MaskLaws.{insert-own}
+use Rattle.votes.specs.Mask.{width, has}
+use Rattle.votes.specs.Update.{upd-same}
+use Rattle.votes.specs.VoteSets.{knows}
 use Rattle.votes.specs.VoteLaws.{single-knows, single-wills, join-knows}
 use Rattle.votes.specs.declared.VoteSet.{VoteSet}
 use Rattle.model.specs.Ranges.{limit, member}
-use Rattle.model.specs.Routes.{route, voteRoute, ackRoute}
+use Rattle.model.specs.Routes.{route, voteRoute}
 use Rattle.model.specs.declared.Kind.the-variants.{Vote, Ack, Help, Helped}
 use Rattle.model.specs.declared.Event.{Event}
 use Rattle.model.specs.declared.Event.the-variants.{Lock, Order, Cast, Deliver, Timeout, Decide, Stop, Save, Restore}
 use Rattle.protocol.specs.declared.Controller.{Controller}
 use Rattle.protocol.specs.declared.Answer.{Answer}
-use Rattle.protocol.specs.declared.Sent.{Sent}
-use Rattle.protocol.specs.Controllers.{runs, phase, hasAck, advance, learn, aim, keepAck, keepHelped, freeze, await, propose, conclude}
-use Rattle.protocol.specs.Rules.{passed, quiet, proposes, verdict, voteRule, voteArrives, countOwn, firstTimeout, ackJoin, decides, enough, settle, frozen, laidDown, callsHelp, secondTimeout, ackArrives}
+use Rattle.protocol.specs.Controllers.{runs, phase, hasAck, advance, learn, keepAck, keepHelped, freeze, await, propose, conclude}
+use Rattle.protocol.specs.Rules.{passed, quiet, proposes, verdict, voteRule, voteArrives, firstTimeout, ackJoin, decides, enough, settle, frozen, laidDown, callsHelp, secondTimeout, ackArrives}
 use Rattle.protocol.specs.Calls.{arrives}
 use Rattle.protocol.specs.Benches.{sentAfter}
 use Rattle.protocol.specs.Questions.{firstNo}
 use Rattle.protocol.proofs.View.{View, commitV, accepts, timeoutRule, performV, ask-l, ask-r}
-use Rattle.protocol.proofs.Invariant.{votedBy, willBy, ackOn, ackedBy, SentOk, Inv}
-use Rattle.protocol.proofs.Keeping.{insert-own}
+use Rattle.protocol.proofs.Invariant.{votedBy, willBy, ackedBy, Inv}
 
 module _ (n f : ℕ) where
   -- a vote that arrives before the first timeout is known

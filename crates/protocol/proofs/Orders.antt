@@ -1,28 +1,25 @@
 -- Every accepted event goes on with the order and keeps its grounds, or opens a later one. So two outcomes of one order are equal.
-use Prim.Native.Nat.{ℕ, suc, _+_, _≤_, _<_}
+use Prim.Native.Nat.{ℕ, _≤_, _<_}
 use mathlib.Core.Path.{_≡_, refl, sym, _∙_}
-use mathlib.Core.Bool.{Bool, true, false, not, _&&_, _||_, cond, true≢false, false≢true}
+use mathlib.Core.Bool.{Bool, true, false, not, _||_, cond, true≢false, false≢true}
 use mathlib.Core.List.{List, [], _∷_}
 use native.Mathlib.Omega.{arith}
-use lib.Dec.{leb, ltb, eqb}
-use Rattle.votes.specs.Tests.{_⊎_, inl, inr, no-both, split, and-l, and-r, or-e, leb-le, eqb-eq}
-use Rattle.votes.specs.Mask.{has}
+use lib.Dec.{eqb}
+use Rattle.votes.specs.Tests.{_⊎_, inl, inr, split, and-l, and-r, leb-le, eqb-eq}
 use Rattle.model.specs.Ranges.{limit, member}
 use Rattle.model.specs.Routes.{route, helpRoute}
 use Rattle.model.specs.Numbers.{wordOf}
 use Rattle.model.specs.declared.Kind.the-variants.{Vote, Ack, Help, Helped}
-use Rattle.model.specs.declared.Checkpoint.{Checkpoint}
 use Rattle.model.specs.declared.Event.{Event}
 use Rattle.model.specs.declared.Event.the-variants.{Lock, Order, Cast, Deliver, Timeout, Decide, Stop, Save, Restore}
 use Rattle.protocol.specs.declared.Answer.{Answer}
-use Rattle.protocol.specs.declared.Sent.{Sent}
 use Rattle.protocol.specs.declared.Condition.{Condition}
 use Rattle.protocol.specs.declared.Condition.the-variants.{Running, Stopped, Standby}
 use Rattle.protocol.specs.Controllers.{isRunning, isStandby, runs, standsBy, phase, outcome, conclude}
 use Rattle.protocol.specs.Rules.{quiet}
 use Rattle.protocol.specs.Calls.{arrives}
 use Rattle.protocol.specs.Benches.{sentAfter}
-use Rattle.protocol.specs.Questions.{firstNo, noOther, isAccepted}
+use Rattle.protocol.specs.Questions.{firstNo, noOther}
 use Rattle.protocol.proofs.View.{View, chosen, commitV, openedV, savedV, cardAt, wasProposedV, accepts, timeoutRule, performV, stepV, runV, ask-l, ask-r}
 use Rattle.protocol.proofs.Words.{given-is}
 use Rattle.protocol.proofs.Invariant.{Grows, OutEv, Inv}

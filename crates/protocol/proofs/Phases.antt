@@ -1,13 +1,12 @@
 -- A clean order goes through three parts: before any timeout, before any second timeout, after it.
-use Prim.Native.Nat.{ℕ, suc, _+_, _≤_, _<_}
-use mathlib.Core.Path.{_≡_, refl, sym, _∙_, ap, subst}
-use mathlib.Core.Bool.{Bool, true, false, not, _&&_, _||_, cond, true≢false, false≢true}
+use Prim.Native.Nat.{ℕ, suc, _≤_, _<_}
+use mathlib.Core.Path.{_≡_, refl, sym, _∙_, subst}
+use mathlib.Core.Bool.{Bool, true, false, not, _&&_, cond, false≢true}
 use mathlib.Core.List.{List, [], _∷_}
 use native.Mathlib.Omega.{arith}
 use native.Mathlib.Decide.{decLe, ℕ-discrete}
 use lib.Dec.{leb, eqb}
-use Rattle.votes.specs.Tests.{_⊎_, inl, inr, no-both, split, and-l, and-r, and-i, or-l, or-r, or-e, leb-le, le-leb, eqb-eq, eqb-same, eqb-no}
-use Rattle.votes.specs.Mask.{has}
+use Rattle.votes.specs.Tests.{_⊎_, inl, inr, no-both, split, and-r, and-i, or-l, or-r, or-e, leb-le, le-leb, eqb-eq, eqb-same, eqb-no}
 use Rattle.votes.specs.MaskLaws.{has-none}
 use Rattle.votes.specs.Update.{upd-same}
 use Rattle.votes.specs.VoteSets.{knows}
@@ -22,24 +21,13 @@ use Rattle.protocol.specs.Rules.{secondTimeout}
 use Rattle.protocol.specs.Benches.{unsentAll}
 use Rattle.protocol.specs.Questions.{firstNo}
 use Rattle.protocol.proofs.View.{View, newWorld, commitV, chosen, openedV, savedV, accepts, timeoutRule, performV, stepV, runV, ask-l}
-use Rattle.protocol.proofs.Invariant.{votedBy, willBy, ackOn, ackedBy, Grows, AllWilling, Inv}
+use Rattle.protocol.proofs.Invariant.{votedBy, willBy, ackOn, ackedBy, Grows, Inv}
 use Rattle.protocol.proofs.TrueSheets.{not-true}
 use Rattle.protocol.proofs.Decisions.{Blank, renew-blank}
 use Rattle.protocol.proofs.Orders.{step-next, perform-next, next-inv, run-inv}
-use Rattle.protocol.proofs.CleanLog.{In, Voted, VotesIn, AcksIn, Second, CleanStep, Clean, entered, pushV, logV, decides-move, decides-stay}
-use Rattle.protocol.proofs.Live.{PhaseMove, stays, rung, voted, Live, Tame, Goes, perform-tame}
-use Rattle.protocol.proofs.News.{InRange, NewVote, NewVoteTo, NewAckTo, NewTimeout, New, perform-new}
-
-abbrev NotTimeout : Event → Type 0
-NotTimeout (Lock a c) = Unit {0}
-NotTimeout (Order o) = Unit {0}
-NotTimeout (Cast i w t) = Unit {0}
-NotTimeout (Deliver i j k) = Unit {0}
-NotTimeout (Timeout i) = ⊥
-NotTimeout (Decide i w) = Unit {0}
-NotTimeout (Stop i) = Unit {0}
-NotTimeout (Save i) = Unit {0}
-NotTimeout (Restore i) = Unit {0}
+use Rattle.protocol.proofs.CleanLog.{NotTimeout, In, Voted, VotesIn, AcksIn, Second, CleanStep, Clean, entered, pushV, logV, decides-move, decides-stay}
+use Rattle.protocol.proofs.Live.{PhaseMove, stays, rung, voted, Tame, Goes, perform-tame}
+use Rattle.protocol.proofs.News.{NewVote, NewVoteTo, NewAckTo, NewTimeout, New, perform-new}
 
 module _ (n f : ℕ) where
   route-low : (i j : ℕ) → voteRoute f i j ≡ true → j ≤ suc f

@@ -1,17 +1,17 @@
 -- The second timeout: its three ways out fit.
-use Prim.Native.Nat.{ℕ, zero, suc, _+_, _≤_, _<_}
+use Prim.Native.Nat.{ℕ, zero, suc, _≤_, _<_}
 use mathlib.Core.Path.{_≡_, refl, sym, _∙_, ap, subst}
-use mathlib.Core.Bool.{Bool, true, false, not, _&&_, _||_, cond, false≢true}
+use mathlib.Core.Bool.{Bool, true, false, not, _&&_, _||_, false≢true}
 use native.Mathlib.Omega.{arith}
 use native.Mathlib.Decide.{decLe, ℕ-discrete}
 use lib.Bits.{bitOr}
 use lib.Dec.{leb, ltb}
-use Rattle.votes.specs.Tests.{_⊎_, inl, inr, no-both, by-cond, and-l, and-r, or-l, or-r, leb-le, le-leb}
+use Rattle.votes.specs.Tests.{inl, inr, no-both, by-cond, and-l, and-r, or-l, leb-le, le-leb}
 use Rattle.votes.specs.Quantify.{Found, allTo, all-at, countTo}
 use Rattle.votes.specs.Mask.{has}
 use Rattle.votes.specs.MaskLaws.{has-none}
 use Rattle.votes.specs.Update.{upd, upd-same}
-use Rattle.votes.specs.VoteSets.{empty, knows, wills, join, complete, unanimous}
+use Rattle.votes.specs.VoteSets.{empty, knows, complete, unanimous}
 use Rattle.votes.specs.VoteLaws.{join-knows, join-unanimous-r, knows-in-all, complete-knows}
 use Rattle.votes.specs.declared.VoteSet.{VoteSet}
 use Rattle.model.specs.Ranges.{limit}
@@ -21,14 +21,13 @@ use Rattle.model.specs.declared.Kind.the-variants.{Help}
 use Rattle.model.specs.declared.Outcome.{Outcome}
 use Rattle.protocol.specs.declared.Outgoing.{Outgoing}
 use Rattle.protocol.specs.declared.Controller.{Controller}
-use Rattle.protocol.specs.declared.Answer.{Answer}
 use Rattle.protocol.specs.declared.Sent.{Sent}
-use Rattle.protocol.specs.Controllers.{runs, phase, outcome, hasAck, ackOf, hasHelped, noting, advance, freeze, await, keepHelped, propose, conclude}
-use Rattle.protocol.specs.Rules.{verdict, ackJoin, backupsComplete, secondKnows, decides, helpSheet, frozen, laidDown, proposes, callsHelp, settle, secondTimeout}
+use Rattle.protocol.specs.Controllers.{runs, phase, outcome, hasAck, ackOf, hasHelped, advance, freeze, await, keepHelped, conclude}
+use Rattle.protocol.specs.Rules.{verdict, ackJoin, backupsComplete, secondKnows, decides, helpSheet, frozen, laidDown, proposes, callsHelp, secondTimeout}
 use Rattle.protocol.specs.Benches.{sentAfter}
 use Rattle.protocol.proofs.View.{View}
-use Rattle.protocol.proofs.Words.{word-is, or-else-is}
-use Rattle.protocol.proofs.Invariant.{ackOn, helpOn, fixedBy, OkSheet, SentOk, Grown, Grows, AllWilling, Unwilling, HelpMove, SecondAck, DirectMove, StayEv, OutEv, Own, HeldAck, CtlOk, Inv}
+use Rattle.protocol.proofs.Words.{or-else-is}
+use Rattle.protocol.proofs.Invariant.{helpOn, fixedBy, OkSheet, SentOk, Grown, Grows, SecondAck, DirectMove, StayEv, OutEv, Own, HeldAck, CtlOk, Inv}
 use Rattle.protocol.proofs.Growth.{sheet-mono, sent-mono, all-mono, stay-mono, out-mono, ctl-mono}
 use Rattle.protocol.proofs.TrueSheets.{join-ok, move-all, all-move, stay-unwilling}
 use Rattle.protocol.proofs.Commit.{Fits, grows-upd}

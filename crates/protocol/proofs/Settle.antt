@@ -1,10 +1,10 @@
 -- The waiting rule: where the answer without it fits, the answer with it does.
 use Prim.Native.Nat.{ℕ, zero, suc, _+_, _≤_, _<_}
-use mathlib.Core.Path.{_≡_, refl, sym, _∙_}
-use mathlib.Core.Bool.{Bool, true, false, not, _&&_, cond, false≢true}
+use mathlib.Core.Path.{_≡_, refl, sym}
+use mathlib.Core.Bool.{Bool, true, false, not, _&&_, false≢true}
 use native.Mathlib.Omega.{arith}
 use lib.Dec.{leb, ltb}
-use Rattle.votes.specs.Tests.{_⊎_, inl, inr, no-both, split, by-cond, and-l, and-r, and-i, not-t, leb-le, le-leb}
+use Rattle.votes.specs.Tests.{inl, inr, no-both, split, by-cond, and-l, and-r, and-i, not-t, leb-le, le-leb}
 use Rattle.votes.specs.Quantify.{Found, countTo, count-all}
 use Rattle.votes.specs.Mask.{has}
 use Rattle.votes.specs.Update.{upd}

@@ -1,13 +1,13 @@
 -- The bench of the declared types steps as its view does: one list of stations changed at one place is three functions changed at one place,
 -- and behind the questions every call of a controller is its rule.
-use Prim.Native.Nat.{ℕ, zero, suc, _+_, _≤_, _<_}
-use mathlib.Core.Path.{_≡_, refl, sym, _∙_, ap, subst}
-use mathlib.Core.Bool.{Bool, true, false, not, _&&_, _||_, cond, true≢false, false≢true}
+use Prim.Native.Nat.{ℕ, _≤_, _<_}
+use mathlib.Core.Path.{_≡_, refl, sym, _∙_, ap}
+use mathlib.Core.Bool.{Bool, true, false, not, _&&_, _||_, cond, false≢true}
 use mathlib.Core.List.{List, [], _∷_, map}
 use native.Mathlib.Omega.{arith}
 use lib.ListN.{length, length-map}
-use lib.Dec.{eqb, leb, ltb}
-use Rattle.votes.specs.Tests.{_⊎_, inl, inr, no-both, split, by-cond, and-l, and-r, and-i, leb-le, eqb-eq, eqb-same}
+use lib.Dec.{eqb, leb}
+use Rattle.votes.specs.Tests.{inl, inr, split, by-cond, and-l, and-r, leb-le, eqb-eq, eqb-same}
 use Rattle.votes.specs.Update.{upd, fun-ext}
 use Rattle.votes.specs.ListLaws.{nth-put, length-put, map-at}
 use Rattle.votes.specs.VoteSets.{nth, put}
@@ -25,14 +25,13 @@ use Rattle.protocol.specs.declared.Saved.{Saved}
 use Rattle.protocol.specs.declared.Saved.the-variants.{Nothing, Card}
 use Rattle.protocol.specs.declared.Station.{Station}
 use Rattle.protocol.specs.declared.Bench.{Bench}
-use Rattle.protocol.specs.Controllers.{runs, standsBy, isStopped, phase, cleared, conclude, inPhase}
+use Rattle.protocol.specs.Controllers.{runs, standsBy, isStopped, phase, cleared, conclude}
 use Rattle.protocol.specs.Rules.{passed, quiet, voteRule, firstTimeout, secondTimeout}
 use Rattle.protocol.specs.Calls.{isMember, vote, addressed, arrives, receive, timeout, awaitsDecision, decide, stop, cardOf, save, restore, renew}
-use Rattle.protocol.specs.Benches.{unsentAll, fresh, freshStation, benchOf, newBench, station, controller, sentBy, card, memberAt, ofKind, message, sentAfter, withStation, stationAfter, commit}
-use Rattle.protocol.specs.Questions.{Reply, accepted, isAccepted, unless, firstNo, isCard, reply}
+use Rattle.protocol.specs.Benches.{fresh, freshStation, station, controller, sentBy, card, memberAt, ofKind, message, withStation, stationAfter, commit}
+use Rattle.protocol.specs.Questions.{accepted, isAccepted, unless, firstNo, isCard, reply}
 use Rattle.protocol.specs.Steps.{renewed, opened, decidedAs, keeping, restoreFrom, perform, step, run}
-use Rattle.protocol.proofs.View.{World, View, newWorld, recalled, commitV, chosen, openedV, savedV, cardAt, accepts, timeoutRule, performV, stepV, runV, ask-l, ask-r}
-use Rattle.protocol.proofs.Orders.{second}
+use Rattle.protocol.proofs.View.{View, newWorld, recalled, commitV, chosen, openedV, savedV, cardAt, accepts, timeoutRule, performV, stepV, runV, ask-l, ask-r}
 
 unfoldable pub view : Bench → View
 view b = record {

@@ -1,12 +1,11 @@
 -- From the new bench on: either nothing was accepted yet, or one lock was, and the views start from a fresh bench of that n and f.
 use Prim.Native.Nat.{ℕ, zero, suc, _+_, _≤_, _<_}
-use mathlib.Core.Path.{_≡_, refl, sym, _∙_, ap, subst}
-use mathlib.Core.Bool.{Bool, true, false, not, _&&_, _||_, cond, true≢false, false≢true}
+use mathlib.Core.Path.{_≡_, refl, sym, _∙_, ap}
+use mathlib.Core.Bool.{Bool, true, false}
 use mathlib.Core.List.{List, [], _∷_, _++_}
 use native.Mathlib.Omega.{arith}
 use lib.ListN.{length, replicate}
-use lib.Dec.{leb, ltb}
-use Rattle.votes.specs.Tests.{_⊎_, inl, inr, no-both, split, by-cond, and-l, and-r, leb-le}
+use Rattle.votes.specs.Tests.{_⊎_, inl, inr, split, by-cond}
 use Rattle.votes.specs.Mask.{has}
 use Rattle.votes.specs.MaskLaws.{has-none}
 use Rattle.votes.specs.VoteSets.{empty, nth}
@@ -15,7 +14,6 @@ use Rattle.model.specs.Ranges.{limit, sizes}
 use Rattle.model.specs.declared.Outcome.the-variants.{None}
 use Rattle.model.specs.declared.Event.{Event}
 use Rattle.model.specs.declared.Event.the-variants.{Lock, Order, Cast, Deliver, Timeout, Decide, Stop, Save, Restore}
-use Rattle.protocol.specs.declared.Sent.{Sent}
 use Rattle.protocol.specs.declared.Station.{Station}
 use Rattle.protocol.specs.declared.Saved.the-variants.{Nothing}
 use Rattle.protocol.specs.declared.Bench.{Bench}
@@ -24,12 +22,11 @@ use Rattle.protocol.specs.Benches.{unsentAll, fresh, freshStation, bench
 use Rattle.protocol.specs.Questions.{accepted, isAccepted, unless, firstNo, reply}
 use Rattle.protocol.specs.Steps.{perform, step, run}
 use Rattle.protocol.specs.Display.{shownOutcome, shownPosition}
-use Rattle.protocol.proofs.View.{View}
 use Rattle.protocol.proofs.Invariant.{votedBy, ackedBy, Inv}
 use Rattle.protocol.proofs.Decisions.{Blank, blank-inv}
 use Rattle.protocol.proofs.CleanLog.{entered}
 use Rattle.protocol.proofs.Phases.{Good, blank-good}
-use Rattle.protocol.proofs.Simulation.{view, Sound, Ranges, ranges}
+use Rattle.protocol.proofs.Simulation.{view, Sound, ranges}
 use Rattle.protocol.proofs.Moments.{push, logOf}
 
 -- one lock was accepted

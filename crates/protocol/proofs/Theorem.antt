@@ -1,17 +1,17 @@
 -- The proof of demand 3: the statement's moments, carried through the view of the bench to the invariants.
-use Prim.Native.Nat.{ℕ, suc, _+_, _*_, _≤_, _<_}
+use Prim.Native.Nat.{ℕ, _+_, _*_, _≤_, _<_}
 use mathlib.Core.Path.{_≡_, refl, sym, _∙_, ap, subst}
 use mathlib.Core.Bool.{Bool, true, false, cond, true≢false, false≢true}
 use mathlib.Core.List.{List, [], _∷_, _++_}
 use native.Mathlib.Omega.{arith}
-use Rattle.votes.specs.Tests.{_⊎_, inl, inr, no-both, and-l, and-r, leb-le}
-use Rattle.model.specs.Ranges.{limit, sizes, member}
+use Rattle.votes.specs.Tests.{inl, inr, no-both, and-l, and-r, leb-le}
+use Rattle.model.specs.Ranges.{member}
 use Rattle.model.specs.Numbers.{isNone, wordOf}
 use Rattle.model.specs.declared.Kind.the-variants.{Vote, Ack}
 use Rattle.model.specs.declared.Outcome.{Outcome}
 use Rattle.model.specs.declared.Outcome.the-variants.{None, Stay, Move}
 use Rattle.model.specs.declared.Event.{Event}
-use Rattle.model.specs.declared.Event.the-variants.{Lock, Order, Cast, Deliver, Timeout, Decide, Stop, Save, Restore}
+use Rattle.model.specs.declared.Event.the-variants.{Lock, Cast, Timeout, Restore}
 use Rattle.protocol.specs.declared.Bench.{Bench}
 use Rattle.protocol.specs.Controllers.{outcome}
 use Rattle.protocol.specs.Benches.{benchOf, newBench}
@@ -20,7 +20,7 @@ use Rattle.protocol.specs.Steps.{step, run}
 use Rattle.protocol.specs.Display.{shownOutcome, shownPosition, sumTo, telegrams}
 use Rattle.protocol.specs.Claim.{after, Accepted, opensAny, SameOrder, InOrder, Holds, Moves, SecondBell, Clean, AllWilling, OneUnwilling, WillingVote, Demand3}
 use Rattle.protocol.proofs.View.{View, accepts, stepV, runV, ask-l, ask-r}
-use Rattle.protocol.proofs.Words.{word-is, none-word}
+use Rattle.protocol.proofs.Words.{none-word}
 use Rattle.protocol.proofs.Invariant.{Inv}
 use Rattle.protocol.proofs.Orders.{agreement, run-inv}
 use Rattle.protocol.proofs.Moves.{voted-run, two-moves, restore-still, VotedBefore, Willing}

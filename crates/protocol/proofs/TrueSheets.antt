@@ -1,16 +1,15 @@
 -- Sheets that tell the votes as they were cast: joins of such sheets are such sheets, and what their words say of the votes.
-use Prim.Native.Nat.{ℕ, zero, suc, _+_, _≤_, _<_}
+use Prim.Native.Nat.{ℕ, zero, suc, _≤_}
 use mathlib.Core.Path.{_≡_, refl, sym, _∙_}
-use mathlib.Core.Bool.{Bool, true, false, not, _&&_, _||_, cond, true≢false, false≢true}
+use mathlib.Core.Bool.{Bool, true, false, not, _&&_, true≢false}
 use mathlib.Core.List.{List}
 use native.Mathlib.Omega.{arith}
-use lib.Dec.{eqb}
-use Rattle.votes.specs.Tests.{_⊎_, inl, inr, no-both, split, and-l, and-r, and-i, or-e, or-l, or-r, not-t, same-test, eqb-eq, eqb-same}
-use Rattle.votes.specs.Quantify.{Found, allTo, all-at}
-use Rattle.votes.specs.Mask.{width, has}
+use Rattle.votes.specs.Tests.{_⊎_, inl, inr, no-both, split, and-l, and-r, and-i, or-e, or-l, or-r, not-t, same-test}
+use Rattle.votes.specs.Quantify.{Found, allTo}
+use Rattle.votes.specs.Mask.{has}
 use Rattle.votes.specs.MaskLaws.{has-none}
-use Rattle.votes.specs.VoteSets.{empty, knows, wills, single, join, joinAll, complete, unanimous, nth}
-use Rattle.votes.specs.VoteLaws.{single-knows, single-wills, join-knows, join-wills, knows-in-all, wills-in-all, all-known-by, all-willed-by, complete-knows, unanimous-known, unanimous-willing, votes-unanimous, unanimous-is}
+use Rattle.votes.specs.VoteSets.{empty, knows, wills, join, joinAll, complete, unanimous, nth}
+use Rattle.votes.specs.VoteLaws.{join-knows, join-wills, knows-in-all, wills-in-all, all-known-by, all-willed-by, complete-knows, unanimous-known, unanimous-willing, votes-unanimous, unanimous-is}
 use Rattle.votes.specs.declared.VoteSet.{VoteSet}
 use Rattle.protocol.specs.declared.Sent.{Sent}
 use Rattle.protocol.proofs.Invariant.{votedBy, willBy, OkSheet, SentOk, AllWilling, Unwilling}

@@ -12,9 +12,8 @@ use Rattle.votes.specs.Update.{upd}
 use Rattle.model.specs.Ranges.{member, reachable}
 use Rattle.model.specs.Routes.{route}
 use Rattle.model.specs.Numbers.{wordOf, isMove, isStay}
-use Rattle.model.specs.declared.Kind.{Kind}
 use Rattle.model.specs.declared.Outcome.{Outcome}
-use Rattle.model.specs.declared.Outcome.the-variants.{None, Stay, Move}
+use Rattle.model.specs.declared.Outcome.the-variants.{None}
 use Rattle.model.specs.declared.Checkpoint.{Checkpoint}
 use Rattle.model.specs.declared.Event.{Event}
 use Rattle.model.specs.declared.Event.the-variants.{Lock, Order, Cast, Deliver, Timeout, Decide, Stop, Save, Restore}
@@ -28,7 +27,7 @@ use Rattle.protocol.specs.Controllers.{runs, standsBy, isStopped, phase,
 use Rattle.protocol.specs.Rules.{quiet, voteRule, firstTimeout, secondTimeout}
 use Rattle.protocol.specs.Calls.{arrives, renew}
 use Rattle.protocol.specs.Benches.{unsentAll, ofKind, sentAfter}
-use Rattle.protocol.specs.Questions.{Reply, accepted, refused, isAccepted, Question, ask, unless, firstNo, ended, noOther, isCard}
+use Rattle.protocol.specs.Questions.{Reply, accepted, isAccepted, Question, ask, unless, firstNo, ended, noOther, isCard}
 
 -- what one order has brought: what was sent, the words put, the arbiter's choice
 pub record World : Type 0 where

@@ -1,7 +1,7 @@
 -- Small facts on outcomes and words.
 use Prim.Native.Nat.{ℕ}
-use mathlib.Core.Path.{_≡_, refl, sym, _∙_}
-use mathlib.Core.Bool.{Bool, true, false, false≢true, true≢false}
+use mathlib.Core.Path.{_≡_, refl}
+use mathlib.Core.Bool.{Bool, true, false, false≢true}
 use native.Mathlib.Omega.{arith}
 use Rattle.model.specs.Numbers.{wordOf, isNone}
 use Rattle.model.specs.declared.Outcome.{Outcome}

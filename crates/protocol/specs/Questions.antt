@@ -1,6 +1,5 @@
 -- Document 01, "Questions put to a record or event": those that the bench puts to an event, in their sequence.
-use Prim.Native.Nat.{ℕ}
-use mathlib.Core.Bool.{Bool, true, false, cond, not, _&&_, _||_}
+use mathlib.Core.Bool.{Bool, true, false, not, _&&_, _||_}
 use mathlib.Core.List.{List, [], _∷_}
 use lib.Dec.{eqb, leb, ltb}
 use Rattle.votes.specs.Quantify.{allTo}
