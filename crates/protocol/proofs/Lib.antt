@@ -24,3 +24,5 @@ pub mod Bound
 pub mod Start
 pub mod Numbers
 pub mod Theorem
+pub mod CleanMoments
+pub mod CleanSchedule
