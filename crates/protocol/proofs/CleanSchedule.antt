@@ -56,6 +56,17 @@ ring-in (suc m) k log a b = elim (ℕ-discrete k (suc m)) [
   | no q ↦ inr (ring-in m k log a (omega arith))
 ]
 
+ring-keep : (e : Event) (m : ℕ) (log : List Event) → In e log → In e (rings m log)
+unfolding rings
+ring-keep e zero log h = h
+ring-keep e (suc m) log h = inr (ring-keep e m log h)
+
+ring-back : (e : Event) (m : ℕ) → ((i : ℕ) → e ≡ Timeout i → ⊥) → (log : List Event) → In e (rings m log) → In e log
+unfolding rings
+ring-back e zero other log h = h
+ring-back e (suc m) other log (inl q) = absurd (other (suc m) q)
+ring-back e (suc m) other log (inr h) = ring-back e m other log h
+
 ring-low : (m k : ℕ) (log : List Event) → (In (Timeout k) log → ⊥) → In (Timeout k) (rings m log) → k ≤ m
 unfolding rings
 ring-low zero k log none e = absurd (none e)
@@ -91,6 +102,9 @@ module _ (n f : ℕ) where
   rows-keep : (e : Event) (kind : Kind) (log : List Event) → In e log → In e (rows kind n log)
   rows-keep e kind log = rows-all (In e) kind (λ i j a b c d r l m. inr m) n (omega arith) log
 
+  rows-back : (e : Event) (kind : Kind) → ((i j : ℕ) → e ≡ Deliver i j kind → ⊥) → (log : List Event) → In e (rows kind n log) → In e log
+  rows-back e kind other log = rows-all (λ l. In e l → In e log) kind (λ i j a b c d r l h m. elim m [ inl q ↦ absurd (other i j q) | inr x ↦ h x ]) n (omega arith) log (λ m. m)
+
   row-in : (kind : Kind) (i m j : ℕ) (log : List Event) → 1 ≤ j → j ≤ m → route f kind i j ≡ true → In (Deliver i j kind) (row kind i m log)
   unfolding row
   row-in kind i zero j log a b r = absurd (omega arith)
@@ -113,3 +127,81 @@ module _ (n f : ℕ) where
 
   unfoldable pub acked : (ℕ → Bool) → List Event
   acked w = rows Ack n (rings (suc f) (voted w))
+
+  one-more : (log : List Event) (e : Event) → VotesIn n f log → VotesIn n f (e ∷ log)
+  one-more log e = votes-more n f (e ∷ log) log [] e refl
+
+  module _ (w : ℕ → Bool) where
+    voted-votes : VotesIn n f (voted w)
+    unfolding voted route
+    voted-votes = record {
+      votes = λ k a b. record { willing = w k; target = 0; entry = rows-keep _ Vote (casts w n) (cast-in w n k a b) };
+      sent = λ i j a b c d r. rows-in Vote n i j (casts w n) (omega arith) a b c d r;
+    }
+
+    voted-calm : (k : ℕ) → In (Timeout k) (voted w) → ⊥
+    unfolding voted
+    voted-calm k e = cast-calm w n k (rows-back _ Vote away _ e)
+      where
+        away : (i j : ℕ) → Timeout k ≡ Deliver i j Vote → ⊥
+        away i j q = let z : _≡_ {A = ℕ} 0 1 = cc in differ z
+
+    ring-votes : (m : ℕ) → VotesIn n f (rings m (voted w))
+    unfolding rings
+    ring-votes zero = voted-votes
+    ring-votes (suc m) = one-more _ _ (ring-votes m)
+
+    cast-clean : (m : ℕ) → Clean n f (casts w m)
+    unfolding casts
+    cast-clean zero = tt
+    cast-clean (suc m) = (cast-clean m, tt)
+
+    -- deliveries leave the log clean; so does a timeout that is not a second one, once the votes are in
+    rows-clean : (kind : Kind) (log : List Event) → Clean n f log → Clean n f (rows kind n log)
+    rows-clean kind = rows-all (Clean n f) kind (λ i j a b c d r l h. (h, tt)) n (omega arith)
+
+    ring-clean : (m : ℕ) → m ≤ suc f → Clean n f (rings m (voted w))
+    unfolding rings
+    ring-clean zero h = unfold voted in rows-clean Vote (casts w n) (cast-clean n)
+    ring-clean (suc m) h = (ring-clean m (omega arith), (ring-votes m, λ s. absurd (first s)))
+      where
+        first : Second n f (suc m) (rings m (voted w)) → ⊥
+        first (inl x) = omega arith
+        first (inr e) = let z : suc m ≤ m = ring-low m (suc m) (voted w) (voted-calm (suc m)) e in omega arith
+
+    acked-acks : AcksIn n f (acked w)
+    unfolding acked route
+    acked-acks = record { sent = λ i j a b c d r. rows-in Ack n i j (rings (suc f) (voted w)) (omega arith) a b c d r }
+
+    acked-votes : VotesIn n f (acked w)
+    unfolding acked
+    acked-votes = rows-all (VotesIn n f) Ack (λ i j a b c d r l. one-more l _) n (omega arith) _ (ring-votes (suc f))
+
+    -- the timeout of any controller is now a second one, and the log is clean with it
+    pub acked-second : (i : ℕ) → 1 ≤ i → Second n f i (acked w)
+    unfolding acked
+    acked-second i a = elim (decLe i (suc f)) [
+      | yes h ↦ inr (rows-keep (Timeout i) Ack _ (ring-in (suc f) i (voted w) a h))
+      | no h ↦ inl (omega arith)
+    ]
+
+    pub acked-clean : (i : ℕ) → Clean n f (Timeout i ∷ acked w)
+    acked-clean i = (clean, (acked-votes, λ s. acked-acks))
+      where
+        clean : Clean n f (acked w)
+        clean = unfold acked in rows-clean Ack _ (ring-clean (suc f) (omega arith))
+
+    -- the votes in it are those of w
+    pub acked-cast : (k : ℕ) → 1 ≤ k → k ≤ n → In (Cast k (w k) 0) (acked w)
+    unfolding acked voted
+    acked-cast k a b = rows-keep _ Ack _ (ring-keep _ (suc f) _ (rows-keep _ Vote _ (cast-in w n k a b)))
+
+    pub acked-as : (k : ℕ) (x : Bool) (t : ℕ) → In (Cast k x t) (acked w) → x ≡ w k
+    unfolding acked voted
+    acked-as k x t e = cast-as w n k x t (rows-back _ Vote (away Vote) _ (ring-back _ (suc f) rung _ (rows-back _ Ack (away Ack) _ e)))
+      where
+        away : (kind : Kind) (i j : ℕ) → Cast k x t ≡ Deliver i j kind → ⊥
+        away kind i j q = let z : _≡_ {A = ℕ} 0 1 = cc in differ z
+
+        rung : (i : ℕ) → Cast k x t ≡ Timeout i → ⊥
+        rung i q = let z : _≡_ {A = ℕ} 0 1 = cc in differ z
