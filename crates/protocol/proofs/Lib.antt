@@ -26,3 +26,5 @@ pub mod Numbers
 pub mod Theorem
 pub mod CleanMoments
 pub mod CleanSchedule
+pub mod CleanAble
+pub mod CleanReached
