@@ -28,3 +28,4 @@ pub mod CleanMoments
 pub mod CleanSchedule
 pub mod CleanAble
 pub mod CleanReached
+pub mod CleanExists
