@@ -1,24 +1,22 @@
 -- What the questions need to know of a controller while a clean order goes its way: it runs, its phase, and what it has sent by then.
 -- Votes, deliveries and first timeouts keep this up.
-use Prim.Native.Nat.{ℕ, suc, _≤_, _<_}
-use mathlib.Core.Path.{_≡_, refl, sym, _∙_, ap}
+use Prim.Native.Nat.{ℕ, suc, _≤_}
+use mathlib.Core.Path.{_≡_, refl, _∙_, ap}
 use mathlib.Core.Bool.{Bool, true, false, not, cond, _&&_, _||_, false≢true}
 use native.Mathlib.Omega.{arith}
 use lib.Dec.{eqb, leb}
 use lib.Bits.{bitOr}
-use Rattle.votes.specs.Tests.{_⊎_, inl, inr, no-both, split, by-cond, and-l, and-r, or-e, or-r, leb-le, le-leb, eqb-eq, eq-eqb}
-use Rattle.votes.specs.Mask.{has, collect}
+use Rattle.votes.specs.Tests.{inl, inr, no-both, split, by-cond, and-l, and-r, or-e, or-r, leb-le, le-leb, eqb-eq, eq-eqb}
+use Rattle.votes.specs.Mask.{has}
 use Rattle.votes.specs.MaskLaws.{has-or}
 use Rattle.votes.specs.Collect.{collect-at}
-use Rattle.votes.specs.Update.{upd, upd-same, upd-other}
+use Rattle.votes.specs.Update.{upd-same, upd-other}
 use Rattle.votes.specs.declared.VoteSet.{VoteSet}
 use Rattle.model.specs.Ranges.{limit, member, reachable}
 use Rattle.model.specs.Routes.{voteRoute, ackRoute, helpRoute, route, recipients}
 use Rattle.model.specs.declared.Kind.{Kind}
 use Rattle.model.specs.declared.Kind.the-variants.{Vote, Ack, Help, Helped}
-use Rattle.model.specs.declared.Event.{Event}
 use Rattle.model.specs.declared.Event.the-variants.{Cast, Deliver, Timeout}
-use Rattle.protocol.specs.declared.Condition.{Condition}
 use Rattle.protocol.specs.declared.Controller.{Controller}
 use Rattle.protocol.specs.declared.Answer.{Answer}
 use Rattle.protocol.specs.declared.Sent.{Sent}

@@ -1,19 +1,17 @@
 -- The claim is not hollow: clean orders exist, and demand 3 gives their outcomes. No run is computed.
 use Prim.Native.Nat.{ℕ, _≤_}
-use mathlib.Core.Path.{_≡_, refl, sym, subst, subst₂}
+use mathlib.Core.Path.{_≡_, sym, subst, subst₂}
 use mathlib.Core.Bool.{Bool, true, false}
 use mathlib.Core.List.{List, [], _∷_, _++_}
-use native.Mathlib.Omega.{arith}
 use Rattle.model.specs.Ranges.{sizes}
-use Rattle.model.specs.declared.Outcome.the-variants.{Stay, Move}
 use Rattle.model.specs.declared.Event.{Event}
 use Rattle.model.specs.declared.Event.the-variants.{Cast, Timeout}
-use Rattle.protocol.specs.Claim.{after, InOrder, Holds, SecondBell, Clean, AllWilling, OneUnwilling, Demand3}
+use Rattle.protocol.specs.Claim.{after, InOrder, SecondBell, Clean, AllWilling, OneUnwilling}
 use Rattle.protocol.specs.NotHollow.{CleanList, MoveList, StayList, NotHollow}
 use Rattle.protocol.proofs.CleanLog.{In, Second}
 use Rattle.protocol.proofs.CleanLog as steps
 use Rattle.protocol.proofs.CleanSteps.{log-second}
-use Rattle.protocol.proofs.Moments.{logAt, in-order, in-log}
+use Rattle.protocol.proofs.Moments.{in-order, in-log}
 use Rattle.protocol.proofs.CleanMoments.{clean-order}
 use Rattle.protocol.proofs.CleanSchedule.{acked, acked-second, acked-clean, acked-cast, acked-as}
 use Rattle.protocol.proofs.CleanReached.{Reached, ack-all, bell-accepted, log-one}

@@ -1,10 +1,9 @@
 -- The way back from CleanSteps.antt: where the log is clean step by step, the order is clean as the statement has it.
-use Prim.Native.Nat.{ℕ, _≤_}
-use mathlib.Core.Path.{_≡_, subst}
+use Prim.Native.Nat.{ℕ}
+use mathlib.Core.Path.{subst}
 use mathlib.Core.List.{List, [], _∷_, _++_}
-use Rattle.votes.specs.Tests.{_⊎_, inl, inr}
 use Rattle.model.specs.declared.Event.{Event}
-use Rattle.model.specs.declared.Event.the-variants.{Cast, Deliver, Timeout, Stop}
+use Rattle.model.specs.declared.Event.the-variants.{Timeout, Stop}
 use Rattle.protocol.specs.Claim.{InOrder}
 use Rattle.protocol.specs.Claim as claim
 use Rattle.protocol.proofs.CleanLog.{Voted, VotesIn, AcksIn, CleanStep, Clean}

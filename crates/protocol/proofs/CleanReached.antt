@@ -1,30 +1,26 @@
 -- The bench is brought through a clean order, event by event: each is accepted and enters the log.
-use Prim.Native.Nat.{ℕ, zero, suc, _+_, _≤_, _<_}
+use Prim.Native.Nat.{ℕ, zero, suc, _≤_, _<_}
 use mathlib.Core.Path.{_≡_, refl, sym, _∙_, ap, subst}
-use mathlib.Core.Bool.{Bool, true, false, cond, _||_, false≢true}
+use mathlib.Core.Bool.{Bool, true, false, cond, false≢true}
 use mathlib.Core.List.{List, [], _∷_, _++_}
 use native.Mathlib.Omega.{arith}
-use native.Mathlib.Decide.{decLe}
-use lib.Dec.{eqb, leb}
+use lib.Dec.{leb}
 use lib.ListN.{replicate}
 use borrow.Author.Tests.{lt-leb}
-use Rattle.votes.specs.Tests.{_⊎_, inl, inr, by-cond, same-test, leb-le, le-leb}
+use Rattle.votes.specs.Tests.{by-cond, same-test, leb-le, le-leb}
 use Rattle.votes.specs.VoteSets.{empty}
-use Rattle.model.specs.Ranges.{limit, sizes}
-use Rattle.model.specs.Routes.{route}
+use Rattle.model.specs.Ranges.{sizes}
 use Rattle.model.specs.declared.Kind.{Kind}
 use Rattle.model.specs.declared.Kind.the-variants.{Vote, Ack, Help, Helped}
 use Rattle.model.specs.declared.Outcome.the-variants.{None}
 use Rattle.model.specs.declared.Event.{Event}
 use Rattle.model.specs.declared.Event.the-variants.{Lock, Order, Cast, Deliver, Timeout}
-use Rattle.protocol.specs.declared.Sent.{Sent}
 use Rattle.protocol.specs.declared.Station.{Station}
-use Rattle.protocol.specs.declared.Controller.{Controller}
 use Rattle.protocol.specs.declared.Bench.{Bench}
 use Rattle.protocol.specs.Controllers.{isRunning, phaseIn, inPhase, cleared}
 use Rattle.protocol.specs.Calls.{renew}
 use Rattle.protocol.specs.Benches.{fresh, freshStation, benchOf, newBench, station}
-use Rattle.protocol.specs.Questions.{accepted, isAccepted, unless, firstNo, reply}
+use Rattle.protocol.specs.Questions.{isAccepted, unless, firstNo, reply}
 use Rattle.protocol.specs.Steps.{opened, perform, step, run}
 use Rattle.protocol.specs.Claim.{after, Accepted}
 use Rattle.protocol.proofs.View.{View, openedV, accepts, performV, stepV}
@@ -33,7 +29,7 @@ use Rattle.protocol.proofs.Moments.{is-accepted, accepted-is, push, log
 use Rattle.protocol.proofs.Simulation.{view, Sound, Ranges, ranges, Steps, step-steps, reply-sim, step-sim}
 use Rattle.protocol.proofs.Start.{all-of-copies, lock-sound}
 use Rattle.protocol.proofs.CleanSchedule.{casts, rings, rows, rows-all, voted, acked}
-use Rattle.protocol.proofs.CleanAble.{due, begun, Able, Going, ElseSame, vote-accepted, vote-going, deliver-accepted, deliver-going, timeout-accepted, first-going}
+use Rattle.protocol.proofs.CleanAble.{due, begun, Going, ElseSame, vote-accepted, vote-going, deliver-accepted, deliver-going, timeout-accepted, first-going}
 
 -- an accepted event that enters the log
 pub log-one : (es : List Event) (e : Event) → Enters e → Accepted es e → logAt (es ++ (e ∷ [])) ≡ (e ∷ logAt es)

@@ -1,18 +1,18 @@
 -- A clean order, as the log of its accepted events, newest first: all vote, every vote telegram is delivered, 1 to f + 1 have their first
 -- timeout, every acknowledgement is delivered. Then the timeout of any controller is a second one, and the log with it is clean.
-use Prim.Native.Nat.{ℕ, zero, suc, _+_, _≤_, _<_}
+use Prim.Native.Nat.{ℕ, zero, suc, _≤_}
 use mathlib.Core.Path.{_≡_, refl, sym, _∙_, ap}
-use mathlib.Core.Bool.{Bool, true, false, cond}
+use mathlib.Core.Bool.{Bool, true, cond}
 use mathlib.Core.List.{List, [], _∷_}
 use native.Mathlib.Omega.{arith}
 use native.Mathlib.Decide.{decLe, ℕ-discrete}
-use Rattle.votes.specs.Tests.{_⊎_, inl, inr, no-both, by-cond}
+use Rattle.votes.specs.Tests.{inl, inr, no-both, by-cond}
 use Rattle.model.specs.Routes.{route}
 use Rattle.model.specs.declared.Kind.{Kind}
 use Rattle.model.specs.declared.Kind.the-variants.{Vote, Ack}
 use Rattle.model.specs.declared.Event.{Event}
 use Rattle.model.specs.declared.Event.the-variants.{Cast, Deliver, Timeout}
-use Rattle.protocol.proofs.CleanLog.{In, VotesIn, AcksIn, Second, CleanStep, Clean}
+use Rattle.protocol.proofs.CleanLog.{In, VotesIn, AcksIn, Second, Clean}
 use Rattle.protocol.proofs.CleanSteps.{votes-more}
 
 differ : {X : Type 0} → _≡_ {A = ℕ} 0 1 → X
