@@ -14,7 +14,8 @@ use Rattle.protocol.proofs.CleanSteps.{log-second}
 use Rattle.protocol.proofs.Moments.{in-order, in-log}
 use Rattle.protocol.proofs.CleanMoments.{clean-order}
 use Rattle.protocol.proofs.CleanSchedule.{acked, acked-second, acked-clean, acked-cast, acked-as}
-use Rattle.protocol.proofs.CleanReached.{Reached, ack-all, bell-accepted, log-one}
+use Rattle.protocol.proofs.CleanReached.{Reached, log-one}
+use Rattle.protocol.proofs.CleanRun.{ack-all, bell-accepted}
 use Rattle.protocol.proofs.Theorem.{demand-3}
 
 -- demand 3 at a list of a known n and f

@@ -1,13 +1,11 @@
--- The bench is brought through a clean order, event by event: each is accepted and enters the log.
-use Prim.Native.Nat.{ℕ, zero, suc, _≤_, _<_}
+-- A moment of a clean order that the bench can be brought to, by its log and the controllers' phases; and from one to the next.
+use Prim.Native.Nat.{ℕ, _≤_}
 use mathlib.Core.Path.{_≡_, refl, sym, _∙_, ap, subst}
-use mathlib.Core.Bool.{Bool, true, false, cond, false≢true}
+use mathlib.Core.Bool.{Bool, true, false≢true}
 use mathlib.Core.List.{List, [], _∷_, _++_}
 use native.Mathlib.Omega.{arith}
-use lib.Dec.{leb}
 use lib.ListN.{replicate}
-use borrow.Author.Tests.{lt-leb}
-use Rattle.votes.specs.Tests.{by-cond, same-test, leb-le, le-leb}
+use Rattle.votes.specs.Tests.{by-cond}
 use Rattle.votes.specs.VoteSets.{empty}
 use Rattle.model.specs.Ranges.{sizes}
 use Rattle.model.specs.declared.Kind.{Kind}
@@ -28,26 +26,13 @@ use Rattle.protocol.proofs.CleanLog.{entered}
 use Rattle.protocol.proofs.Moments.{is-accepted, accepted-is, push, logOf, logAt, Enters, entry-of, run-append, run-one, log-append}
 use Rattle.protocol.proofs.Simulation.{view, Sound, Ranges, ranges, Steps, step-steps, reply-sim, step-sim}
 use Rattle.protocol.proofs.Start.{all-of-copies, lock-sound}
-use Rattle.protocol.proofs.CleanSchedule.{casts, rings, rows, rows-all, voted, acked}
+use Rattle.protocol.proofs.CleanLoops.{rows, rows-all}
 use Rattle.protocol.proofs.CleanAble.{due, begun, Going, ElseSame, vote-accepted, vote-going, deliver-accepted, deliver-going, timeout-accepted, first-going}
 
 -- an accepted event that enters the log
 pub log-one : (es : List Event) (e : Event) → Enters e → Accepted es e → logAt (es ++ (e ∷ [])) ≡ (e ∷ logAt es)
 unfolding logOf push
 log-one es e u a = log-append es (e ∷ []) newBench [] ∙ rw (accepted-is _ a) (entry-of (after es) e u .adds (logAt es))
-
--- x up to m, y beyond
-abbrev upTo : ℕ → (ℕ → ℕ) → (ℕ → ℕ) → ℕ → ℕ
-upTo m x y k = cond (leb k m) (x k) (y k)
-
-low-is : (m k : ℕ) (x y : ℕ → ℕ) → k ≤ m → upTo m x y k ≡ x k
-low-is m k x y h = rw (le-leb k m h)
-
-high-is : (m k : ℕ) (x y : ℕ → ℕ) → m < k → upTo m x y k ≡ y k
-high-is m k x y h = rw (lt-leb k m h)
-
-one-up : (m k : ℕ) (x y : ℕ → ℕ) → (k ≡ suc m → ⊥) → upTo (suc m) x y k ≡ upTo m x y k
-one-up m k x y d = rw (same-test (leb k (suc m)) (leb k m) (λ e. le-leb k m (let h : k ≤ suc m = leb-le k (suc m) e in omega arith)) (λ e. le-leb k (suc m) (let h : k ≤ m = leb-le k m e in omega arith)))
 
 module _ (n f : ℕ) (sized : sizes n f ≡ true) where
   range : Ranges n f
@@ -89,18 +74,18 @@ module _ (n f : ℕ) (sized : sizes n f ≡ true) where
           going = subst (λ (x : View). Going n f x p′) (sym (ap view w ∙ performs e q)) g;
         }
 
-    cast-next : (p′ : ℕ → ℕ) (k : ℕ) (w : Bool) → 1 ≤ k → k ≤ n → p k ≡ 0 → p′ k ≡ begun f k → ElseSame k p p′ → Reached (Cast k w 0 ∷ log) p′
+    pub cast-next : (p′ : ℕ → ℕ) (k : ℕ) (w : Bool) → 1 ≤ k → k ≤ n → p k ≡ 0 → p′ k ≡ begun f k → ElseSame k p p′ → Reached (Cast k w 0 ∷ log) p′
     cast-next p′ k w lo hi e e′ same = extend p′ (Cast k w 0) tt (vote-accepted n f v p (r .going) k w lo hi e) (vote-going n f v p (r .going) (range .small) p′ k w e′ same)
 
-    ring-next : (p′ : ℕ → ℕ) (k : ℕ) → 1 ≤ k → k ≤ n → p k ≡ 1 → p′ k ≡ 2 → ElseSame k p p′ → Reached (Timeout k ∷ log) p′
+    pub ring-next : (p′ : ℕ → ℕ) (k : ℕ) → 1 ≤ k → k ≤ n → p k ≡ 1 → p′ k ≡ 2 → ElseSame k p p′ → Reached (Timeout k ∷ log) p′
     ring-next p′ k lo hi e e′ same = extend p′ (Timeout k) tt (timeout-accepted n f v p (r .going) k lo hi (rw e)) (first-going n f v p (r .going) (range .small) p′ k lo hi e e′ same)
 
     -- phases named otherwise
-    renamed : (p′ : ℕ → ℕ) → ((k : ℕ) → 1 ≤ k → k ≤ n → p′ k ≡ p k) → Reached log p′
+    pub renamed : (p′ : ℕ → ℕ) → ((k : ℕ) → 1 ≤ k → k ≤ n → p′ k ≡ p k) → Reached log p′
     renamed p′ same = record { events = r .events; sound = r .sound; is-n = r .is-n; is-f = r .is-f; is-log = r .is-log; going = record { opened = r .going .opened; able = λ k lo hi. rw (same k lo hi) (r .going .able k lo hi) } }
 
   -- all telegrams of a kind
-  deliver-all : (kind : Kind) (log : List Event) (p : ℕ → ℕ) → ((i : ℕ) → 1 ≤ i → i ≤ n → due kind (p i) ≡ true) → Reached log p → Reached (rows n f kind n log) p
+  pub deliver-all : (kind : Kind) (log : List Event) (p : ℕ → ℕ) → ((i : ℕ) → 1 ≤ i → i ≤ n → due kind (p i) ≡ true) → Reached log p → Reached (rows n f kind n log) p
   deliver-all kind log p sent = rows-all n f (λ l. Reached l p) kind (λ i j a b c d e l r.
       extend r p (Deliver i j kind) tt (deliver-accepted n f _ p (r .going) kind i j a b c d (sent i a b) e) (deliver-going n f _ p (r .going) kind i j c d (sent i a b))) n (omega arith) log
 
@@ -136,7 +121,7 @@ module _ (n f : ℕ) (sized : sizes n f ≡ true) where
       none Help d = false≢true d
       none Helped d = false≢true d
 
-  start : Reached [] (λ k. 0)
+  pub start : Reached [] (λ k. 0)
   start = record {
     events = Lock n f ∷ Order 1 ∷ [];
     sound = subst Sound (sym begins) (s .sound);
@@ -151,49 +136,3 @@ module _ (n f : ℕ) (sized : sizes n f ≡ true) where
 
       silent : (b : Bench) (e : Event) → entered e [] ≡ [] → push b e [] ≡ []
       silent b e h = unfold push in by-cond (λ (l : List Event). l ≡ []) (isAccepted (reply b e)) (entered e []) [] (λ q. h) (λ q. refl)
-
-  abbrev casting : ℕ → ℕ → ℕ
-  casting m = upTo m (begun f) (λ k. 0)
-
-  abbrev ringing : ℕ → ℕ → ℕ
-  ringing m = upTo m (λ k. 2) (begun f)
-
-  cast-all : (w : ℕ → Bool) (m : ℕ) → m ≤ n → Reached (casts w m) (casting m)
-  unfolding casts
-  cast-all w zero h = renamed start (casting 0) (λ k lo hi. high-is 0 k (begun f) (λ x. 0) lo)
-  cast-all w (suc m) h = cast-next (cast-all w m (omega arith)) (casting (suc m)) (suc m) (w (suc m)) (omega arith) h
-      (high-is m (suc m) (begun f) (λ x. 0) (omega arith)) (low-is (suc m) (suc m) (begun f) (λ x. 0) (omega arith)) (λ k d. one-up m k (begun f) (λ x. 0) d)
-
-  begun-one : (k : ℕ) → k ≤ suc f → begun f k ≡ 1
-  begun-one k h = rw (le-leb k (suc f) h)
-
-  vote-all : (w : ℕ → Bool) → Reached (voted n f w) (ringing 0)
-  unfolding voted
-  vote-all w = renamed (deliver-all Vote (casts w n) (casting n) (λ i lo hi. rw (le-leb i n hi) (sent (leb i (suc f)))) (cast-all w n (omega arith))) (ringing 0)
-      (λ k lo hi. high-is 0 k (λ x. 2) (begun f) lo ∙ sym (low-is n k (begun f) (λ x. 0) hi))
-    where
-      sent : (t : Bool) → leb 1 (cond t 1 2) ≡ true
-      sent true = refl
-      sent false = refl
-
-  ring-all : (w : ℕ → Bool) (m : ℕ) → m ≤ suc f → Reached (rings m (voted n f w)) (ringing m)
-  unfolding rings
-  ring-all w zero h = vote-all w
-  ring-all w (suc m) h = ring-next (ring-all w m (omega arith)) (ringing (suc m)) (suc m) (omega arith) (let z : f < n = range .high in omega arith)
-      (high-is m (suc m) (λ x. 2) (begun f) (omega arith) ∙ begun-one (suc m) h) (low-is (suc m) (suc m) (λ x. 2) (begun f) (omega arith)) (λ k d. one-up m k (λ x. 2) (begun f) d)
-
-  -- all are in phase 2 then
-  both-two : (k : ℕ) → _≡_ {A = ℕ} 2 (ringing (suc f) k)
-  both-two k = same (leb k (suc f))
-    where
-      same : (t : Bool) → _≡_ {A = ℕ} 2 (cond t 2 (cond t 1 2))
-      same true = refl
-      same false = refl
-
-  pub ack-all : (w : ℕ → Bool) → Reached (acked n f w) (λ k. 2)
-  unfolding acked
-  ack-all w = deliver-all Ack _ (λ k. 2) (λ i lo hi. refl) (renamed (ring-all w (suc f) (omega arith)) (λ k. 2) (λ k lo hi. both-two k))
-
-  -- so any timeout is accepted
-  pub bell-accepted : (w : ℕ → Bool) (i : ℕ) → 1 ≤ i → i ≤ n → Accepted (ack-all w .events) (Timeout i)
-  bell-accepted w i lo hi = answers (ack-all w) (Timeout i) (timeout-accepted n f _ (λ k. 2) (ack-all w .going) i lo hi refl)

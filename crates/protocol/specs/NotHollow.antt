@@ -33,6 +33,7 @@ pub record StayList (n f i : ℕ) : Type 0 where
   pub unwilling : OneUnwilling (list .events)
   pub holds : Holds (list .events ++ (Timeout i ∷ [])) i Stay
 
+-- "n from 2 to 16; f from 1 to n − 1", and any controller i of 1 to n
 pub record NotHollow : Type 0 where
   pub moves : (n f i : ℕ) → sizes n f ≡ true → 1 ≤ i → i ≤ n → MoveList n f i
   pub stays : (n f i : ℕ) → sizes n f ≡ true → 1 ≤ i → i ≤ n → StayList n f i
