@@ -1,0 +1,3 @@
+mod Writing
+mod Digits
+mod Stations
