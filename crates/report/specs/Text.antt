@@ -45,6 +45,9 @@ lines (suc m) at = lines m at ++ at m
 abbrev pub answerLine : List ℕ → ℕ → List ℕ
 answerLine answers i = line (decimal i ∷ decimal (getD answers i 0) ∷ [])
 
+abbrev pub answerLines : List ℕ → List ℕ
+answerLines answers = lines (length answers) (answerLine answers)
+
 -- "outcome (M, S, -)"
 abbrev pub letter : Outcome → List ℕ
 letter None = ascii "-"
@@ -55,10 +58,13 @@ letter Move = ascii "M"
 abbrev pub controllerLine : Bench → ℕ → List ℕ
 controllerLine b k = line (ascii "C" ∷ decimal k ∷ decimal (shownStage b k) ∷ letter (shownOutcome b k) ∷ signed (shownPosition b k) ∷ [])
 
+abbrev pub controllerLines : Bench → List ℕ
+controllerLines b = lines (b .n) (λ i. controllerLine b (suc i))
+
 -- "Then T and the telegrams sent in this order, by kind."
 abbrev pub telegramLine : Bench → List ℕ
 telegramLine b = line (ascii "T" ∷ decimal (telegrams b Vote) ∷ decimal (telegrams b Ack) ∷ decimal (telegrams b Help) ∷ decimal (telegrams b Helped) ∷ [])
 
 -- The whole text. "With no lock there are no C lines": n is 0 then.
 unfoldable pub reportOf : List ℕ → Bench → List ℕ
-reportOf answers b = lines (length answers) (answerLine answers) ++ lines (b .n) (λ i. controllerLine b (suc i)) ++ telegramLine b
+reportOf answers b = answerLines answers ++ controllerLines b ++ telegramLine b

@@ -1,9 +1,9 @@
 // The lines of the report.
 ghost use mathlib.Core.Path.{_≡_};
 ghost use mathlib.Core.List.{_∷_, [], _++_};
-ghost use Prim.Native.Nat.{suc, _+_, _*_, _<_, _≤_, _^_};
-ghost use lib.ListN.{length, getD};
-ghost use Rattle.report.specs.Text.{ascii, decimal, signed, line, lines, letter, answerLine, controllerLine, telegramLine};
+ghost use Prim.Native.Nat.{_+_, _*_, _<_, _^_};
+ghost use lib.ListN.{length};
+ghost use Rattle.report.specs.Text.{ascii, decimal, line, letter, answerLines, controllerLines};
 ghost use Rattle.report.specs.Shown.{shownLine};
 ghost use Rattle.report.specs.Writing.{Put};
 use crate::shown::Shown;
@@ -57,4 +57,34 @@ fn put_controller(out: &mut [u8], at: usize, k: u32, s: Shown) -> usize
     let next = put_outcome(&mut *out, next, outcome);
     let next = put_position(&mut *out, next, s.position);
     put_byte(&mut *out, next, b'\n')
+}
+
+// A line for each answer, from the buffer's start.
+pub(crate) fn put_answers(out: &mut [u8], answers: &[u8]) -> usize
+    requires { ⌜ length (now answers) < 2 ^ 32 ⌝ }
+    ensures { λ r. ⌜ Put (now (out .entry)) (now (out .exit)) 0 r (answerLines (now (answers .entry))) (length (now (answers .entry)) * 22) ⌝ }
+{
+    let mut next: usize = 0;
+    let mut i: usize = 0;
+    while i < answers.len() {
+        next = put_answer(&mut *out, next, i as u32, answers[i]);
+        i += 1;
+    }
+    next
+}
+
+// A C line for each controller.
+pub(crate) fn put_controllers(out: &mut [u8], at: usize, b: Bench) -> usize
+    requires { ⌜ at + b .n * 38 < 2 ^ 64 ⌝ }
+    ensures { λ r. ⌜ Put (now (out .entry)) (now (out .exit)) at r (controllerLines b) (b .n * 38) ⌝ }
+{
+    let n = b.n as usize;
+    let mut next = at;
+    let mut i: usize = 0;
+    while i < n {
+        let s = shown_at(b, i);
+        next = put_controller(&mut *out, next, i as u32 + 1, s);
+        i += 1;
+    }
+    next
 }
