@@ -1,0 +1,15 @@
+-- `votes::mask::power` meets its contract: the shift loses nothing, since 2 to the 32 fits 64 bits.
+use Rattle.votes.proofs.Computed.{shifted}
+use native.Mathlib.Omega.{arith}
+use borrow.Author.Needs.{needs}
+use Rattle.votes.proofs.mask.power.Statement.{statement}
+use Rattle.votes.proofs.mask.power.Tie as tie
+
+shl-result : tie.Need-shl-result
+shl-result c = search needs
+
+returns : tie.Need-returns
+returns c = shifted 64 (c .args .n) (omega arith)
+
+pub power-spec : {M : Type 1} → statement M
+power-spec = tie.close (tie.spec shl-result returns)

@@ -1,0 +1,30 @@
+-- `votes::size` meets its contract: the count of the set bits is the count of the members.
+use lib.Pow.{pow-pos}
+use lib.Count.{ones-le}
+use Rattle.votes.specs.Sizes.{size-le}
+use Rattle.votes.proofs.Computed.{counted, counted-all}
+use native.Mathlib.Omega.{arith}
+use borrow.Author.Needs.{needs}
+use Rattle.votes.proofs.mask.size.Statement.{statement}
+use Rattle.votes.proofs.mask.size.Tie as tie
+
+cast-result : tie.Need-cast-result
+cast-result c = omega (arith, ones-le 32 (c .before .args .m) (c .before .fits .m .fits))
+
+returns : tie.Need-returns
+returns c = counted-all _ _ (c .before .fits .m .fits) (omega arith)
+
+power-requires : tie.Need-power-requires
+power-requires c κs = search needs
+
+sub-low : tie.Need-sub-low
+sub-low c = omega (arith, pow-pos (c .before .before .args .n))
+
+cast-result-2 : tie.Need-cast-result-2
+cast-result-2 c = omega (arith, counted (c .before .before .args .m) (c .before .before .args .n) (c .power .result) (c .power .ensures), size-le (c .before .before .args .n) (c .before .before .args .m))
+
+returns-2 : tie.Need-returns-2
+returns-2 c = counted _ _ _ (c .power .ensures)
+
+pub size-spec : {M : Type 1} → statement M
+size-spec = tie.close (tie.spec cast-result returns power-requires sub-low cast-result-2 returns-2)
