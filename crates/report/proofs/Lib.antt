@@ -1,3 +1,4 @@
 mod Writing
 mod Digits
 mod Stations
+mod Sums
