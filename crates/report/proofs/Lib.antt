@@ -2,3 +2,4 @@ mod Writing
 mod Digits
 mod Stations
 mod Sums
+mod Fitting

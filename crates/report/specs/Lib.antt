@@ -1,4 +1,5 @@
 pub mod Text
 pub mod Writing
+pub mod Report
 pub mod Listing
 pub mod Shown

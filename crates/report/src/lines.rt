@@ -3,15 +3,18 @@ ghost use mathlib.Core.Path.{_≡_};
 ghost use mathlib.Core.List.{_∷_, [], _++_};
 ghost use Prim.Native.Nat.{_+_, _*_, _<_, _^_};
 ghost use lib.ListN.{length};
-ghost use Rattle.report.specs.Text.{ascii, decimal, line, letter, answerLines, controllerLines};
+ghost use Rattle.protocol.specs.Display.{telegrams};
+ghost use Rattle.report.specs.Text.{ascii, decimal, line, letter, answerLines, controllerLines, telegramLine};
 ghost use Rattle.report.specs.Shown.{shownLine};
 ghost use Rattle.report.specs.Writing.{Put};
+use crate::counts::telegrams;
 use crate::shown::Shown;
 use crate::shown::shown_at;
 use crate::writer::put_byte;
 use crate::writer::put_field;
 use crate::writer::put_number;
 use crate::writer::put_position;
+use model::Kind;
 use model::Outcome;
 use protocol::Bench;
 
@@ -87,4 +90,25 @@ pub(crate) fn put_controllers(out: &mut [u8], at: usize, b: Bench) -> usize
         i += 1;
     }
     next
+}
+
+// A space and the number of telegrams of one kind.
+fn put_count(out: &mut [u8], at: usize, b: Bench, kind: Kind) -> usize
+    requires { ⌜ at + 11 < 2 ^ 64 ⌝ }
+    ensures { λ r. ⌜ Put (now (out .entry)) (now (out .exit)) at r (ascii " " ++ decimal (telegrams b kind)) 11 ⌝ }
+{
+    put_field(&mut *out, at, telegrams(b, kind))
+}
+
+// The T line.
+pub(crate) fn put_telegrams(out: &mut [u8], at: usize, b: Bench) -> usize
+    requires { ⌜ at + 46 < 2 ^ 64 ⌝ }
+    ensures { λ r. ⌜ Put (now (out .entry)) (now (out .exit)) at r (telegramLine b) 46 ⌝ }
+{
+    let next = put_byte(&mut *out, at, b'T');
+    let next = put_count(&mut *out, next, b, Kind::Vote);
+    let next = put_count(&mut *out, next, b, Kind::Ack);
+    let next = put_count(&mut *out, next, b, Kind::Help);
+    let next = put_count(&mut *out, next, b, Kind::Helped);
+    put_byte(&mut *out, next, b'\n')
 }
