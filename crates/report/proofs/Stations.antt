@@ -1,18 +1,15 @@
--- Beyond the bench's last station stands one that has just begun, and has sent nothing.
+-- Beyond the last of the bench's stations stands one that has just begun, and has sent nothing.
 use Prim.Native.Nat.{ℕ, suc, _≤_}
-use mathlib.Core.List.{[]}
+use mathlib.Core.List.{List, []}
 use mathlib.Core.Path.{_≡_, refl, sym, _∙_, ap}
 use lib.ListN.{length, List·getD-eq-default}
 use Rattle.votes.specs.VoteSets.{nth}
 use Rattle.model.specs.declared.Kind.{Kind}
 use Rattle.model.specs.declared.Kind.the-variants.{Vote, Ack, Help, Helped}
 use Rattle.protocol.specs.declared.Station.{Station}
-use Rattle.protocol.specs.declared.Bench.{Bench}
-use Rattle.protocol.specs.Benches.{station, freshStation, sentBy, unsentAll, ofKind}
-
-pub station-past : (b : Bench) (i : ℕ) → length (b .stations) ≤ i → station b (suc i) ≡ freshStation []
-unfolding station nth
-station-past b i h = List·getD-eq-default (b .stations) (freshStation []) h
+use Rattle.protocol.specs.Benches.{fresh, freshStation, unsentAll, ofKind}
+use Rattle.report.specs.Shown.{shownOf}
+use Rattle.model.specs.declared.Outcome.the-variants.{None}
 
 nothing-sent : (kind : Kind) → 0 ≡ (ofKind kind (freshStation [] .sent)) .to
 unfolding freshStation unsentAll
@@ -21,5 +18,14 @@ nothing-sent Ack = refl
 nothing-sent Help = refl
 nothing-sent Helped = refl
 
-pub sent-past : (b : Bench) (kind : Kind) (i : ℕ) → length (b .stations) ≤ i → 0 ≡ (ofKind kind (sentBy b (suc i))) .to
-sent-past b kind i h = nothing-sent kind ∙ ap (λ (s : Station). (ofKind kind (s .sent)) .to) (sym (station-past b i h))
+module _ (l : List Station) (i : ℕ) (h : length l ≤ i) where
+  past : nth (freshStation []) l (suc i) ≡ freshStation []
+  unfolding nth
+  past = List·getD-eq-default l (freshStation []) h
+
+  pub shown-past : record { stage = 0; outcome = None; position = 0 } ≡ shownOf (nth (freshStation []) l (suc i))
+  unfolding freshStation fresh
+  shown-past = ap shownOf (sym past)
+
+  pub sent-past : (kind : Kind) → 0 ≡ (ofKind kind ((nth (freshStation []) l (suc i)) .sent)) .to
+  sent-past kind = nothing-sent kind ∙ ap (λ (s : Station). (ofKind kind (s .sent)) .to) (sym past)

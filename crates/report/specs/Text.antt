@@ -17,10 +17,13 @@ abbrev pub ascii : String → List ℕ
 ascii «end» = []
 ascii (c then s) = code c ∷ ascii s
 
+abbrev pub digit : ℕ → ℕ
+digit d = code "0" + d
+
 -- a number below 10 ^ k in decimal digits
 unfoldable pub digits : ℕ → ℕ → List ℕ
 digits zero v = []
-digits (suc k) v = cond (ltb v 10) ((48 + v) ∷ []) (digits k (v / 10) ++ ((48 + v % 10) ∷ []))
+digits (suc k) v = cond (ltb v 10) (digit v ∷ []) (digits k (v / 10) ++ (digit (v % 10) ∷ []))
 
 -- a number of 32 bits has at most ten digits
 unfoldable pub decimal : ℕ → List ℕ

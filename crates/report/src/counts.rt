@@ -1,11 +1,14 @@
 // How many telegrams were sent in this order.
 ghost use mathlib.Core.Path.{_≡_};
+ghost use mathlib.Core.List.{[]};
 ghost use Prim.Native.Nat.{suc};
-ghost use Rattle.protocol.specs.Benches.{ofKind, sentBy};
+ghost use Rattle.votes.specs.VoteSets.{nth};
+ghost use Rattle.protocol.specs.Benches.{freshStation, ofKind};
 ghost use Rattle.protocol.specs.Display.{telegrams};
 use model::Kind;
 use protocol::Bench;
 use protocol::Sent;
+use protocol::Station;
 use votes::size;
 
 // To whom a controller has sent telegrams of this kind.
@@ -20,14 +23,14 @@ fn receivers(kind: Kind, sent: Sent) -> u32
     }
 }
 
-// The same of the controller at an index of the bench, which has 16.
-fn receivers_at(b: Bench, kind: Kind, i: usize) -> u32
-    ensures { λ r. ⌜ r ≡ (ofKind kind (sentBy b (suc i))) .to ⌝ }
+// The same of the controller at an index of the bench's stations; beyond the last there is none.
+fn receivers_at(stations: [Station; 16], kind: Kind, i: usize) -> u32
+    ensures { λ r. ⌜ r ≡ (ofKind kind ((nth (freshStation []) stations (suc i)) .sent)) .to ⌝ }
 {
     if 16 <= i {
         return 0;
     }
-    let s = b.stations[i];
+    let s = stations[i];
     let sent = s.sent;
     receivers(kind, sent)
 }
@@ -41,7 +44,8 @@ pub fn telegrams(b: Bench, kind: Kind) -> u32
     let mut total: u32 = 0;
     let mut i: usize = 0;
     while i < end {
-        total += size(receivers_at(b, kind, i), n) as u32;
+        let stations = b.stations;
+        total += size(receivers_at(stations, kind, i), n) as u32;
         i += 1;
     }
     total

@@ -17,13 +17,16 @@ mod writer;
 
 pub use counts::telegrams;
 
+// An index has 32 bits.
+const MOST_ANSWERS: usize = 0xFFFF_FFFF;
+
 // The report on the answers given and the bench as it stands: its length, its bytes at the front of the buffer. Where it does not fit
 // the buffer nothing is written, and the answer is 0.
 pub fn write_report(out: &mut [u8], answers: &[u8], b: Bench) -> usize
     ensures { λ r. ⌜ r ≡ writtenLength (now (out .entry)) (now (answers .entry)) b ⌝ }
     ensures { λ r. ⌜ now (out .exit) ≡ writtenBuffer (now (out .entry)) (now (answers .entry)) b ⌝ }
 {
-    if 0xFFFF_FFFF < answers.len() {
+    if MOST_ANSWERS < answers.len() {
         return 0;
     }
     if out.len() < measure(answers, b) {
@@ -32,7 +35,7 @@ pub fn write_report(out: &mut [u8], answers: &[u8], b: Bench) -> usize
     put_report(&mut *out, answers, b)
 }
 
-// The report's length.
+// The report's length: it is written where none of its bytes is kept.
 fn measure(answers: &[u8], b: Bench) -> usize
     requires { ⌜ length (now answers) < 2 ^ 32 ⌝ }
     ensures { λ r. ⌜ r ≡ length (reportOf (now (answers .entry)) b) ⌝ }

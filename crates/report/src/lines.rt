@@ -85,7 +85,8 @@ pub(crate) fn put_controllers(out: &mut [u8], at: usize, b: Bench) -> usize
     let mut next = at;
     let mut i: usize = 0;
     while i < n {
-        let s = shown_at(b, i);
+        let stations = b.stations;
+        let s = shown_at(stations, i);
         next = put_controller(&mut *out, next, i as u32 + 1, s);
         i += 1;
     }

@@ -1,10 +1,13 @@
 // What a C line shows of a controller.
 ghost use mathlib.Core.Path.{_≡_};
+ghost use mathlib.Core.List.{[]};
 ghost use Prim.Native.Nat.{suc};
+ghost use Rattle.votes.specs.VoteSets.{nth};
+ghost use Rattle.protocol.specs.Benches.{freshStation};
 ghost use Rattle.report.specs.Shown.{shownOf, shownIn};
 use model::Outcome;
-use protocol::Bench;
 use protocol::Condition;
+use protocol::Station;
 
 pub(crate) struct Shown {
     pub(crate) stage: u8,
@@ -38,9 +41,9 @@ fn shown_in(condition: Condition, position: u32) -> Shown
     }
 }
 
-// The controller at an index of the bench, which has 16; beyond them one that has just begun.
-pub(crate) fn shown_at(b: Bench, i: usize) -> Shown
-    ensures { λ r. ⌜ r ≡ shownOf b (suc i) ⌝ }
+// The controller at an index of the bench's stations; beyond the last, one that has just begun.
+pub(crate) fn shown_at(stations: [Station; 16], i: usize) -> Shown
+    ensures { λ r. ⌜ r ≡ shownOf (nth (freshStation []) stations (suc i)) ⌝ }
 {
     if 16 <= i {
         return Shown {
@@ -49,7 +52,7 @@ pub(crate) fn shown_at(b: Bench, i: usize) -> Shown
             position: 0,
         };
     }
-    let s = b.stations[i];
+    let s = stations[i];
     let c = s.controller;
     let condition = c.condition;
     let position = c.position;

@@ -22,10 +22,10 @@ pub(crate) fn put_number(out: &mut [u8], at: usize, v: u32) -> usize
     ensures { λ r. ⌜ Put (now (out .entry)) (now (out .exit)) at r (decimal v) 10 ⌝ }
 {
     if v < 10 {
-        return put_byte(&mut *out, at, 48 + v as u8);
+        return put_byte(&mut *out, at, b'0' + v as u8);
     }
     let next = put_number(&mut *out, at, v / 10);
-    put_byte(&mut *out, next, 48 + (v % 10) as u8)
+    put_byte(&mut *out, next, b'0' + (v % 10) as u8)
 }
 
 // A number in two's complement, with its sign.

@@ -1,15 +1,13 @@
+-- `report::counts::telegrams` meets its contract. The invariant: the total is the sum over the first i controllers, at most 255 for each.
 use Prim.Native.Nat.{_*_, _-_, _≤_}
 use mathlib.Core.Path.{_≡_, _∙_, ap}
 use native.Mathlib.Omega.{arith}
 use borrow.Author.Needs.{needs}
+use Rattle.protocol.specs.Benches.{station}
 use Rattle.protocol.specs.Display.{telegrams, sentCount, sumTo}
 use Rattle.report.proofs.Sums.{no-sum, more-sum}
 use Rattle.report.proofs.counts.telegrams.Statement.{statement}
 use Rattle.report.proofs.counts.telegrams.Tie as tie
-use Rattle.report.proofs.counts.telegrams.Reads as reads
-use Rattle.report.proofs.counts.telegrams.Lts as lts
-use Rattle.report.proofs.counts.receivers_at.Reads as receivers-at-reads
-use Rattle.votes.proofs.size.Reads as size-reads
 
 abbrev Inv-loop : tie.InvT-loop
 Inv-loop b kind n end total₀ i₀ total i = (i ≤ end) × ((total ≤ i * 255) × (total ≡ sumTo i (sentCount b kind)))
@@ -17,47 +15,37 @@ Inv-loop b kind n end total₀ i₀ total i = (i ≤ end) × ((total ≤ i * 255
 abbrev μ-loop : tie.MeasureT-loop
 μ-loop b kind n end total₀ i₀ total i = end - i
 
--- src/counts.rt:41:15
 cast-end : tie.Need-cast-end Inv-loop μ-loop
 cast-end c = search needs
 
--- src/counts.rt:44:5
 loop-holds : tie.Need-loop-holds Inv-loop μ-loop
 loop-holds c = (omega arith, (omega arith, no-sum _))
 
--- src/counts.rt:45:23
 receivers-at-requires : tie.Need-receivers-at-requires Inv-loop μ-loop
 receivers-at-requires c κs = search needs
 
--- src/counts.rt:45:18
 size-requires : tie.Need-size-requires Inv-loop μ-loop
 size-requires c κs = search needs
 
--- src/counts.rt:45:18
 cast-total : tie.Need-cast-total Inv-loop μ-loop
 cast-total c = search needs
 
--- src/counts.rt:45:9
 add-total : tie.Need-add-total Inv-loop μ-loop
 add-total c = search needs
 
--- src/counts.rt:46:9
 add-i : tie.Need-add-i Inv-loop μ-loop
 add-i c = search needs
 
--- src/counts.rt:44:5
 loop-less : tie.Need-loop-less Inv-loop μ-loop
 loop-less c = search needs
 
--- src/counts.rt:44:5
 loop-again : tie.Need-loop-again Inv-loop μ-loop
-unfolding sentCount
+unfolding sentCount station
 loop-again c =
-    let a = c .before .before .before .before .args in
-    let l = c .before .before .before .loop in
+    let a = c .before .before .before .before .before .args in
+    let l = c .before .before .before .before .loop in
     (omega arith, (omega arith, more-sum (sentCount (a .b) (a .kind)) (l .i) (l .total) (c .size .result) (l .inv .1 .1) (rw (← c .before .receivers-at .ensures) (c .size .ensures))))
 
--- src/counts.rt:37:1
 returns : tie.Need-returns Inv-loop μ-loop
 unfolding telegrams
 returns c =

@@ -1,16 +1,14 @@
+-- `report::lines::put_controllers` meets its contract. The invariant: the lines of the first i controllers are written.
 use Prim.Native.Nat.{suc, _≤_, _*_, _-_}
 use native.Mathlib.Numerals.{add-one}
 use native.Mathlib.Omega.{arith}
 use borrow.Author.Needs.{needs}
+use Rattle.protocol.specs.Benches.{station}
 use Rattle.report.specs.Text.{lines, controllerLine}
 use Rattle.report.specs.Writing.{Put}
 use Rattle.report.proofs.Writing.{put-none, put-line, put-lines, put-text, put-length}
 use Rattle.report.proofs.lines.put_controllers.Statement.{statement}
 use Rattle.report.proofs.lines.put_controllers.Tie as tie
-use Rattle.report.proofs.lines.put_controllers.Reads as reads
-use Rattle.report.proofs.lines.put_controllers.Lts as lts
-use Rattle.report.proofs.lines.put_controller.Reads as put-controller-reads
-use Rattle.report.proofs.shown.shown_at.Reads as shown-at-reads
 
 abbrev Inv-loop : tie.InvT-loop
 Inv-loop out₀ at b n next₀ i₀ out next i = (i ≤ n) × Put out₀ out at next (lines i (λ k. controllerLine b (suc k))) (i * 38)
@@ -18,52 +16,42 @@ Inv-loop out₀ at b n next₀ i₀ out next i = (i ≤ n) × Put out₀ out at 
 abbrev μ-loop : tie.MeasureT-loop
 μ-loop out₀ at b n next₀ i₀ out next i = n - i
 
--- src/lines.rt:81:13
 cast-n : tie.Need-cast-n Inv-loop μ-loop
 cast-n c = search needs
 
--- src/lines.rt:84:5
 loop-holds : tie.Need-loop-holds Inv-loop μ-loop
 loop-holds c = (omega arith, put-none _ _ 38 _)
 
--- src/lines.rt:85:13
 shown-at-requires : tie.Need-shown-at-requires Inv-loop μ-loop
 shown-at-requires c κs = search needs
 
--- src/lines.rt:86:48
 cast-put-controller : tie.Need-cast-put-controller Inv-loop μ-loop
 cast-put-controller c = search needs
 
--- src/lines.rt:86:48
 add-put-controller : tie.Need-add-put-controller Inv-loop μ-loop
 add-put-controller c = search needs
 
--- src/lines.rt:86:9
 put-controller-requires : tie.Need-put-controller-requires Inv-loop μ-loop
 put-controller-requires c κs = search needs
 
--- src/lines.rt:87:9
 add-i : tie.Need-add-i Inv-loop μ-loop
 add-i c = search needs
 
--- src/lines.rt:84:5
 loop-less : tie.Need-loop-less Inv-loop μ-loop
 loop-less c = search needs
 
--- src/lines.rt:84:5
 loop-again : tie.Need-loop-again Inv-loop μ-loop
+unfolding station
 loop-again c =
     let call = c .before .before in
-    let l = call .before .before .before .before .loop in
-    let b = call .before .before .before .before .before .before .before .args .b in
+    let l = call .before .before .before .before .before .loop in
+    let b = call .before .before .before .before .before .before .before .before .args .b in
     let shown = call .before .before .shown-at .ensures in
     (omega arith, put-line 38 (l .i) (λ k. controllerLine b (suc k)) (l .inv .1) (put-text (call .put-controller .ensures) (rw (add-one, shown))))
 
--- src/lines.rt:77:1
 same-length : tie.Need-same-length Inv-loop μ-loop
 same-length c = put-length (c .before .loop .inv .1)
 
--- src/lines.rt:77:1
 returns : tie.Need-returns Inv-loop μ-loop
 returns c =
     let l = c .before .loop in

@@ -1,31 +1,23 @@
-use borrow.Author.Tests.{le-leb, lt-leb, lt-ltb, le-ltb, eq-eqb, ne-eqb}
+-- `report::shown::shown_in` meets its contract.
 use borrow.Author.Needs.{needs}
 use Rattle.report.proofs.shown.shown_in.Statement.{statement}
 use Rattle.report.proofs.shown.shown_in.Tie as tie
-use Rattle.report.proofs.shown.shown_in.Reads as reads
-use Rattle.report.proofs.shown.shown_in.Lts as lts
 
--- src/shown.rt:21:28
 enum-known-condition : tie.Need-enum-known-condition
 enum-known-condition c = search needs
 
--- src/shown.rt:31:22
 enum-told : tie.Need-enum-told
 enum-told c = search needs
 
--- src/shown.rt:34:28
 enum-known-condition-2 : tie.Need-enum-known-condition-2
 enum-known-condition-2 c = search needs
 
--- src/shown.rt:17:1
 returns : tie.Need-returns
 returns c = simp (c .before .condition .given .1)
 
--- src/shown.rt:17:1
 returns-2 : tie.Need-returns-2
 returns-2 c = simp (c .enum-told .given .1)
 
--- src/shown.rt:17:1
 returns-3 : tie.Need-returns-3
 returns-3 c = simp (c .before .condition2 .given .1)
 

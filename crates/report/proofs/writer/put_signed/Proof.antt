@@ -1,49 +1,38 @@
+-- `report::writer::put_signed` meets its contract.
 use native.Mathlib.Omega.{arith}
 use borrow.Author.Needs.{needs}
+use Rattle.report.specs.Room.{signed-length}
 use Rattle.report.proofs.Writing.{put-as, put-then}
-use Rattle.report.proofs.Digits.{signed-plus, signed-minus, signed-length}
+use Rattle.report.proofs.Digits.{signed-plus, signed-minus}
 use Rattle.report.proofs.writer.put_signed.Statement.{statement}
 use Rattle.report.proofs.writer.put_signed.Tie as tie
-use Rattle.report.proofs.writer.put_signed.Reads as reads
-use Rattle.report.proofs.writer.put_signed.Lts as lts
-use Rattle.report.proofs.writer.put_byte.Reads as put-byte-reads
-use Rattle.report.proofs.writer.put_number.Reads as put-number-reads
 
--- src/writer.rt:37:9
 put-number-requires : tie.Need-put-number-requires
 put-number-requires c κs = search needs
 
--- src/writer.rt:37:9
 same-length : tie.Need-same-length
 same-length c = search needs
 
--- src/writer.rt:37:9
 returns : tie.Need-returns
 returns c =
     let a = c .before .before .before .before .before .before .args in
     put-as (c .before .before .put-number .ensures) (signed-plus (a .v) (c .before .before .before .before .if1 .taken)) (signed-length (a .v))
 
--- src/writer.rt:39:9
 put-byte-requires : tie.Need-put-byte-requires
 put-byte-requires c κs = search needs
 
--- src/writer.rt:40:33
 sub-put-number : tie.Need-sub-put-number
 sub-put-number c = search needs
 
--- src/writer.rt:40:33
 add-put-number : tie.Need-add-put-number
 add-put-number c = search needs
 
--- src/writer.rt:40:5
 put-number-requires-2 : tie.Need-put-number-requires-2
 put-number-requires-2 c κs = search needs
 
--- src/writer.rt:32:1
 same-length-2 : tie.Need-same-length-2
 same-length-2 c = search needs
 
--- src/writer.rt:32:1
 returns-2 : tie.Need-returns-2
 returns-2 c =
     let a = c .before .before .before .before .before .before .before .before .before .before .args in
