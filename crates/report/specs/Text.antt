@@ -61,10 +61,11 @@ letter Move = ascii "M"
 abbrev pub controllerLine : Bench → ℕ → List ℕ
 controllerLine b k = line (ascii "C" ∷ decimal k ∷ decimal (shownStage b k) ∷ letter (shownOutcome b k) ∷ signed (shownPosition b k) ∷ [])
 
+-- one for each of 1 to n. (A lock has n up to 16. In a value with a larger n, the numbers above 16 show a controller that has just begun.)
 abbrev pub controllerLines : Bench → List ℕ
 controllerLines b = lines (b .n) (λ i. controllerLine b (suc i))
 
--- "Then T and the telegrams sent in this order, by kind."
+-- "Then T and the telegrams sent in this order, by kind." (Before an order nothing was sent.)
 abbrev pub telegramLine : Bench → List ℕ
 telegramLine b = line (ascii "T" ∷ decimal (telegrams b Vote) ∷ decimal (telegrams b Ack) ∷ decimal (telegrams b Help) ∷ decimal (telegrams b Helped) ∷ [])
 
