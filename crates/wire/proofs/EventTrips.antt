@@ -19,8 +19,8 @@ use Rattle.wire.specs.Events.{fieldsIn, fieldsOf, recordOf, eventBytes, 
 use Rattle.wire.specs.declared.Fields.{Fields}
 use Rattle.wire.specs.declared.ReadEvent.{ReadEvent}
 use Rattle.wire.specs.declared.ReadEvent.the-variants.{Read, Refused}
-use Rattle.wire.proofs.ByteLaws.{four, of-two, of-four, places, spread}
-use Rattle.wire.proofs.CodeLaws.{kind-listed, kind-of-number, number-of-kind, flag-listed, flag-of-number, number-of-flag}
+use Rattle.wire.specs.ByteLaws.{four, of-two, of-four, places, spread}
+use Rattle.wire.specs.CodeLaws.{kind-listed, kind-of-number, number-of-kind, flag-listed, flag-of-number, number-of-flag}
 use Rattle.wire.proofs.Rows.{no-row}
 
 -- every event is in the table
