@@ -14,7 +14,8 @@ use Rattle.model.specs.declared.Checkpoint.{Checkpoint}
 use Rattle.wire.specs.Bytes.{byte, number2, number4, bytes2, bytes4, AllBytes}
 use Rattle.wire.specs.Codes.{isOutcome, outcomeOf}
 use Rattle.wire.specs.Marks.{checkpointMark, checkpointLength}
-use Rattle.checkpoint_wire.specs.Checkpoints.{checkpointIn, checkpointBytes, aboutCheckpoint, checkpointQuestions, answer, readCheckpoint}
+use Rattle.checkpoint_wire.specs.RoundTrip.{CheckpointRoundTrip}
+use Rattle.checkpoint_wire.specs.Checkpoints.{checkpointIn, checkpointBytes, aboutCheckpoint, checkpointQuestions, returned, readCheckpoint}
 use Rattle.checkpoint_wire.specs.declared.ReadCheckpoint.{ReadCheckpoint}
 use Rattle.checkpoint_wire.specs.declared.ReadCheckpoint.the-variants.{Read, Refused}
 use Rattle.wire.specs.ByteLaws.{four, of-two, of-four, places, spread}
@@ -48,7 +49,7 @@ checkpoint-read-back p o q passes =
     rw (all, back)
 
 -- a record was read only where each question was answered "yes"
-read-yes : (r : Reply) (x p : Checkpoint) → answer r x ≡ Read p → (r ≡ accepted) × (x ≡ p)
+pub read-yes : (r : Reply) (x p : Checkpoint) → returned r x ≡ Read p → (r ≡ accepted) × (x ≡ p)
 read-yes accepted x p q = (refl, cc)
 read-yes (refused k) x p q = let z : _≡_ {A = ℕ} 0 1 = cc in absurd (omega arith)
 
@@ -77,3 +78,6 @@ checkpoint-written-back s p all q =
     let yes : AllYes (checkpointQuestions s) = all-yes (checkpointQuestions s) (r .0) in
     ap checkpointBytes (sym (r .1))
     ∙ same-bytes s all (eqb-eq (length s) checkpointLength (yes .0)) (eqb-eq (number2 s 0) checkpointMark (yes .1 .0)) (yes .1 .1 .0)
+
+pub round-trip : CheckpointRoundTrip
+round-trip = record { reads-back = checkpoint-read-back; writes-back = checkpoint-written-back }

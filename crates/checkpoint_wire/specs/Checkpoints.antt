@@ -38,12 +38,17 @@ checkpointQuestions s =
     ∷ aboutCheckpoint (checkpointIn s)
 
 -- "A refused read returns the number and no record"
-abbrev pub answer : Reply → Checkpoint → ReadCheckpoint
-answer accepted p = Read p
-answer (refused q) p = Refused q
+abbrev pub returned : Reply → Checkpoint → ReadCheckpoint
+returned accepted p = Read p
+returned (refused q) p = Refused q
 
 unfoldable pub readCheckpoint : List ℕ → ReadCheckpoint
-readCheckpoint s = answer (firstNo (checkpointQuestions s)) (checkpointIn s)
+readCheckpoint s = returned (firstNo (checkpointQuestions s)) (checkpointIn s)
+
+-- document 01's number for the answer: 0 for a record
+abbrev pub answerOf : ReadCheckpoint → ℕ
+answerOf (Read p) = 0
+answerOf (Refused q) = q
 
 -- writing asks 1 of the buffer, and has no mark to ask 2 of; the outcome is a listed one
 unfoldable pub checkpointReply : List ℕ → Checkpoint → Reply
@@ -51,3 +56,10 @@ checkpointReply out p = firstNo (ask 1 (eqb (length out) checkpointLength) ∷ a
 
 unfoldable pub writeCheckpoint : List ℕ → Checkpoint → List ℕ
 writeCheckpoint out p = written (checkpointReply out p) (checkpointBytes p) out
+
+-- reading a record and writing it into a buffer: the questions of reading, then 1 of the buffer
+unfoldable pub copyReply : List ℕ → List ℕ → Reply
+copyReply s out = firstNo (checkpointQuestions s ++ (ask 1 (eqb (length out) checkpointLength) ∷ []))
+
+unfoldable pub copyCheckpoint : List ℕ → List ℕ → List ℕ
+copyCheckpoint s out = written (copyReply s out) s out

@@ -9,7 +9,7 @@ ghost use mathlib.Core.Path.{_≡_};
 ghost use lib.ListN.{length};
 ghost use Rattle.model.specs.Questions.{firstNo, number};
 ghost use Rattle.wire.specs.Marks.{checkpointLength};
-ghost use Rattle.checkpoint_wire.specs.Checkpoints.{checkpointIn, checkpointBytes, aboutCheckpoint, readCheckpoint, checkpointReply, writeCheckpoint};
+ghost use Rattle.checkpoint_wire.specs.Checkpoints.{checkpointIn, checkpointBytes, aboutCheckpoint, readCheckpoint, answerOf, checkpointReply, writeCheckpoint, copyReply, copyCheckpoint};
 
 // A record, or the number of the first question that was answered "no".
 pub enum ReadCheckpoint {
@@ -106,4 +106,25 @@ pub fn write_checkpoint(out: &mut [u8], p: Checkpoint) -> u8
     let record = checkpoint_bytes(p);
     bytes::copy(&record, out);
     0
+}
+
+// Document 01's number for a reader's answer: 0 for a record.
+pub fn answer_of(read: ReadCheckpoint) -> u8
+    ensures { λ r. ⌜ r ≡ answerOf read ⌝ }
+{
+    match read {
+        ReadCheckpoint::Read(_) => 0,
+        ReadCheckpoint::Refused(q) => q,
+    }
+}
+
+// Reads a record and writes it into a buffer, where it has the bytes that it had.
+pub fn copy_checkpoint(s: &[u8], out: &mut [u8]) -> u8
+    ensures { λ r. ⌜ (r ≡ number (copyReply (now (s .entry)) (now (out .entry)))) × (now (out .exit) ≡ copyCheckpoint (now (s .entry)) (now (out .entry))) ⌝ }
+{
+    let read = read_checkpoint(s);
+    let ReadCheckpoint::Read(p) = read else {
+        return answer_of(read);
+    };
+    write_checkpoint(out, p)
 }

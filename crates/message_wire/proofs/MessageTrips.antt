@@ -18,7 +18,8 @@ use Rattle.model.specs.declared.Message.{Message}
 use Rattle.wire.specs.Bytes.{byte, number2, number4, bytes2, bytes4, AllBytes}
 use Rattle.wire.specs.Codes.{isKind, kindOf, unused}
 use Rattle.wire.specs.Marks.{messageMark, messageLength}
-use Rattle.message_wire.specs.Messages.{messageIn, messageBytes, bitsInRange, willingKnown, knowsForKind, suits, aboutMessage, messageQuestions, answer, readMessage}
+use Rattle.message_wire.specs.RoundTrip.{MessageRoundTrip}
+use Rattle.message_wire.specs.Messages.{messageIn, messageBytes, bitsInRange, willingKnown, knowsForKind, suits, aboutMessage, messageQuestions, returned, readMessage}
 use Rattle.message_wire.specs.declared.ReadMessage.{ReadMessage}
 use Rattle.message_wire.specs.declared.ReadMessage.the-variants.{Read, Refused}
 use Rattle.wire.specs.ByteLaws.{two, four, of-two, of-four, places, spread}
@@ -78,7 +79,7 @@ message-read-back m o passes =
     rw (all, back)
 
 -- a record was read only where each question was answered "yes"
-read-yes : (r : Reply) (x m : Message) → answer r x ≡ Read m → (r ≡ accepted) × (x ≡ m)
+pub read-yes : (r : Reply) (x m : Message) → returned r x ≡ Read m → (r ≡ accepted) × (x ≡ m)
 read-yes accepted x m q = (refl, cc)
 read-yes (refused k) x m q = let z : _≡_ {A = ℕ} 0 1 = cc in absurd (omega arith)
 
@@ -113,3 +114,6 @@ message-written-back s m all q =
     ∙ same-bytes s all (eqb-eq (length s) messageLength (each .0)) (eqb-eq (number2 s 0) messageMark (each .1 .0))
     (and-l (isKind (byte s 2)) (unused (byte s 7)) (each .1 .1 .0))
     (eqb-eq (byte s 7) 0 (and-r (isKind (byte s 2)) (unused (byte s 7)) (each .1 .1 .0)))
+
+pub round-trip : MessageRoundTrip
+round-trip = record { reads-back = message-read-back; writes-back = message-written-back }

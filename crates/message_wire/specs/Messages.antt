@@ -78,12 +78,17 @@ messageQuestions s =
     ∷ aboutMessage (messageIn s)
 
 -- "A refused read returns the number and no record"
-abbrev pub answer : Reply → Message → ReadMessage
-answer accepted m = Read m
-answer (refused q) m = Refused q
+abbrev pub returned : Reply → Message → ReadMessage
+returned accepted m = Read m
+returned (refused q) m = Refused q
 
 unfoldable pub readMessage : List ℕ → ReadMessage
-readMessage s = answer (firstNo (messageQuestions s)) (messageIn s)
+readMessage s = returned (firstNo (messageQuestions s)) (messageIn s)
+
+-- document 01's number for the answer: 0 for a record
+abbrev pub answerOf : ReadMessage → ℕ
+answerOf (Read m) = 0
+answerOf (Refused q) = q
 
 -- writing asks 1 of the buffer, and has no mark to ask 2 of; the kind is a listed one
 unfoldable pub messageReply : List ℕ → Message → Reply
@@ -91,3 +96,10 @@ messageReply out m = firstNo (ask 1 (eqb (length out) messageLength) ∷ aboutMe
 
 unfoldable pub writeMessage : List ℕ → Message → List ℕ
 writeMessage out m = written (messageReply out m) (messageBytes m) out
+
+-- reading a record and writing it into a buffer: the questions of reading, then 1 of the buffer
+unfoldable pub copyReply : List ℕ → List ℕ → Reply
+copyReply s out = firstNo (messageQuestions s ++ (ask 1 (eqb (length out) messageLength) ∷ []))
+
+unfoldable pub copyMessage : List ℕ → List ℕ → List ℕ
+copyMessage s out = written (copyReply s out) s out

@@ -11,7 +11,7 @@ ghost use mathlib.Core.Path.{_≡_};
 ghost use lib.ListN.{length};
 ghost use Rattle.model.specs.Questions.{firstNo, number};
 ghost use Rattle.wire.specs.Marks.{messageLength};
-ghost use Rattle.message_wire.specs.Messages.{messageIn, messageBytes, endsInRange, bitsInRange, knowsForKind, suits, aboutMessage, readMessage, messageReply, writeMessage};
+ghost use Rattle.message_wire.specs.Messages.{messageIn, messageBytes, endsInRange, bitsInRange, knowsForKind, suits, aboutMessage, readMessage, answerOf, messageReply, writeMessage, copyReply, copyMessage};
 
 // A record, or the number of the first question that was answered "no".
 pub enum ReadMessage {
@@ -169,4 +169,25 @@ pub fn write_message(out: &mut [u8], m: Message) -> u8
     let record = message_bytes(m);
     bytes::copy(&record, out);
     0
+}
+
+// Document 01's number for a reader's answer: 0 for a record.
+pub fn answer_of(read: ReadMessage) -> u8
+    ensures { λ r. ⌜ r ≡ answerOf read ⌝ }
+{
+    match read {
+        ReadMessage::Read(_) => 0,
+        ReadMessage::Refused(q) => q,
+    }
+}
+
+// Reads a record and writes it into a buffer, where it has the bytes that it had.
+pub fn copy_message(s: &[u8], out: &mut [u8]) -> u8
+    ensures { λ r. ⌜ (r ≡ number (copyReply (now (s .entry)) (now (out .entry)))) × (now (out .exit) ≡ copyMessage (now (s .entry)) (now (out .entry))) ⌝ }
+{
+    let read = read_message(s);
+    let ReadMessage::Read(m) = read else {
+        return answer_of(read);
+    };
+    write_message(out, m)
 }

@@ -5,3 +5,4 @@ pub mod CodeLaws
 pub mod Marks
 pub mod Writing
 pub mod Events
+pub mod RoundTrip

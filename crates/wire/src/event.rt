@@ -17,7 +17,7 @@ ghost use lib.ListN.{length};
 ghost use Rattle.model.specs.Questions.{number};
 ghost use Rattle.wire.specs.Codes.{isKind, isFlag, unused};
 ghost use Rattle.wire.specs.Marks.{eventLength};
-ghost use Rattle.wire.specs.Events.{fieldsIn, fieldsOf, eventBytes, rowFor, readEvent, eventReply, writeEvent};
+ghost use Rattle.wire.specs.Events.{fieldsIn, fieldsOf, eventBytes, rowFor, readEvent, answerOf, eventReply, writeEvent, copyReply, copyEvent};
 
 // The fields as they stand on the record.
 fn fields_in(s: &[u8]) -> Fields
@@ -185,4 +185,25 @@ pub fn write_event(out: &mut [u8], e: Event) -> u8
     let record = event_bytes(e);
     bytes::copy(&record, out);
     0
+}
+
+// Document 01's number for a reader's answer: 0 for a record.
+pub fn answer_of(read: ReadEvent) -> u8
+    ensures { λ r. ⌜ r ≡ answerOf read ⌝ }
+{
+    match read {
+        ReadEvent::Read(_) => 0,
+        ReadEvent::Refused(q) => q,
+    }
+}
+
+// Reads a record and writes it into a buffer, where it has the bytes that it had.
+pub fn copy_event(s: &[u8], out: &mut [u8]) -> u8
+    ensures { λ r. ⌜ (r ≡ number (copyReply (now (s .entry)) (now (out .entry)))) × (now (out .exit) ≡ copyEvent (now (s .entry)) (now (out .entry))) ⌝ }
+{
+    let read = read_event(s);
+    let ReadEvent::Read(e) = read else {
+        return answer_of(read);
+    };
+    write_event(out, e)
 }

@@ -12,6 +12,8 @@ pub use codes::is_kind;
 pub use codes::is_outcome;
 pub use codes::kind_of;
 pub use codes::outcome_of;
+pub use event::answer_of;
+pub use event::copy_event;
 pub use event::fields_of;
 pub use event::read_event;
 pub use event::write_event;
