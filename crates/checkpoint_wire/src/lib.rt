@@ -99,9 +99,9 @@ pub fn write_checkpoint(out: &mut [u8], p: Checkpoint) -> u8
     if out.len() != Checkpoint::LENGTH {
         return 1;
     }
-    let q = question(p);
-    if q != 0 {
-        return q;
+    let no = question(p);
+    if no != 0 {
+        return no;
     }
     let record = checkpoint_bytes(p);
     bytes::copy(&record, out);

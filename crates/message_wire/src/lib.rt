@@ -162,9 +162,9 @@ pub fn write_message(out: &mut [u8], m: Message) -> u8
     if out.len() != Message::LENGTH {
         return 1;
     }
-    let q = question(m);
-    if q != 0 {
-        return q;
+    let no = question(m);
+    if no != 0 {
+        return no;
     }
     let record = message_bytes(m);
     bytes::copy(&record, out);
