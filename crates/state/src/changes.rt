@@ -137,7 +137,7 @@ pub fn await_help(c: Controller) -> Controller
 pub fn propose(c: Controller, proposal: Outcome) -> Controller
     ensures { λ r. ⌜ r ≡ propose c proposal ⌝ }
 {
-    let condition = c.condition;
+    let held = c.condition;
     let votes = c.votes;
     let acks = c.acks;
     let cnt = c.cnt;
@@ -145,7 +145,7 @@ pub fn propose(c: Controller, proposal: Outcome) -> Controller
     let cnt_help = c.cnt_help;
     let help = c.help;
     Controller {
-        condition,
+        condition: held,
         votes,
         acks,
         acks_from: c.acks_from,
