@@ -1,17 +1,18 @@
 -- `report::lines::put_answer` meets its contract.
+use native.Mathlib.Omega.{arith}
 use borrow.Author.Needs.{needs}
 use Rattle.report.proofs.Writing.{put-then}
 use Rattle.report.proofs.lines.put_answer.Statement.{statement}
 use Rattle.report.proofs.lines.put_answer.Tie as tie
 
 put-number-requires : tie.Need-put-number-requires
-put-number-requires c κs = search needs
+put-number-requires c κs = omega arith
 
 put-field-requires : tie.Need-put-field-requires
-put-field-requires c κs = search needs
+put-field-requires c κs = omega arith
 
 put-byte-requires : tie.Need-put-byte-requires
-put-byte-requires c κs = search needs
+put-byte-requires c κs = omega arith
 
 same-length : tie.Need-same-length
 same-length c = search needs
