@@ -1,7 +1,7 @@
 -- `report::lines::put_controller` meets its contract.
 use native.Mathlib.Omega.{arith}
 use borrow.Author.Needs.{needs}
-use Rattle.report.proofs.Writing.{put-then}
+use Rattle.report.proofs.Writing.{put-then, put-length}
 use Rattle.report.proofs.lines.put_controller.Statement.{statement}
 use Rattle.report.proofs.lines.put_controller.Tie as tie
 
@@ -26,9 +26,6 @@ put-position-requires c κs = omega arith
 put-byte-requires-2 : tie.Need-put-byte-requires-2
 put-byte-requires-2 c κs = omega arith
 
-same-length : tie.Need-same-length
-same-length c = search needs
-
 returns : tie.Need-returns
 returns c =
     let sixth = c .before .before in
@@ -39,6 +36,9 @@ returns c =
     let first = second .before .before .before .before in
     put-then (first .put-byte .ensures) (put-then (second .put-field .ensures) (put-then (third .put-field2 .ensures)
     (put-then (fourth .put-outcome .ensures) (put-then (fifth .put-position .ensures) (sixth .put-byte2 .ensures)))))
+
+same-length : tie.Need-same-length
+same-length c = put-length (returns c)
 
 pub put-controller-spec : {M : Type 1} → statement M
 put-controller-spec =
