@@ -29,16 +29,16 @@ cast-put-controller : tie.Need-cast-put-controller Inv-loop μ-loop
 cast-put-controller c = search needs
 
 add-put-controller : tie.Need-add-put-controller Inv-loop μ-loop
-add-put-controller c = search needs
+add-put-controller c = omega arith
 
 put-controller-requires : tie.Need-put-controller-requires Inv-loop μ-loop
-put-controller-requires c κs = search needs
+put-controller-requires c κs = omega arith
 
 add-i : tie.Need-add-i Inv-loop μ-loop
-add-i c = search needs
+add-i c = omega arith
 
 loop-less : tie.Need-loop-less Inv-loop μ-loop
-loop-less c = search needs
+loop-less c = omega arith
 
 loop-again : tie.Need-loop-again Inv-loop μ-loop
 unfolding station

@@ -1,4 +1,5 @@
 -- `report::lines::put_count` meets its contract.
+use native.Mathlib.Omega.{arith}
 use borrow.Author.Needs.{needs}
 use Rattle.report.proofs.Writing.{put-text}
 use Rattle.report.proofs.lines.put_count.Statement.{statement}
@@ -8,7 +9,7 @@ telegrams-requires : tie.Need-telegrams-requires
 telegrams-requires c κs = search needs
 
 put-field-requires : tie.Need-put-field-requires
-put-field-requires c κs = search needs
+put-field-requires c κs = omega arith
 
 same-length : tie.Need-same-length
 same-length c = search needs

@@ -1,4 +1,5 @@
 -- `report::writer::put_byte` meets its contract: a byte past the end changes nothing.
+use native.Mathlib.Omega.{arith}
 use borrow.Author.Needs.{needs}
 use Rattle.report.proofs.Writing.{put-past}
 use Rattle.report.proofs.writer.put_byte.Statement.{statement}
@@ -8,7 +9,7 @@ slice-write-out : tie.Need-slice-write-out
 slice-write-out c = search needs
 
 add-result : tie.Need-add-result
-add-result c = search needs
+add-result c = omega arith
 
 same-length : tie.Need-same-length
 same-length c = search needs
@@ -17,7 +18,7 @@ returns : tie.Need-returns
 returns c = search needs
 
 add-result-2 : tie.Need-add-result-2
-add-result-2 c = search needs
+add-result-2 c = omega arith
 
 returns-2 : tie.Need-returns-2
 returns-2 c = put-past _ _ _ (c .if1 .left)

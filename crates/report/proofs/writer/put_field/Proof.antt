@@ -1,14 +1,15 @@
 -- `report::writer::put_field` meets its contract.
+use native.Mathlib.Omega.{arith}
 use borrow.Author.Needs.{needs}
 use Rattle.report.proofs.Writing.{put-then}
 use Rattle.report.proofs.writer.put_field.Statement.{statement}
 use Rattle.report.proofs.writer.put_field.Tie as tie
 
 put-byte-requires : tie.Need-put-byte-requires
-put-byte-requires c κs = search needs
+put-byte-requires c κs = omega arith
 
 put-number-requires : tie.Need-put-number-requires
-put-number-requires c κs = search needs
+put-number-requires c κs = omega arith
 
 same-length : tie.Need-same-length
 same-length c = search needs

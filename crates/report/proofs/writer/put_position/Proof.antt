@@ -1,14 +1,15 @@
 -- `report::writer::put_position` meets its contract.
+use native.Mathlib.Omega.{arith}
 use borrow.Author.Needs.{needs}
 use Rattle.report.proofs.Writing.{put-then}
 use Rattle.report.proofs.writer.put_position.Statement.{statement}
 use Rattle.report.proofs.writer.put_position.Tie as tie
 
 put-byte-requires : tie.Need-put-byte-requires
-put-byte-requires c κs = search needs
+put-byte-requires c κs = omega arith
 
 put-signed-requires : tie.Need-put-signed-requires
-put-signed-requires c κs = search needs
+put-signed-requires c κs = omega arith
 
 same-length : tie.Need-same-length
 same-length c = search needs

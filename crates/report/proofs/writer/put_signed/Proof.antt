@@ -8,7 +8,7 @@ use Rattle.report.proofs.writer.put_signed.Statement.{statement}
 use Rattle.report.proofs.writer.put_signed.Tie as tie
 
 put-number-requires : tie.Need-put-number-requires
-put-number-requires c κs = search needs
+put-number-requires c κs = omega arith
 
 same-length : tie.Need-same-length
 same-length c = search needs
@@ -19,16 +19,16 @@ returns c =
     put-as (c .before .before .put-number .ensures) (signed-plus (a .v) (c .before .before .before .before .if1 .taken)) (signed-length (a .v))
 
 put-byte-requires : tie.Need-put-byte-requires
-put-byte-requires c κs = search needs
+put-byte-requires c κs = omega arith
 
 sub-put-number : tie.Need-sub-put-number
 sub-put-number c = search needs
 
 add-put-number : tie.Need-add-put-number
-add-put-number c = search needs
+add-put-number c = omega arith
 
 put-number-requires-2 : tie.Need-put-number-requires-2
-put-number-requires-2 c κs = search needs
+put-number-requires-2 c κs = omega arith
 
 same-length-2 : tie.Need-same-length-2
 same-length-2 c = search needs
