@@ -19,6 +19,7 @@ use Rattle.model.specs.Ranges.{limit, isBackup}
 use Rattle.model.specs.Routes.{voteRoute, ackRoute, route, recipients}
 use Rattle.model.specs.Numbers.{wordOf}
 use Rattle.model.specs.declared.Kind.the-variants.{Vote, Ack}
+use Rattle.model.specs.declared.Checkpoint.{Checkpoint}
 use Rattle.model.specs.declared.Outcome.{Outcome}
 use Rattle.model.specs.declared.Outcome.the-variants.{None}
 use Rattle.protocol.specs.declared.Condition.{Condition}
@@ -27,10 +28,14 @@ use Rattle.protocol.specs.declared.Controller.{Controller}
 use Rattle.protocol.specs.declared.Post.the-variants.{Nothing as NoPost, To}
 use Rattle.protocol.specs.declared.Answer.{Answer}
 use Rattle.protocol.specs.declared.Sent.{Sent}
-use Rattle.protocol.specs.Controllers.{isRunning, phaseIn, outcomeIn, runs, phase, hasAck, hasHelped, cleared, advance, learn, aim, keepAck, answered}
+use Rattle.protocol.specs.Controllers.{isRunning, phaseIn, outcomeIn, runs, phase, hasAck, hasHelped, cleared, advance, learn, aim, keepAck, answered, isStopped}
 use Rattle.protocol.specs.Rules.{quiet, passed, voteRule, voteArrives, countOwn, firstTimeout, ackArrives, helpedArrives, helpArrives}
 use Rattle.protocol.specs.Benches.{sentAfter}
-use Rattle.protocol.proofs.View.{View, cardOrder, recalled}
+use Rattle.protocol.specs.declared.Saved.{Saved}
+use Rattle.protocol.specs.declared.Saved.the-variants.{Nothing, Card}
+use Rattle.protocol.specs.Calls.{restore}
+use Rattle.protocol.specs.Steps.{restoreFrom}
+use Rattle.protocol.proofs.View.{View, cardOrder, cardOutcome, memberV}
 use Rattle.protocol.proofs.Words.{none-word}
 use Rattle.protocol.proofs.Invariant.{votedBy, willBy, ackOn, ackedBy, helpOn, fixedBy, OkSheet, SentOk, Grown, Grows, OutEv, Own, HeldAck, CtlOk, Inv}
 use Rattle.protocol.proofs.Growth.{sent-mono, ctl-mono}
@@ -93,12 +98,21 @@ module _ (n f : ℕ) (small : n ≤ limit) (b : View) (inv : Inv n f b) (i : ℕ
   pub stop-fits : Fits n f b i (quiet (cleared Stopped c))
   stop-fits = quiet-fits n f b inv i _ (own-cleared n f i Stopped c l refl refl (inv .owns i .room)) (ctl-cleared n f L (b .world .decision) i Stopped c (λ v e. none-word v e))
 
-  pub restore-fits : Fits n f b i (quiet (cleared (Standby (recalled (b .order) (b .cards i))) c))
-  restore-fits = quiet-fits n f b inv i _ (own-cleared n f i (Standby (recalled (b .order) (b .cards i))) c l refl refl (inv .owns i .room))
-      (ctl-cleared n f L (b .world .decision) i _ c (λ v. elim (split (eqb (cardOrder (b .cards i)) (b .order))) [
-        | inl e ↦ rw e (inv .card-ok i (eqb-eq _ _ e) v)
-        | inr e ↦ rw e (none-word v)
-      ]))
+  -- a restore: an outcome comes from a card of this order alone
+  restored-fits : (o : Outcome) → ((v : Bool) → o ≡ wordOf v → OutEv n f L (b .world .decision) v) → Fits n f b i (quiet (cleared (Standby o) c))
+  restored-fits o h = quiet-fits n f b inv i _ (own-cleared n f i (Standby o) c l refl refl (inv .owns i .room)) (ctl-cleared n f L (b .world .decision) i (Standby o) c h)
+
+  given : (x : Checkpoint) → (x .order ≡ b .order → (v : Bool) → x .outcome ≡ wordOf v → OutEv n f L (b .world .decision) v)
+      → (v : Bool) → cond (eqb (x .order) (b .order)) (x .outcome) None ≡ wordOf v → OutEv n f L (b .world .decision) v
+  given x h v = by-cond (λ (o : Outcome). o ≡ wordOf v → OutEv n f L (b .world .decision) v) (eqb (x .order) (b .order)) (x .outcome) None (λ e. h (eqb-eq _ _ e) v) (λ e. none-word v)
+
+  from-card : (s : Saved) → (cardOrder s ≡ b .order → (v : Bool) → cardOutcome s ≡ wordOf v → OutEv n f L (b .world .decision) v) → Fits n f b i (restoreFrom (memberV n f b i) s c)
+  unfolding restoreFrom restore
+  from-card Nothing h = passed-fits n f b inv i
+  from-card (Card x) h = by-cond (Fits n f b i) (isStopped (c .condition)) _ _ (λ q. restored-fits _ (given x h)) (λ q. passed-fits n f b inv i)
+
+  pub restore-fits : Fits n f b i (restoreFrom (memberV n f b i) (b .cards i) c)
+  restore-fits = from-card (b .cards i) (inv .card-ok i)
 
   -- a vote arrives
   pub vote-in-fits : (j : ℕ) → Fits n f b i (voteArrives ((L j) .vote .votes) c)

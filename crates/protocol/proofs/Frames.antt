@@ -19,9 +19,13 @@ use Rattle.protocol.specs.declared.Controller.{Controller}
 use Rattle.protocol.specs.declared.Post.the-variants.{Nothing as NoPost, To}
 use Rattle.protocol.specs.declared.Answer.{Answer}
 use Rattle.protocol.specs.declared.Sent.{Sent}
-use Rattle.protocol.specs.Controllers.{isRunning, outcomeIn, runs, phase, outcome, hasAck, hasHelped, cleared, advance, learn, aim, keepAck, keepHelped, freeze, answered, await, propose, orElse, noting, conclude}
+use Rattle.protocol.specs.Controllers.{isRunning, outcomeIn, runs, phase, outcome, hasAck, hasHelped, cleared, advance, learn, aim, keepAck, keepHelped, freeze, answered, await, propose, orElse, noting, conclude, isStopped}
 use Rattle.protocol.specs.Rules.{passed, quiet, proposes, verdict, voteRule, voteArrives, countOwn, firstTimeout, ackJoin, decides, enough, settle, frozen, laidDown, callsHelp, secondTimeout, ackArrives, helpedArrives, helpArrives}
-use Rattle.protocol.specs.Calls.{arrives}
+use Rattle.protocol.specs.declared.Member.{Member}
+use Rattle.protocol.specs.declared.Saved.{Saved}
+use Rattle.protocol.specs.declared.Saved.the-variants.{Nothing, Card}
+use Rattle.protocol.specs.Calls.{arrives, restore}
+use Rattle.protocol.specs.Steps.{restoreFrom}
 use Rattle.protocol.specs.Benches.{sentAfter}
 use Rattle.protocol.proofs.View.{timeoutRule}
 use Rattle.protocol.proofs.Words.{some-word}
@@ -95,6 +99,20 @@ decide-framed w c l = quiet-framed c _ l (λ h. conclude-taken c w) (conclude-ga
 pub cleared-framed : (k : Condition) (c : Controller) (l : Sent) → isRunning k ≡ false → Framed c l (quiet (cleared k c))
 unfolding cleared
 cleared-framed k c l e = quiet-framed c _ l (λ h r. absurd (true≢false (sym r ∙ e))) (inl refl)
+
+pub restore-framed : (me : Member) (s : Saved) (c : Controller) (l : Sent) → Framed c l (restoreFrom me s c)
+unfolding restoreFrom restore
+restore-framed me Nothing c l = passed-framed c l
+restore-framed me (Card x) c l = by-cond (Framed c l) (isStopped (c .condition)) _ _ (λ e. cleared-framed (Standby _) c l refl) (λ e. passed-framed c l)
+
+-- a restore leaves the position, also of one that does not run
+pub record Still (c : Controller) (a : Answer) : Type 0 where
+  pub position : a .controller .position ≡ c .position
+
+pub restore-position : (me : Member) (s : Saved) (c : Controller) → Still c (restoreFrom me s c)
+unfolding restoreFrom restore passed quiet cleared
+restore-position me Nothing c = record { position = refl }
+restore-position me (Card x) c = by-cond (Still c) (isStopped (c .condition)) _ _ (λ e. record { position = refl }) (λ e. record { position = refl })
 
 module _ (n f : ℕ) where
   settle-framed : (c : Controller) (l : Sent) (a : Answer) → Framed c l a → Framed c l (settle n f a)

@@ -25,10 +25,14 @@ use Rattle.protocol.specs.declared.Answer.{Answer}
 use Rattle.protocol.specs.declared.Sent.{Sent}
 use Rattle.protocol.specs.Controllers.{isRunning, isStopped, runs, phase, hasAck, hasHelped, cleared, advance, learn, aim, keepAck, keepHelped, freeze, answered, await, propose, conclude}
 use Rattle.protocol.specs.Rules.{passed, quiet, proposes, verdict, voteRule, voteArrives, countOwn, firstTimeout, ackJoin, decides, enough, settle, frozen, laidDown, callsHelp, secondTimeout, ackArrives, helpedArrives, helpArrives}
-use Rattle.protocol.specs.Calls.{arrives}
+use Rattle.protocol.specs.declared.Member.{Member}
+use Rattle.protocol.specs.declared.Saved.{Saved}
+use Rattle.protocol.specs.declared.Saved.the-variants.{Nothing, Card}
+use Rattle.protocol.specs.Calls.{arrives, restore}
+use Rattle.protocol.specs.Steps.{restoreFrom}
 use Rattle.protocol.specs.Benches.{sentAfter}
 use Rattle.protocol.specs.Questions.{firstNo}
-use Rattle.protocol.proofs.View.{View, commitV, chosen, savedV, cardAt, accepts, timeoutRule, performV, ask-l, ask-r}
+use Rattle.protocol.proofs.View.{View, commitV, chosen, savedV, cardAt, accepts, timeoutRule, performV, ask-l, ask-r, memberV}
 use Rattle.protocol.proofs.Words.{noting-runs, noting-phase}
 use Rattle.protocol.proofs.Invariant.{ackOn, ackedBy}
 use Rattle.protocol.proofs.Commit.{upd-all₂}
@@ -132,6 +136,11 @@ module _ (n f : ℕ) where
   unfolding quiet sentAfter cleared
   restore-live e j o c l q = record { live = record { running = sym q; votes = λ r. absurd (no-both (runs c) r q); acks = λ r. absurd (no-both (runs c) r q); phase = λ r. absurd (no-both (runs c) r q); acked = λ h. inl (h, refl) } }
 
+  restored-live : (e : Event) (j : ℕ) (me : Member) (s : Saved) (c : Controller) (l : Sent) → runs c ≡ false → Acts e j c l (restoreFrom me s c)
+  unfolding restoreFrom restore
+  restored-live e j me Nothing c l q = passed-live e j c l
+  restored-live e j me (Card x) c l q = by-cond (Acts e j c l) (isStopped (c .condition)) _ _ (λ t. restore-live e j _ c l q) (λ t. passed-live e j c l)
+
   abbrev pub Tame : Event → View → View → Type 0
   Tame e b b′ = (k : ℕ) → Live e k (b .ctl k) (b′ .ctl k) (b .world .sent k) (b′ .world .sent k)
 
@@ -171,4 +180,4 @@ module _ (n f : ℕ) where
   perform-tame s b (Decide i w) g q = decide-tame b i w
   perform-tame s b (Stop i) g q = absurd g
   perform-tame s b (Save i) g q = save-tame b i
-  perform-tame s b (Restore i) g q = commit-tame _ b i _ (restore-live _ i _ _ _ (stopped-idle ((b .ctl i) .condition) (search (ask-l, ask-r, and-l, and-r) depth 14)))
+  perform-tame s b (Restore i) g q = commit-tame _ b i _ (restored-live _ i (memberV n f b i) (b .cards i) (b .ctl i) (b .world .sent i) (stopped-idle ((b .ctl i) .condition) (search (ask-l, ask-r, and-l, and-r) depth 14)))

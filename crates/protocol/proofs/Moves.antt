@@ -15,18 +15,18 @@ use Rattle.model.specs.Ranges.{limit, member}
 use Rattle.model.specs.Numbers.{wordOf, isNone}
 use Rattle.model.specs.declared.Event.{Event}
 use Rattle.model.specs.declared.Event.the-variants.{Lock, Order, Cast, Deliver, Timeout, Decide, Stop, Save, Restore}
-use Rattle.protocol.specs.declared.Condition.the-variants.{Stopped, Standby}
+use Rattle.protocol.specs.declared.Condition.the-variants.{Stopped}
 use Rattle.protocol.specs.declared.Controller.{Controller}
 use Rattle.protocol.specs.declared.Answer.{Answer}
 use Rattle.protocol.specs.declared.Sent.{Sent}
-use Rattle.protocol.specs.Controllers.{runs, outcome, cleared, conclude}
+use Rattle.protocol.specs.Controllers.{runs, outcome, conclude}
 use Rattle.protocol.specs.Rules.{quiet, voteRule}
 use Rattle.protocol.specs.Benches.{unsentAll, sentAfter}
 use Rattle.protocol.specs.Questions.{firstNo}
-use Rattle.protocol.proofs.View.{View, newWorld, recalled, commitV, chosen, openedV, savedV, cardAt, accepts, performV, stepV, runV, ask-l, ask-r}
+use Rattle.protocol.proofs.View.{View, newWorld, memberV, commitV, chosen, openedV, savedV, cardAt, accepts, performV, stepV, runV, ask-l, ask-r}
 use Rattle.protocol.proofs.Invariant.{votedBy, willBy, Inv}
 use Rattle.protocol.proofs.Decisions.{renew-keeps}
-use Rattle.protocol.proofs.Frames.{Taken, Moved, Framed, decide-framed, cleared-framed, arrives-framed, timeout-framed, vote-framed}
+use Rattle.protocol.proofs.Frames.{Taken, Moved, Framed, decide-framed, cleared-framed, restore-framed, restore-position, arrives-framed, timeout-framed, vote-framed}
 use Rattle.protocol.proofs.Orders.{run-inv, run-order, step-next, next-inv, next-order, Next}
 
 module _ (n f : ℕ) where
@@ -120,7 +120,7 @@ module _ (n f : ℕ) where
   perform-facts s b (Decide i w) q = decide-facts b i w
   perform-facts s b (Stop i) q = commit-facts b _ i _ (cleared-framed Stopped (b .ctl i) (b .world .sent i) refl)
   perform-facts s b (Save i) q = save-facts b i
-  perform-facts s b (Restore i) q = commit-facts b _ i _ (cleared-framed (Standby _) (b .ctl i) (b .world .sent i) refl)
+  perform-facts s b (Restore i) q = commit-facts b _ i _ (restore-framed (memberV n f b i) (b .cards i) (b .ctl i) (b .world .sent i))
 
   step-facts : n ≤ limit → (b : View) (e : Event) → Facts b e (stepV n f b e)
   unfolding stepV
@@ -139,10 +139,7 @@ module _ (n f : ℕ) where
   pub restore-still : (b : View) (i k : ℕ) → ((stepV n f b (Restore i)) .ctl k) .position ≡ (b .ctl k) .position
   unfolding stepV performV commitV
   restore-still b i k = by-cond (λ (v : View). (v .ctl k) .position ≡ (b .ctl k) .position) (accepts n f b (Restore i)) _ b
-      (λ q. upd-all (λ k (c : Controller). c .position ≡ (b .ctl k) .position) (b .ctl) i _ still (λ k. refl) k) (λ q. refl)
-    where
-      still : ((quiet (cleared (Standby (recalled (b .order) (b .cards i))) (b .ctl i))) .controller .position) ≡ (b .ctl i) .position
-      still = unfold quiet cleared in refl
+      (λ q. upd-all (λ k (c : Controller). c .position ≡ (b .ctl k) .position) (b .ctl) i _ (restore-position (memberV n f b i) (b .cards i) (b .ctl i) .position) (λ k. refl) k) (λ q. refl)
 
   -- nor does an accepted order
   pub order-still : (b : View) (o k : ℕ) → ((stepV n f b (Order o)) .ctl k) .position ≡ (b .ctl k) .position

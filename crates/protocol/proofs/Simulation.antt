@@ -18,20 +18,20 @@ use Rattle.model.specs.declared.Kind.{Kind}
 use Rattle.model.specs.declared.Outcome.the-variants.{None}
 use Rattle.model.specs.declared.Event.{Event}
 use Rattle.model.specs.declared.Event.the-variants.{Lock, Order, Cast, Deliver, Timeout, Decide, Stop, Save, Restore}
-use Rattle.protocol.specs.declared.Condition.the-variants.{Stopped, Standby}
+use Rattle.protocol.specs.declared.Condition.the-variants.{Stopped}
 use Rattle.protocol.specs.declared.Controller.{Controller}
 use Rattle.protocol.specs.declared.Answer.{Answer}
 use Rattle.protocol.specs.declared.Saved.{Saved}
-use Rattle.protocol.specs.declared.Saved.the-variants.{Nothing, Card}
+use Rattle.protocol.specs.declared.Saved.the-variants.{Card}
 use Rattle.protocol.specs.declared.Station.{Station}
 use Rattle.protocol.specs.declared.Bench.{Bench}
-use Rattle.protocol.specs.Controllers.{runs, standsBy, isStopped, phase, cleared, conclude}
+use Rattle.protocol.specs.Controllers.{runs, standsBy, phase, cleared, conclude}
 use Rattle.protocol.specs.Rules.{passed, quiet, voteRule, firstTimeout, secondTimeout}
-use Rattle.protocol.specs.Calls.{isMember, vote, addressed, arrives, receive, timeout, awaitsDecision, decide, stop, cardOf, save, restore, renew}
+use Rattle.protocol.specs.Calls.{isMember, vote, addressed, arrives, receive, timeout, awaitsDecision, decide, stop, cardOf, save, renew}
 use Rattle.protocol.specs.Benches.{fresh, freshStation, station, controller, sentBy, card, memberAt, ofKind, message, withStation, stationAfter, commit}
-use Rattle.protocol.specs.Questions.{accepted, isAccepted, unless, firstNo, isCard, reply}
-use Rattle.protocol.specs.Steps.{renewed, opened, decidedAs, keeping, restoreFrom, perform, step, run}
-use Rattle.protocol.proofs.View.{View, newWorld, recalled, commitV, chosen, openedV, savedV, cardAt, accepts, timeoutRule, performV, stepV, runV, ask-l, ask-r}
+use Rattle.protocol.specs.Questions.{accepted, isAccepted, unless, firstNo, reply}
+use Rattle.protocol.specs.Steps.{renewed, opened, decidedAs, keeping, perform, step, run}
+use Rattle.protocol.proofs.View.{View, newWorld, commitV, chosen, openedV, savedV, cardAt, accepts, timeoutRule, performV, stepV, runV, ask-l, ask-r}
 
 unfoldable pub view : Bench → View
 view b = record {
@@ -143,11 +143,6 @@ save-is : (b : Bench) (i : ℕ) (c : Controller) → (runs c || standsBy c) ≡ 
 unfolding save
 save-is b i c p = rw p
 
-restore-is : (b : Bench) (i : ℕ) (s : Saved) (c : Controller) → isStopped (c .condition) ≡ true → isCard s ≡ true → restoreFrom (memberAt b i) s c ≡ quiet (cleared (Standby (recalled (b .order) s)) c)
-unfolding restoreFrom restore
-restore-is b i Nothing c p q = absurd (false≢true q)
-restore-is b i (Card x) c p q = rw p
-
 -- a bench with its lock
 pub record Sound (b : Bench) : Type 0 where
   pub locked : b .locked ≡ true
@@ -202,7 +197,7 @@ module _ (b : Bench) (ok : Sound b) where
   perform-sim (Decide i w) q = decides i w _ _ (search (ask-l)) (decide-is w _ (search (ask-l, ask-r) depth 14) (search (ask-l, ask-r) depth 14))
   perform-sim (Stop i) q = commits i _ _ (search (ask-l)) (stop-is _ (search (ask-l, ask-r) depth 14))
   perform-sim (Save i) q = saves i _ (search (ask-l)) (save-is b i _ (search (ask-l, ask-r) depth 14))
-  perform-sim (Restore i) q = commits i _ _ (search (ask-l)) (restore-is b i _ _ (search (ask-l, ask-r) depth 14) (search (ask-l, ask-r) depth 14))
+  perform-sim (Restore i) q = commits i _ _ (search (ask-l)) refl
 
   -- with a lock the answers are those of the questions after it, and a lock is refused
   lock-no : (t : Bool) → isAccepted (unless 4 t (unless 6 (not (b .locked)) accepted)) ≡ false

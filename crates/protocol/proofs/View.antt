@@ -17,8 +17,9 @@ use Rattle.model.specs.declared.Outcome.the-variants.{None}
 use Rattle.model.specs.declared.Checkpoint.{Checkpoint}
 use Rattle.model.specs.declared.Event.{Event}
 use Rattle.model.specs.declared.Event.the-variants.{Lock, Order, Cast, Deliver, Timeout, Decide, Stop, Save, Restore}
-use Rattle.protocol.specs.declared.Condition.the-variants.{Stopped, Standby}
+use Rattle.protocol.specs.declared.Condition.the-variants.{Stopped}
 use Rattle.protocol.specs.declared.Controller.{Controller}
+use Rattle.protocol.specs.declared.Member.{Member}
 use Rattle.protocol.specs.declared.Answer.{Answer}
 use Rattle.protocol.specs.declared.Saved.{Saved}
 use Rattle.protocol.specs.declared.Saved.the-variants.{Nothing, Card}
@@ -26,6 +27,7 @@ use Rattle.protocol.specs.declared.Sent.{Sent}
 use Rattle.protocol.specs.Controllers.{runs, standsBy, isStopped, phase, outcome, cleared, conclude}
 use Rattle.protocol.specs.Rules.{quiet, voteRule, firstTimeout, secondTimeout}
 use Rattle.protocol.specs.Calls.{arrives, renew}
+use Rattle.protocol.specs.Steps.{restoreFrom}
 use Rattle.protocol.specs.Benches.{unsentAll, ofKind, sentAfter}
 use Rattle.protocol.specs.Questions.{Reply, accepted, isAccepted, Question, ask, unless, firstNo, ended, noOther, isCard}
 
@@ -54,10 +56,6 @@ abbrev pub cardOutcome : Saved → Outcome
 cardOutcome Nothing = None
 cardOutcome (Card c) = c .outcome
 
--- the outcome that a restore brings
-abbrev pub recalled : ℕ → Saved → Outcome
-recalled order s = cond (eqb (cardOrder s) order) (cardOutcome s) None
-
 -- one controller's answer put back
 unfoldable pub commitV : View → ℕ → Answer → View
 commitV v i a = record {
@@ -84,6 +82,9 @@ savedV v i card = record { order = v .order; world = v .world; ctl = v .ctl; car
 module _ (n f : ℕ) where
   abbrev pub cardAt : View → ℕ → Checkpoint
   cardAt v i = record { id = i; n = n; f = f; outcome = outcome (v .ctl i); order = v .order; position = (v .ctl i) .position }
+
+  abbrev pub memberV : View → ℕ → Member
+  memberV v i = record { n = n; f = f; id = i; order = v .order }
 
   abbrev pub mayOpenV : View → Bool
   mayOpenV v = eqb (v .order) 0 || allTo n (λ k. ended (v .ctl k))
@@ -127,7 +128,7 @@ module _ (n f : ℕ) where
   performV v (Decide i move) = commitV (chosen v move) i (quiet (conclude (v .ctl i) (wordOf move)))
   performV v (Stop i) = commitV v i (quiet (cleared Stopped (v .ctl i)))
   performV v (Save i) = savedV v i (cardAt v i)
-  performV v (Restore i) = commitV v i (quiet (cleared (Standby (recalled (v .order) (v .cards i))) (v .ctl i)))
+  performV v (Restore i) = commitV v i (restoreFrom (memberV v i) (v .cards i) (v .ctl i))
 
   unfoldable pub stepV : View → Event → View
   stepV v e = cond (accepts v e) (performV v e) v
