@@ -26,7 +26,7 @@ fn count_own(f: u8, i: u8, c: Controller) -> Controller
 }
 
 // The sheet is frozen as the acknowledgement, and sent.
-pub fn first_timeout(n: u8, f: u8, i: u8, c: Controller) -> Answer
+pub(crate) fn first_timeout(n: u8, f: u8, i: u8, c: Controller) -> Answer
     ensures { λ r. ⌜ r ≡ firstTimeout n f i c ⌝ }
 {
     let votes = c.votes;

@@ -56,7 +56,7 @@ fn calling(n: u8, f: u8, i: u8, help: VoteSet, c: Controller) -> Answer
 }
 
 // The outcome, or else a word put, or else it waits.
-pub fn second_timeout(n: u8, f: u8, i: u8, c: Controller) -> Answer
+pub(crate) fn second_timeout(n: u8, f: u8, i: u8, c: Controller) -> Answer
     requires { ⌜ f < 16 ⌝ }
     ensures { λ r. ⌜ r ≡ secondTimeout n f i c ⌝ }
 {
