@@ -2,7 +2,7 @@
 use Prim.Native.Nat.{ℕ, zero, suc}
 use mathlib.Core.Path.{_≡_, refl, sym, _∙_, ap}
 use mathlib.Core.Bool.{Bool, true, false, _&&_}
-use mathlib.Core.List.{List, [], _∷_}
+use mathlib.Core.List.{List, [], _∷_, _++_}
 use native.Mathlib.Omega.{arith}
 use lib.Dec.{ltb}
 use Rattle.votes.specs.Tests.{_⊎_, inl, inr, split, and-l, and-r}
@@ -38,7 +38,7 @@ not-zero : (q : ℕ) → ltb 0 q ≡ true → q ≡ 0 → ⊥
 not-zero zero t e = let z : _≡_ {A = ℕ} 0 1 = cc in omega arith
 not-zero (suc q) t e = omega arith
 
-pub zero-accepted : (qs : List Question) → numbered qs ≡ true → number (firstNo qs) ≡ 0 → firstNo qs ≡ accepted
+zero-accepted : (qs : List Question) → numbered qs ≡ true → number (firstNo qs) ≡ 0 → firstNo qs ≡ accepted
 unfolding firstNo unless
 zero-accepted [] n e = refl
 zero-accepted (q ∷ qs) n e = elim (split (q .yes)) [
@@ -46,6 +46,34 @@ zero-accepted (q ∷ qs) n e = elim (split (q .yes)) [
   | inr y ↦ absurd (not-zero (q .number) (and-l (ltb 0 (q .number)) (numbered qs) n) (rw y at e))
 ]
 
-pub other-refused : (r : Reply) → (number r ≡ 0 → ⊥) → r ≡ refused (number r)
+other-refused : (r : Reply) → (number r ≡ 0 → ⊥) → r ≡ refused (number r)
 other-refused accepted n = absurd (n refl)
 other-refused (refused q) n = refl
+
+-- the reply, from the number that code answered
+pub reply-accepted : (qs : List Question) (q : ℕ) → numbered qs ≡ true → q ≡ number (firstNo qs) → q ≡ 0 → firstNo qs ≡ accepted
+reply-accepted qs q n e z = zero-accepted qs n (sym e ∙ z)
+
+pub reply-refused : (qs : List Question) (q : ℕ) → q ≡ number (firstNo qs) → (q ≡ 0 → ⊥) → firstNo qs ≡ refused q
+reply-refused qs q e n = other-refused (firstNo qs) (λ z. n (e ∙ z)) ∙ ap refused (sym e)
+
+-- more questions after a list of them
+pub stops : (qs rs : List Question) (q : ℕ) → firstNo qs ≡ refused q → firstNo (qs ++ rs) ≡ refused q
+unfolding firstNo unless
+stops [] rs q e = never q (sym e)
+stops (p ∷ qs) rs q e = elim (split (p .yes)) [
+  | inl y ↦ rw y (stops qs rs q (rw y at e))
+  | inr y ↦ rw y (rw y at e)
+]
+
+pub goes-on : (qs rs : List Question) → firstNo qs ≡ accepted → firstNo (qs ++ rs) ≡ firstNo rs
+unfolding firstNo unless
+goes-on [] rs e = refl
+goes-on (p ∷ qs) rs e = elim (split (p .yes)) [
+  | inl y ↦ rw y (goes-on qs rs (rw y at e))
+  | inr y ↦ never (p .number) (rw y at e)
+]
+
+pub first-alone : (q : Question) (qs : List Question) → firstNo qs ≡ accepted → firstNo (q ∷ qs) ≡ firstNo (q ∷ [])
+unfolding firstNo
+first-alone q qs e = rw e

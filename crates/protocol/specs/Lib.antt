@@ -5,3 +5,5 @@ pub mod Benches
 pub mod Questions
 pub mod Steps
 pub mod Display
+pub mod Claim
+pub mod NotHollow

@@ -1,0 +1,93 @@
+// The lines of frames that write: `W q` and the whole buffer afterwards, in hexadecimal.
+use crate::line::Line;
+use crate::line::begin;
+use crate::line::put;
+use crate::line::put_hex;
+use crate::line::put_number;
+use model::Checkpoint;
+use model::Message;
+use votes::VoteSet;
+use wire::ReadEvent;
+use wire::number4;
+ghost use mathlib.Core.Path.{_≡_};
+ghost use lib.ListN.{length};
+
+// A frame whose kind, outcome or fields are no listed values: there is nothing to write.
+pub fn unlisted() -> Line {
+    begin(b'?')
+}
+
+fn written(q: u8, out: &[u8]) -> Line {
+    let mut line = put(put_number(begin(b'W'), q as u32), b' ');
+    let mut i = 0;
+    while i < out.len() {
+        line = put_hex(line, out[i]);
+        i += 1;
+    }
+    line
+}
+
+fn message_line(x: &[u8], out: &mut [u8]) -> Line
+    requires { ⌜ length (now x) ≡ 38 ⌝ }
+{
+    if !wire::is_kind(x[0]) {
+        return unlisted();
+    }
+    let votes = VoteSet {
+        known: number4(x[9], x[10], x[11], x[12]),
+        willing: number4(x[13], x[14], x[15], x[16]),
+    };
+    let m = Message {
+        kind: wire::kind_of(x[0]),
+        n: x[1],
+        f: x[2],
+        from: x[3],
+        to: x[4],
+        order: number4(x[5], x[6], x[7], x[8]),
+        votes,
+    };
+    let q = message_wire::write_message(out, m);
+    written(q, out)
+}
+
+fn checkpoint_line(x: &[u8], out: &mut [u8]) -> Line
+    requires { ⌜ length (now x) ≡ 38 ⌝ }
+{
+    if !wire::is_outcome(x[3]) {
+        return unlisted();
+    }
+    let p = Checkpoint {
+        id: x[0],
+        n: x[1],
+        f: x[2],
+        outcome: wire::outcome_of(x[3]),
+        order: number4(x[4], x[5], x[6], x[7]),
+        position: number4(x[8], x[9], x[10], x[11]),
+    };
+    let q = checkpoint_wire::write_checkpoint(out, p);
+    written(q, out)
+}
+
+// The fields are those of a record, so reading makes the event of them.
+fn event_line(x: &[u8], out: &mut [u8]) -> Line
+    requires { ⌜ length (now x) ≡ 38 ⌝ }
+{
+    let record = [0x4Cu8, 0x45, x[0], x[1], x[2], x[3], x[4], x[5], x[6], x[7]];
+    let ReadEvent::Read(e) = wire::read_event(&record) else {
+        return unlisted();
+    };
+    let q = wire::write_event(out, e);
+    written(q, out)
+}
+
+// Writes what the fields say into a buffer.
+pub fn line_of(what: u8, x: &[u8], out: &mut [u8]) -> Line
+    requires { ⌜ length (now x) ≡ 38 ⌝ }
+{
+    match what {
+        3 => message_line(x, out),
+        4 => checkpoint_line(x, out),
+        5 => event_line(x, out),
+        _ => unlisted(),
+    }
+}
