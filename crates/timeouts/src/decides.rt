@@ -40,7 +40,7 @@ fn backups_complete(n: u8, f: u8, c: Controller) -> bool
     true
 }
 
-// That of f + 1 is held and knows all of 1 to f.
+// That of the second backup, f + 1, is held and knows all of 1 to f.
 fn second_knows(f: u8, c: Controller) -> bool
     requires { ⌜ f < 16 ⌝ }
     ensures { λ r. ⌜ r ≡ secondKnows f c ⌝ }

@@ -22,7 +22,7 @@ ghost use mathlib.Core.Path.{_≡_};
 ghost use Prim.Native.Nat.{_<_};
 
 // Who the controller is after a command, its answer, and the card that it made.
-pub struct Told {
+pub(crate) struct Told {
     pub me: Member,
     pub answer: Answer,
     pub card: Saved,
