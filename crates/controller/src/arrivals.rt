@@ -92,7 +92,8 @@ fn help_arrives(j: u8, c: Controller) -> Answer
     }
 }
 
-pub fn arrives(kind: Kind, n: u8, f: u8, from: u8, s: VoteSet, c: Controller) -> Answer
+// A telegram of each kind.
+pub(crate) fn arrives(kind: Kind, n: u8, f: u8, from: u8, s: VoteSet, c: Controller) -> Answer
     ensures { λ r. ⌜ r ≡ arrives kind n f from s c ⌝ }
 {
     match kind {

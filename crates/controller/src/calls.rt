@@ -13,6 +13,7 @@ use state::phase;
 ghost use mathlib.Core.Path.{_≡_};
 ghost use Rattle.protocol.specs.Calls.{vote, addressed, receive};
 
+// Its vote, willing or not, and the target of its gate: taken at stage 0.
 pub fn vote(me: Member, willing: bool, target: u32, c: Controller) -> Answer
     ensures { λ r. ⌜ r ≡ vote me willing target c ⌝ }
 {

@@ -57,6 +57,7 @@ fn is_up(c: Controller) -> bool
     stands_by(c)
 }
 
+// It ends everything but the position of its gate.
 pub fn stop(c: Controller) -> Answer
     ensures { λ r. ⌜ r ≡ stop c ⌝ }
 {
@@ -66,6 +67,7 @@ pub fn stop(c: Controller) -> Answer
     passed(c)
 }
 
+// What it is and holds, as a card.
 fn card_of(me: Member, c: Controller) -> Checkpoint
     ensures { λ r. ⌜ r ≡ cardOf me c ⌝ }
 {
@@ -79,6 +81,7 @@ fn card_of(me: Member, c: Controller) -> Checkpoint
     }
 }
 
+// The card, unless it is stopped.
 pub fn save(me: Member, c: Controller) -> Saved
     ensures { λ r. ⌜ r ≡ save me c ⌝ }
 {

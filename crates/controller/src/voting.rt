@@ -26,7 +26,8 @@ fn phase_after_vote(f: u8, i: u8) -> u8
     2
 }
 
-pub fn vote_rule(n: u8, f: u8, i: u8, willing: bool, target: u32, c: Controller) -> Answer
+// Its own vote goes on its sheet, and to the backups.
+pub(crate) fn vote_rule(n: u8, f: u8, i: u8, willing: bool, target: u32, c: Controller) -> Answer
     ensures { λ r. ⌜ r ≡ voteRule n f i willing target c ⌝ }
 {
     let own = single(i, willing);

@@ -5,7 +5,7 @@ use protocol::Progress;
 ghost use mathlib.Core.Path.{_≡_};
 ghost use Rattle.protocol.specs.Controllers.{isRunning, isStandby, isStopped, phaseIn, outcomeIn, inPhase, orElse, noting};
 
-pub fn is_running(condition: Condition) -> bool
+pub(crate) fn is_running(condition: Condition) -> bool
     ensures { λ r. ⌜ r ≡ isRunning condition ⌝ }
 {
     match condition {
@@ -15,7 +15,7 @@ pub fn is_running(condition: Condition) -> bool
     }
 }
 
-pub fn is_standby(condition: Condition) -> bool
+pub(crate) fn is_standby(condition: Condition) -> bool
     ensures { λ r. ⌜ r ≡ isStandby condition ⌝ }
 {
     match condition {
@@ -25,7 +25,7 @@ pub fn is_standby(condition: Condition) -> bool
     }
 }
 
-pub fn is_stopped(condition: Condition) -> bool
+pub(crate) fn is_stopped(condition: Condition) -> bool
     ensures { λ r. ⌜ r ≡ isStopped condition ⌝ }
 {
     match condition {
@@ -35,7 +35,7 @@ pub fn is_stopped(condition: Condition) -> bool
     }
 }
 
-pub fn phase_in(condition: Condition) -> u8
+pub(crate) fn phase_in(condition: Condition) -> u8
     ensures { λ r. ⌜ r ≡ phaseIn condition ⌝ }
 {
     match condition {
@@ -45,7 +45,7 @@ pub fn phase_in(condition: Condition) -> u8
     }
 }
 
-pub fn outcome_in(condition: Condition) -> Outcome
+pub(crate) fn outcome_in(condition: Condition) -> Outcome
     ensures { λ r. ⌜ r ≡ outcomeIn condition ⌝ }
 {
     match condition {
@@ -73,7 +73,7 @@ fn or_else(held: Outcome, other: Outcome) -> Outcome
 }
 
 // The condition after an outcome is noted, unless there is one.
-pub fn noting(condition: Condition, o: Outcome) -> Condition
+pub(crate) fn noting(condition: Condition, o: Outcome) -> Condition
     ensures { λ r. ⌜ r ≡ noting condition o ⌝ }
 {
     match condition {

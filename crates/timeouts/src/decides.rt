@@ -40,7 +40,7 @@ fn backups_complete(n: u8, f: u8, c: Controller) -> bool
     true
 }
 
-// That of f + 1 is held and knows all of 1 to f.
+// That of the second backup, f + 1, is held and knows all of 1 to f.
 fn second_knows(f: u8, c: Controller) -> bool
     requires { ⌜ f < 16 ⌝ }
     ensures { λ r. ⌜ r ≡ secondKnows f c ⌝ }
@@ -53,7 +53,7 @@ fn second_knows(f: u8, c: Controller) -> bool
 }
 
 // May it take the word of the acknowledgements as the outcome?
-pub fn decides(n: u8, f: u8, i: u8, c: Controller) -> bool
+pub(crate) fn decides(n: u8, f: u8, i: u8, c: Controller) -> bool
     requires { ⌜ f < 16 ⌝ }
     ensures { λ r. ⌜ r ≡ decides n f i c ⌝ }
 {

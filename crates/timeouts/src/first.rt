@@ -11,7 +11,7 @@ use votes::has;
 ghost use mathlib.Core.Path.{_≡_};
 ghost use Rattle.protocol.specs.Rules.{countOwn, firstTimeout};
 
-// A holder counts its own acknowledgement; f + 1 does not.
+// A backup counts its own acknowledgement; the second backup, f + 1, does not.
 fn count_own(f: u8, i: u8, c: Controller) -> Controller
     ensures { λ r. ⌜ r ≡ countOwn f i c ⌝ }
 {
@@ -25,8 +25,8 @@ fn count_own(f: u8, i: u8, c: Controller) -> Controller
     keep_ack(c, i, votes)
 }
 
-// The sheet is frozen as the acknowledgement, and sent.
-pub fn first_timeout(n: u8, f: u8, i: u8, c: Controller) -> Answer
+// The sheet is frozen as the acknowledgement and sent, and the controller goes to stage 2.
+pub(crate) fn first_timeout(n: u8, f: u8, i: u8, c: Controller) -> Answer
     ensures { λ r. ⌜ r ≡ firstTimeout n f i c ⌝ }
 {
     let votes = c.votes;

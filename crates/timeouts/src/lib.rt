@@ -1,4 +1,4 @@
-// What a controller does at its bell.
+// What a controller does at its timeouts (document 01: its bells).
 mod decides;
 mod first;
 mod second;
@@ -14,7 +14,7 @@ use state::phase;
 ghost use mathlib.Core.Path.{_≡_};
 ghost use Rattle.protocol.specs.Calls.{timeout};
 
-// The bell: the first timeout at stage 1, the second at stage 2.
+// The first timeout is at stage 1, the second at stage 2.
 pub fn timeout(me: Member, c: Controller) -> Answer
     ensures { λ r. ⌜ r ≡ timeout me c ⌝ }
 {

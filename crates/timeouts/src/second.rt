@@ -55,20 +55,20 @@ fn calling(n: u8, f: u8, i: u8, help: VoteSet, c: Controller) -> Answer
     }
 }
 
-// The outcome, or else a word put, or else it waits.
-pub fn second_timeout(n: u8, f: u8, i: u8, c: Controller) -> Answer
+// To stage 3 with the help sheet frozen: the outcome, or else a word put, or else it waits.
+pub(crate) fn second_timeout(n: u8, f: u8, i: u8, c: Controller) -> Answer
     requires { ⌜ f < 16 ⌝ }
     ensures { λ r. ⌜ r ≡ secondTimeout n f i c ⌝ }
 {
     let own = c.votes;
-    let acks = ack_join(n, c);
-    let help = join(own, acks);
+    let joined = ack_join(n, c);
+    let help = join(own, joined);
     let next = freeze(advance(c, 3), help);
     if decides(n, f, i, c) {
-        return laid(help, conclude(next, verdict(n, acks)));
+        return laid(help, conclude(next, verdict(n, joined)));
     }
     if 0 < c.cnt.0 {
-        return proposes(laid(help, next), verdict(n, acks));
+        return proposes(laid(help, next), verdict(n, joined));
     }
     settle(n, f, calling(n, f, i, help, next))
 }

@@ -1,29 +1,17 @@
-// The commands, by their first byte.
-use crate::print::flush;
-use crate::print::put;
-use crate::print::put_next_number;
-use crate::print::put_next_outcome;
-use crate::print::put_number;
-use crate::print::put_post;
-use crate::print::put_text;
+// The commands: what each asks of the controller, by its first byte.
 use controller::decide;
 use controller::fresh;
-use controller::outcome;
-use controller::phase;
 use controller::receive;
 use controller::renew;
 use controller::restore;
 use controller::save;
-use controller::stands_by;
 use controller::stop;
-use controller::stopped;
 use controller::timeout;
 use controller::vote;
 use model::Checkpoint;
 use model::Kind;
 use model::Message;
 use model::Outcome;
-use model::outcome_number;
 use protocol::Answer;
 use protocol::Controller;
 use protocol::Member;
@@ -33,24 +21,11 @@ use votes::VoteSet;
 ghost use mathlib.Core.Path.{_≡_};
 ghost use Prim.Native.Nat.{_<_};
 
-// The controller under trial, who it is, and how many bytes of text wait in the buffer.
-pub struct Trial {
+// Who the controller is after a command, its answer, and the card that it made.
+pub(crate) struct Told {
     pub me: Member,
-    pub c: Controller,
-    pub waiting: usize,
-}
-
-pub fn begin() -> Trial {
-    Trial {
-        me: Member {
-            n: 0,
-            f: 0,
-            id: 0,
-            order: 0,
-        },
-        c: fresh(),
-        waiting: 0,
-    }
+    pub answer: Answer,
+    pub card: Saved,
 }
 
 fn byte(s: &[u8], i: usize) -> u8 {
@@ -78,60 +53,62 @@ fn number(s: &[u8], i: usize) -> u32 {
     ((a * 256 + b) * 256 + c) * 256 + d
 }
 
-// stage, 8 stopped, 9 standing by
-fn stage_shown(c: Controller) -> u8 {
-    if stopped(c) {
-        return 8;
+// Is this a command? A telegram has a kind from 1 to 4.
+pub(crate) fn is_command(s: &[u8]) -> bool {
+    let op = byte(s, 0);
+    if op == 3 {
+        let kind = byte(s, 1);
+        return 1 <= kind && kind <= 4;
     }
-    if stands_by(c) {
-        return 9;
+    op <= 8
+}
+
+fn kind_at(s: &[u8]) -> Kind {
+    match byte(s, 1) {
+        1 => Kind::Vote,
+        2 => Kind::Ack,
+        3 => Kind::Help,
+        _ => Kind::Helped,
     }
-    phase(c)
 }
 
-// taken stage outcome position put V A H R
-fn put_answer(out: &mut [u8], at: usize, a: Answer) -> usize {
-    let c = a.controller;
-    let word = a.proposal;
-    let mut next = put_number(out, at, a.taken as u32);
-    next = put_next_number(out, next, stage_shown(c) as u32);
-    next = put_next_outcome(out, next, outcome(c));
-    next = put_next_number(out, next, c.position);
-    next = put_next_outcome(out, next, word);
-    put_posts(out, next, a)
-}
-
-fn put_posts(out: &mut [u8], at: usize, a: Answer) -> usize {
-    let vote = a.vote;
-    let ack = a.ack;
-    let help = a.help;
-    let helped = a.helped;
-    let mut next = put_post(out, at, vote);
-    next = put_post(out, next, ack);
-    next = put_post(out, next, help);
-    put_post(out, next, helped)
-}
-
-// A line ends; a buffer that is nearly full is written out.
-fn line_end(out: &mut [u8], at: usize) -> usize {
-    let next = put(out, at, b'\n');
-    if 65000 < next {
-        flush(out, next);
-        return 0;
+fn message_at(s: &[u8]) -> Message {
+    let votes = VoteSet {
+        known: number(s, 12),
+        willing: number(s, 16),
+    };
+    Message {
+        kind: kind_at(s),
+        n: byte(s, 2),
+        f: byte(s, 3),
+        from: byte(s, 4),
+        to: byte(s, 5),
+        order: number(s, 8),
+        votes,
     }
-    next
 }
 
-fn answered(t: Trial, a: Answer, out: &mut [u8]) -> Trial {
-    let me = t.me;
-    let c = a.controller;
-    let at = put_answer(out, t.waiting, a);
-    let waiting = line_end(out, at);
-    Trial { me, c, waiting }
+fn outcome_at(s: &[u8]) -> Outcome {
+    match byte(s, 1) {
+        1 => Outcome::Stay,
+        2 => Outcome::Move,
+        _ => Outcome::None,
+    }
 }
 
-// The answer that only shows the controller.
-fn shown(c: Controller, taken: bool) -> Answer {
+fn card_at(s: &[u8], me: Member) -> Checkpoint {
+    Checkpoint {
+        id: me.id,
+        n: me.n,
+        f: me.f,
+        outcome: outcome_at(s),
+        order: number(s, 4),
+        position: number(s, 8),
+    }
+}
+
+// An answer that only shows the controller.
+pub(crate) fn shown(c: Controller, taken: bool) -> Answer {
     Answer {
         taken,
         controller: c,
@@ -143,139 +120,51 @@ fn shown(c: Controller, taken: bool) -> Answer {
     }
 }
 
-fn become_fresh(t: Trial, s: &[u8], out: &mut [u8]) -> Trial {
+fn plain(me: Member, answer: Answer) -> Told {
+    Told {
+        me,
+        answer,
+        card: Saved::Nothing,
+    }
+}
+
+fn become_fresh(s: &[u8]) -> Told {
     let me = Member {
         n: byte(s, 1),
         f: byte(s, 2),
         id: byte(s, 3),
         order: number(s, 4),
     };
-    let c = fresh();
-    let next = Trial {
-        me,
-        c,
-        waiting: t.waiting,
-    };
-    answered(next, shown(c, true), out)
+    plain(me, shown(fresh(), true))
 }
 
-fn open_order(t: Trial, s: &[u8], out: &mut [u8]) -> Trial {
-    let order = number(s, 4);
-    let c = t.c;
-    let mut next = t;
-    next.me.order = order;
-    answered(next, shown(renew(c), true), out)
-}
-
-fn cast(t: Trial, s: &[u8], out: &mut [u8]) -> Trial {
-    let me = t.me;
-    let c = t.c;
-    answered(t, vote(me, byte(s, 1) == 1, number(s, 4), c), out)
-}
-
-fn deliver(t: Trial, s: &[u8], kind: Kind, out: &mut [u8]) -> Trial {
-    let me = t.me;
-    let c = t.c;
-    let votes = VoteSet {
-        known: number(s, 12),
-        willing: number(s, 16),
-    };
-    let m = Message {
-        kind,
-        n: byte(s, 2),
-        f: byte(s, 3),
-        from: byte(s, 4),
-        to: byte(s, 5),
-        order: number(s, 8),
-        votes,
-    };
-    answered(t, receive(me, m, c), out)
-}
-
-fn telegram(t: Trial, s: &[u8], out: &mut [u8]) -> Trial {
-    match byte(s, 1) {
-        1 => deliver(t, s, Kind::Vote, out),
-        2 => deliver(t, s, Kind::Ack, out),
-        3 => deliver(t, s, Kind::Help, out),
-        4 => deliver(t, s, Kind::Helped, out),
-        _ => t,
+fn saved(me: Member, c: Controller) -> Told {
+    let card = save(me, c);
+    match card {
+        Saved::Nothing => plain(me, shown(c, false)),
+        Saved::Card(_) => Told {
+            me,
+            answer: shown(c, true),
+            card,
+        },
     }
 }
 
-fn ring(t: Trial, out: &mut [u8]) -> Trial {
-    let me = t.me;
-    let c = t.c;
-    answered(t, timeout(me, c), out)
-}
-
-fn word_given(t: Trial, s: &[u8], out: &mut [u8]) -> Trial {
-    let c = t.c;
-    answered(t, decide(byte(s, 1) == 1, c), out)
-}
-
-fn stop_it(t: Trial, out: &mut [u8]) -> Trial {
-    let c = t.c;
-    answered(t, stop(c), out)
-}
-
-// The card, if one was made: K outcome order position
-fn put_card(out: &mut [u8], at: usize, card: Checkpoint) -> usize {
-    let saved = card.outcome;
-    let mut next = put_text(out, at, b" K");
-    next = put_next_number(out, next, outcome_number(saved) as u32);
-    next = put_next_number(out, next, card.order);
-    put_next_number(out, next, card.position)
-}
-
-fn save_it(t: Trial, out: &mut [u8]) -> Trial {
-    let me = t.me;
-    let c = t.c;
-    let saved = save(me, c);
-    match saved {
-        Saved::Nothing => answered(t, shown(c, false), out),
-        Saved::Card(card) => {
-            let at = put_answer(out, t.waiting, shown(c, true));
-            let end = put_card(out, at, card);
-            let waiting = line_end(out, end);
-            Trial { me, c, waiting }
-        }
-    }
-}
-
-fn outcome_at(s: &[u8], i: usize) -> Outcome {
-    match byte(s, i) {
-        1 => Outcome::Stay,
-        2 => Outcome::Move,
-        _ => Outcome::None,
-    }
-}
-
-fn restore_it(t: Trial, s: &[u8], out: &mut [u8]) -> Trial {
-    let me = t.me;
-    let c = t.c;
-    let card = Checkpoint {
-        id: me.id,
-        n: me.n,
-        f: me.f,
-        outcome: outcome_at(s, 1),
-        order: number(s, 4),
-        position: number(s, 8),
-    };
-    answered(t, restore(me, card, c), out)
-}
-
-// One command of 24 bytes; an unknown one does nothing.
-pub fn command(s: &[u8], t: Trial, out: &mut [u8]) -> Trial {
+// What the controller answers to a command.
+pub(crate) fn ask(s: &[u8], me: Member, c: Controller) -> Told {
     match byte(s, 0) {
-        0 => become_fresh(t, s, out),
-        1 => open_order(t, s, out),
-        2 => cast(t, s, out),
-        3 => telegram(t, s, out),
-        4 => ring(t, out),
-        5 => word_given(t, s, out),
-        6 => stop_it(t, out),
-        7 => save_it(t, out),
-        8 => restore_it(t, s, out),
-        _ => t,
+        0 => become_fresh(s),
+        1 => {
+            let mut next = me;
+            next.order = number(s, 4);
+            plain(next, shown(renew(c), true))
+        }
+        2 => plain(me, vote(me, byte(s, 1) == 1, number(s, 4), c)),
+        3 => plain(me, receive(me, message_at(s), c)),
+        4 => plain(me, timeout(me, c)),
+        5 => plain(me, decide(byte(s, 1) == 1, c)),
+        6 => plain(me, stop(c)),
+        7 => saved(me, c),
+        _ => plain(me, restore(me, card_at(s, me), c)),
     }
 }

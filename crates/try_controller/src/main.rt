@@ -3,11 +3,49 @@
 mod command;
 mod print;
 
-use command::Trial;
-use command::begin;
-use command::command;
+use command::ask;
+use command::is_command;
+use controller::fresh;
 use libc::STDIN_FILENO;
 use print::flush;
+use print::put_line;
+use protocol::Controller;
+use protocol::Member;
+
+// The controller under trial, who it is, and how many bytes of text wait in the buffer.
+struct Trial {
+    pub me: Member,
+    pub c: Controller,
+    pub waiting: usize,
+}
+
+fn begin() -> Trial {
+    Trial {
+        me: Member {
+            n: 0,
+            f: 0,
+            id: 0,
+            order: 0,
+        },
+        c: fresh(),
+        waiting: 0,
+    }
+}
+
+fn step(s: &[u8], t: Trial, out: &mut [u8]) -> Trial {
+    if !is_command(s) {
+        return t;
+    }
+    let old = t.me;
+    let c = t.c;
+    let told = ask(s, old, c);
+    let me = told.me;
+    let answer = told.answer;
+    let card = told.card;
+    let c = answer.controller;
+    let waiting = put_line(out, t.waiting, answer, card);
+    Trial { me, c, waiting }
+}
 
 // The commands of a chunk, one after the other. A short last one is left out.
 fn chunk(s: &[u8], t: Trial, out: &mut [u8]) -> Trial {
@@ -15,7 +53,7 @@ fn chunk(s: &[u8], t: Trial, out: &mut [u8]) -> Trial {
     let mut at: usize = 0;
     while 24 <= s.len() - at {
         let end = at + 24;
-        next = command(&s[at..end], next, out);
+        next = step(&s[at..end], next, out);
         at = end;
     }
     next

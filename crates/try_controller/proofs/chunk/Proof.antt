@@ -20,17 +20,17 @@ sub-loop c = search needs
 add-end : tie.Need-add-end Inv-loop μ-loop
 add-end c = search needs
 
-sub-command : tie.Need-sub-command Inv-loop μ-loop
-sub-command c = search needs
+sub-step : tie.Need-sub-step Inv-loop μ-loop
+sub-step c = search needs
 
-part-command-start : tie.Need-part-command-start Inv-loop μ-loop
-part-command-start c = search needs
+part-step-start : tie.Need-part-step-start Inv-loop μ-loop
+part-step-start c = search needs
 
-part-command-end : tie.Need-part-command-end Inv-loop μ-loop
-part-command-end c = search needs
+part-step-end : tie.Need-part-step-end Inv-loop μ-loop
+part-step-end c = search needs
 
-command-requires : tie.Need-command-requires Inv-loop μ-loop
-command-requires c κs = search needs
+step-requires : tie.Need-step-requires Inv-loop μ-loop
+step-requires c κs = search needs
 
 loop-less : tie.Need-loop-less Inv-loop μ-loop
 loop-less c = search needs
@@ -53,10 +53,10 @@ chunk-spec =
     loop-holds
     sub-loop
     add-end
-    sub-command
-    part-command-start
-    part-command-end
-    command-requires
+    sub-step
+    part-step-start
+    part-step-end
+    step-requires
     loop-less
     loop-again
     same-length
