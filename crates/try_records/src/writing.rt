@@ -14,7 +14,7 @@ ghost use Prim.Native.Nat.{_+_, _≤_};
 ghost use lib.ListN.{length};
 
 // A frame whose kind, outcome or fields are no listed values: there is nothing to write.
-pub fn unlisted() -> Line {
+pub(crate) fn unlisted() -> Line {
     begin(b'?')
 }
 
@@ -89,7 +89,7 @@ fn event_line(x: &[u8], out: &mut [u8]) -> Line
 }
 
 // Writes what the fields say into a buffer.
-pub fn line_of(what: u8, x: &[u8], out: &mut [u8]) -> Line
+pub(crate) fn line_of(what: u8, x: &[u8], out: &mut [u8]) -> Line
     requires { ⌜ length (now x) ≡ 38 ⌝ }
 {
     match what {
