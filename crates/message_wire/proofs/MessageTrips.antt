@@ -16,13 +16,12 @@ use Rattle.model.specs.QuestionLaws.{AllYes, all-yes, yes-all}
 use Rattle.model.specs.Ranges.{sizes, limit}
 use Rattle.model.specs.declared.Message.{Message}
 use Rattle.wire.specs.Bytes.{byte, number2, number4, bytes2, bytes4, AllBytes}
-use Rattle.wire.specs.Codes.{isKind, kindOf, unused}
+use Rattle.wire.specs.Codes.{isKind, unused}
 use Rattle.wire.specs.Marks.{messageMark, messageLength}
 use Rattle.message_wire.specs.Promises.{MessagePromises}
 use Rattle.message_wire.specs.Messages.{messageIn, messageBytes, bitsInRange, willingKnown, knowsForKind, suits, aboutMessage, messageQuestions, returned, readMessage, answerOf}
-use Rattle.message_wire.specs.declared.ReadMessage.{ReadMessage}
-use Rattle.message_wire.specs.declared.ReadMessage.the-variants.{Read, Refused}
-use Rattle.wire.specs.ByteLaws.{two, four, of-two, of-four, places, spread}
+use Rattle.message_wire.specs.declared.ReadMessage.the-variants.{Read}
+use Rattle.wire.specs.ByteLaws.{two, four, of-two, of-four, spread}
 use Rattle.wire.specs.CodeLaws.{kind-listed, kind-of-number, number-of-kind}
 
 -- a set with no bit above n, which is at most 16, fits two bytes

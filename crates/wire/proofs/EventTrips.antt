@@ -1,14 +1,14 @@
 -- Event records, both ways round.
-use Prim.Native.Nat.{ℕ, zero, suc, _+_, _*_, _<_, _^_}
+use Prim.Native.Nat.{ℕ, zero, suc, _<_, _^_}
 use mathlib.Core.Path.{_≡_, refl, sym, _∙_, ap}
-use mathlib.Core.Bool.{Bool, true, false, _&&_}
+use mathlib.Core.Bool.{true, _&&_}
 use mathlib.Core.List.{List, [], _∷_, _++_}
 use native.Mathlib.Omega.{arith}
 use lib.Dec.{eqb}
 use lib.ListN.{length}
-use Rattle.votes.specs.Tests.{and-l, and-r, and-i, eqb-eq, no-both}
+use Rattle.votes.specs.Tests.{and-l, and-r, eqb-eq, no-both}
 use Rattle.model.specs.Numbers.{kindNumber}
-use Rattle.model.specs.Questions.{Reply, accepted, refused, number, firstNo, unless}
+use Rattle.model.specs.Questions.{Reply, accepted, refused, number, firstNo}
 use Rattle.model.specs.QuestionLaws.{AllYes, all-yes, yes-all}
 use Rattle.model.specs.declared.Event.{Event}
 use Rattle.model.specs.declared.Event.the-variants.{Lock, Order, Cast, Deliver, Timeout, Decide, Stop, Save, Restore}
@@ -18,9 +18,8 @@ use Rattle.wire.specs.Marks.{eventMark, eventLength}
 use Rattle.wire.specs.Promises.{EventPromises}
 use Rattle.wire.specs.Events.{fieldsIn, fieldsOf, recordOf, eventBytes, rows, rowOf, rowFor, eventQuestions, returned, readEvent, answerOf}
 use Rattle.wire.specs.declared.Fields.{Fields}
-use Rattle.wire.specs.declared.ReadEvent.{ReadEvent}
-use Rattle.wire.specs.declared.ReadEvent.the-variants.{Read, Refused}
-use Rattle.wire.specs.ByteLaws.{four, of-two, of-four, places, spread}
+use Rattle.wire.specs.declared.ReadEvent.the-variants.{Read}
+use Rattle.wire.specs.ByteLaws.{four, of-two, of-four, spread}
 use Rattle.wire.specs.CodeLaws.{kind-listed, kind-of-number, number-of-kind, flag-listed, flag-of-number, number-of-flag}
 use Rattle.wire.proofs.Rows.{no-row}
 
