@@ -7,18 +7,16 @@ use native.Mathlib.Omega.{arith}
 use lib.Dec.{eqb}
 use lib.ListN.{length}
 use Rattle.votes.specs.Tests.{eqb-eq}
-use Rattle.model.specs.Numbers.{outcomeNumber}
-use Rattle.model.specs.Questions.{Reply, accepted, refused, firstNo}
+use Rattle.model.specs.Questions.{Reply, accepted, refused, number, firstNo}
 use Rattle.model.specs.QuestionLaws.{AllYes, all-yes, yes-all}
 use Rattle.model.specs.declared.Checkpoint.{Checkpoint}
 use Rattle.wire.specs.Bytes.{byte, number2, number4, bytes2, bytes4, AllBytes}
-use Rattle.wire.specs.Codes.{isOutcome, outcomeOf}
+use Rattle.wire.specs.Codes.{isOutcome}
 use Rattle.wire.specs.Marks.{checkpointMark, checkpointLength}
-use Rattle.checkpoint_wire.specs.RoundTrip.{CheckpointRoundTrip}
-use Rattle.checkpoint_wire.specs.Checkpoints.{checkpointIn, checkpointBytes, aboutCheckpoint, checkpointQuestions, returned, readCheckpoint}
-use Rattle.checkpoint_wire.specs.declared.ReadCheckpoint.{ReadCheckpoint}
-use Rattle.checkpoint_wire.specs.declared.ReadCheckpoint.the-variants.{Read, Refused}
-use Rattle.wire.specs.ByteLaws.{four, of-two, of-four, places, spread}
+use Rattle.checkpoint_wire.specs.Promises.{CheckpointPromises}
+use Rattle.checkpoint_wire.specs.Checkpoints.{checkpointIn, checkpointBytes, aboutCheckpoint, checkpointQuestions, returned, readCheckpoint, answerOf}
+use Rattle.checkpoint_wire.specs.declared.ReadCheckpoint.the-variants.{Read}
+use Rattle.wire.specs.ByteLaws.{four, of-two, of-four, spread}
 use Rattle.wire.specs.CodeLaws.{outcome-listed, outcome-of-number, number-of-outcome}
 
 checkpoint-back : (p : Checkpoint) → p .order < 2 ^ 32 → p .position < 2 ^ 32 → checkpointIn (checkpointBytes p) ≡ p
@@ -79,5 +77,14 @@ checkpoint-written-back s p all q =
     ap checkpointBytes (sym (r .1))
     ∙ same-bytes s all (eqb-eq (length s) checkpointLength (yes .0)) (eqb-eq (number2 s 0) checkpointMark (yes .1 .0)) (yes .1 .1 .0)
 
-pub round-trip : CheckpointRoundTrip
-round-trip = record { reads-back = checkpoint-read-back; writes-back = checkpoint-written-back }
+-- the number of what a reader returns
+number-of : (r : Reply) (x : Checkpoint) → answerOf (returned r x) ≡ number r
+number-of accepted x = refl
+number-of (refused q) x = refl
+
+answered : (s : List ℕ) → answerOf (readCheckpoint s) ≡ number (firstNo (checkpointQuestions s))
+unfolding readCheckpoint
+answered s = number-of (firstNo (checkpointQuestions s)) (checkpointIn s)
+
+pub promises : CheckpointPromises
+promises = record { answered = answered; reads-back = checkpoint-read-back; writes-back = checkpoint-written-back }

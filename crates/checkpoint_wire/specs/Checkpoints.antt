@@ -1,7 +1,6 @@
 -- Checkpoint records (document 01: cards). "Card, 14 bytes: 4C 53; controller; n; f; outcome (0 none, 1 Stay, 2 Move); order (4); position (4, two's
 -- complement)."
 use Prim.Native.Nat.{ℕ}
-use mathlib.Core.Bool.{Bool}
 use mathlib.Core.List.{List, [], _∷_, _++_}
 use lib.Dec.{eqb, leb}
 use lib.ListN.{length}

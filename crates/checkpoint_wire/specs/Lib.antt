@@ -1,2 +1,2 @@
 pub mod Checkpoints
-pub mod RoundTrip
+pub mod Promises

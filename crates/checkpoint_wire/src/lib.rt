@@ -1,4 +1,4 @@
-// Checkpoint records: the cards of document 01.
+// Checkpoint records, the cards of document 01: their reader and writer.
 use model::Checkpoint;
 use wire::is_outcome;
 use wire::low;
@@ -17,6 +17,7 @@ pub enum ReadCheckpoint {
     Refused(u8),
 }
 
+// The checkpoint as it stands on the record.
 fn checkpoint_in(s: &[u8]) -> Checkpoint
     requires { ⌜ length (now s) ≡ checkpointLength ⌝ }
     ensures { λ r. ⌜ r ≡ checkpointIn (now (s .entry)) ⌝ }
@@ -50,6 +51,7 @@ fn question(p: Checkpoint) -> u8
     0
 }
 
+// The questions of reading, in their sequence: 1, 2 and 3 here, the rest of the checkpoint.
 pub fn read_checkpoint(s: &[u8]) -> ReadCheckpoint
     ensures { λ r. ⌜ r ≡ readCheckpoint (now (s .entry)) ⌝ }
 {
@@ -70,6 +72,7 @@ pub fn read_checkpoint(s: &[u8]) -> ReadCheckpoint
     ReadCheckpoint::Read(p)
 }
 
+// The fourteen bytes of a checkpoint.
 fn checkpoint_bytes(p: Checkpoint) -> [u8; 14]
     ensures { λ r. ⌜ r ≡ checkpointBytes p ⌝ }
 {

@@ -11,18 +11,17 @@ use lib.Pow.{pow-mono}
 use Rattle.votes.specs.Mask.{noneAbove}
 use Rattle.votes.specs.Tests.{and-l, and-r, and-i, eqb-eq, leb-le}
 use Rattle.model.specs.Numbers.{kindNumber}
-use Rattle.model.specs.Questions.{Reply, accepted, refused, firstNo}
+use Rattle.model.specs.Questions.{Reply, accepted, refused, number, firstNo}
 use Rattle.model.specs.QuestionLaws.{AllYes, all-yes, yes-all}
 use Rattle.model.specs.Ranges.{sizes, limit}
 use Rattle.model.specs.declared.Message.{Message}
 use Rattle.wire.specs.Bytes.{byte, number2, number4, bytes2, bytes4, AllBytes}
-use Rattle.wire.specs.Codes.{isKind, kindOf, unused}
+use Rattle.wire.specs.Codes.{isKind, unused}
 use Rattle.wire.specs.Marks.{messageMark, messageLength}
-use Rattle.message_wire.specs.RoundTrip.{MessageRoundTrip}
-use Rattle.message_wire.specs.Messages.{messageIn, messageBytes, bitsInRange, willingKnown, knowsForKind, suits, aboutMessage, messageQuestions, returned, readMessage}
-use Rattle.message_wire.specs.declared.ReadMessage.{ReadMessage}
-use Rattle.message_wire.specs.declared.ReadMessage.the-variants.{Read, Refused}
-use Rattle.wire.specs.ByteLaws.{two, four, of-two, of-four, places, spread}
+use Rattle.message_wire.specs.Promises.{MessagePromises}
+use Rattle.message_wire.specs.Messages.{messageIn, messageBytes, bitsInRange, willingKnown, knowsForKind, suits, aboutMessage, messageQuestions, returned, readMessage, answerOf}
+use Rattle.message_wire.specs.declared.ReadMessage.the-variants.{Read}
+use Rattle.wire.specs.ByteLaws.{two, four, of-two, of-four, spread}
 use Rattle.wire.specs.CodeLaws.{kind-listed, kind-of-number, number-of-kind}
 
 -- a set with no bit above n, which is at most 16, fits two bytes
@@ -115,5 +114,14 @@ message-written-back s m all q =
     (and-l (isKind (byte s 2)) (unused (byte s 7)) (each .1 .1 .0))
     (eqb-eq (byte s 7) 0 (and-r (isKind (byte s 2)) (unused (byte s 7)) (each .1 .1 .0)))
 
-pub round-trip : MessageRoundTrip
-round-trip = record { reads-back = message-read-back; writes-back = message-written-back }
+-- the number of what a reader returns
+number-of : (r : Reply) (x : Message) → answerOf (returned r x) ≡ number r
+number-of accepted x = refl
+number-of (refused q) x = refl
+
+answered : (s : List ℕ) → answerOf (readMessage s) ≡ number (firstNo (messageQuestions s))
+unfolding readMessage
+answered s = number-of (firstNo (messageQuestions s)) (messageIn s)
+
+pub promises : MessagePromises
+promises = record { answered = answered; reads-back = message-read-back; writes-back = message-written-back }

@@ -1,6 +1,8 @@
-// Message records: the telegrams of document 01.
-use model::Kind;
+// Message records, the telegrams of document 01: their reader and writer.
+mod questions;
+
 use model::Message;
+use questions::question;
 use votes::VoteSet;
 use wire::is_kind;
 use wire::kind_of;
@@ -9,9 +11,9 @@ use wire::number2;
 use wire::number4;
 ghost use mathlib.Core.Path.{_≡_};
 ghost use lib.ListN.{length};
-ghost use Rattle.model.specs.Questions.{firstNo, number};
+ghost use Rattle.model.specs.Questions.{number};
 ghost use Rattle.wire.specs.Marks.{messageLength};
-ghost use Rattle.message_wire.specs.Messages.{messageIn, messageBytes, endsInRange, bitsInRange, knowsForKind, suits, aboutMessage, readMessage, answerOf, messageReply, writeMessage, copyReply, copyMessage};
+ghost use Rattle.message_wire.specs.Messages.{messageIn, messageBytes, readMessage, answerOf, messageReply, writeMessage, copyReply, copyMessage};
 
 // A record, or the number of the first question that was answered "no".
 pub enum ReadMessage {
@@ -19,6 +21,7 @@ pub enum ReadMessage {
     Refused(u8),
 }
 
+// The message as it stands on the record.
 fn message_in(s: &[u8]) -> Message
     requires { ⌜ length (now s) ≡ messageLength ⌝ }
     ensures { λ r. ⌜ r ≡ messageIn (now (s .entry)) ⌝ }
@@ -38,74 +41,7 @@ fn message_in(s: &[u8]) -> Message
     }
 }
 
-fn ends_in_range(n: u8, from: u8, to: u8) -> bool
-    ensures { λ r. ⌜ r ≡ endsInRange n from to ⌝ }
-{
-    if !model::member(n, from) {
-        return false;
-    }
-    if !model::member(n, to) {
-        return false;
-    }
-    from != to
-}
-
-fn bits_in_range(m: Message) -> bool
-    ensures { λ r. ⌜ r ≡ bitsInRange m ⌝ }
-{
-    let set = m.votes;
-    votes::none_above(set.known, m.n) && votes::none_above(set.willing, m.n)
-}
-
-fn knows_for_kind(kind: Kind, from: u8, known: u32) -> bool
-    ensures { λ r. ⌜ r ≡ knowsForKind kind from known ⌝ }
-{
-    match kind {
-        Kind::Vote => known == votes::insert(0, from),
-        Kind::Ack => votes::has(known, from),
-        Kind::Help => known == 0,
-        Kind::Helped => votes::has(known, from),
-    }
-}
-
-// Question 9: does the sheet suit the kind?
-fn suits(m: Message) -> bool
-    ensures { λ r. ⌜ r ≡ suits m ⌝ }
-{
-    if !bits_in_range(m) {
-        return false;
-    }
-    let set = m.votes;
-    if !votes::within(set.willing, set.known) {
-        return false;
-    }
-    let kind = m.kind;
-    knows_for_kind(kind, m.from, set.known)
-}
-
-// Questions 4, 7, 8, 9 and 10: 0, or the number of the first that is answered "no".
-fn question(m: Message) -> u8
-    ensures { λ r. ⌜ r ≡ number (firstNo (aboutMessage m)) ⌝ }
-{
-    if !model::sizes(m.n, m.f) {
-        return 4;
-    }
-    if !ends_in_range(m.n, m.from, m.to) {
-        return 7;
-    }
-    if m.order < 1 {
-        return 8;
-    }
-    if !suits(m) {
-        return 9;
-    }
-    let kind = m.kind;
-    if !model::route(m.f, kind, m.from, m.to) {
-        return 10;
-    }
-    0
-}
-
+// The questions of reading, in their sequence: 1, 2 and 3 here, the rest of the message.
 pub fn read_message(s: &[u8]) -> ReadMessage
     ensures { λ r. ⌜ r ≡ readMessage (now (s .entry)) ⌝ }
 {
@@ -129,7 +65,7 @@ pub fn read_message(s: &[u8]) -> ReadMessage
     ReadMessage::Read(m)
 }
 
-// Question 9 leaves no bit above n, which is at most 16: two bytes hold each of the sets.
+// The sixteen bytes of a message. Question 9 leaves no bit above n, which is at most 16: two bytes hold each of the sets.
 fn message_bytes(m: Message) -> [u8; 16]
     ensures { λ r. ⌜ r ≡ messageBytes m ⌝ }
 {

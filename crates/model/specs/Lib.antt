@@ -1,4 +1,6 @@
 pub mod Ranges
+pub mod Positions
+pub mod PositionLaws
 pub mod Routes
 pub mod Numbers
 pub mod Questions

@@ -1,12 +1,12 @@
 -- Laws of questions: accepted is "yes" to each, and the number tells the reply.
 use Prim.Native.Nat.{ℕ, zero, suc}
 use mathlib.Core.Path.{_≡_, refl, sym, _∙_, ap}
-use mathlib.Core.Bool.{Bool, true, false, _&&_}
+use mathlib.Core.Bool.{Bool, true, _&&_}
 use mathlib.Core.List.{List, [], _∷_, _++_}
 use native.Mathlib.Omega.{arith}
 use lib.Dec.{ltb}
-use Rattle.votes.specs.Tests.{_⊎_, inl, inr, split, and-l, and-r}
-use Rattle.model.specs.Questions.{Reply, accepted, refused, number, Question, ask, unless, firstNo}
+use Rattle.votes.specs.Tests.{inl, inr, split, and-l, and-r}
+use Rattle.model.specs.Questions.{Reply, accepted, refused, number, Question, unless, firstNo}
 
 -- each question is answered "yes"
 abbrev pub AllYes : List Question → Type 0

@@ -14,7 +14,8 @@ sizes n f = leb 2 n && leb n limit && leb 1 f && ltb f n
 unfoldable pub member : ℕ → ℕ → Bool
 member n k = leb 1 k && leb k n
 
--- "Positions are −20,000 to 20,000 mm" (question 11), here as 32-bit two's complement: 0 to 20,000, or 2³² − 20,000 and above
+-- "Positions are −20,000 to 20,000 mm" (question 11), here as 32-bit two's complement: 0 to 20,000, or 2³² − 20,000 and above.
+-- `reachable-is` of PositionLaws says that this is the range of the millimetres.
 unfoldable pub reachable : ℕ → Bool
 reachable p = leb p 20000 || leb 4294947296 p
 

@@ -6,7 +6,7 @@ pub struct Line {
     pub used: usize,
 }
 
-pub fn begin(first: u8) -> Line {
+pub(crate) fn begin(first: u8) -> Line {
     put(
         Line {
             text: [0u8; 80],
@@ -16,7 +16,7 @@ pub fn begin(first: u8) -> Line {
     )
 }
 
-pub fn put(line: Line, byte: u8) -> Line {
+pub(crate) fn put(line: Line, byte: u8) -> Line {
     let mut next = line;
     let at = line.used;
     if at < 80 {
@@ -27,7 +27,7 @@ pub fn put(line: Line, byte: u8) -> Line {
 }
 
 // A space and a number in decimal.
-pub fn put_number(line: Line, v: u32) -> Line {
+pub(crate) fn put_number(line: Line, v: u32) -> Line {
     let mut next = put(line, b' ');
     let mut power: u32 = 1000000000;
     while power > 0 {
@@ -49,7 +49,7 @@ fn put_digit(line: Line, v: u32, power: u32) -> Line
 }
 
 // A byte as two hexadecimal digits.
-pub fn put_hex(line: Line, byte: u8) -> Line {
+pub(crate) fn put_hex(line: Line, byte: u8) -> Line {
     put(put(line, glyph(byte / 16)), glyph(byte % 16))
 }
 
@@ -69,7 +69,7 @@ fn show(text: [u8; 80], used: usize) {
     }
 }
 
-pub fn print(line: Line) {
+pub(crate) fn print(line: Line) {
     let ended = put(line, b'\n');
     let text = ended.text;
     show(text, ended.used);

@@ -57,7 +57,7 @@ fn event_line(s: &[u8]) -> Line {
     put_number(line, x.value)
 }
 
-pub fn line_of(what: u8, s: &[u8]) -> Line {
+pub(crate) fn line_of(what: u8, s: &[u8]) -> Line {
     match what {
         0 => message_line(s),
         1 => checkpoint_line(s),

@@ -10,10 +10,11 @@ use votes::VoteSet;
 use wire::ReadEvent;
 use wire::number4;
 ghost use mathlib.Core.Path.{_≡_};
+ghost use Prim.Native.Nat.{_+_, _≤_};
 ghost use lib.ListN.{length};
 
 // A frame whose kind, outcome or fields are no listed values: there is nothing to write.
-pub fn unlisted() -> Line {
+pub(crate) fn unlisted() -> Line {
     begin(b'?')
 }
 
@@ -27,6 +28,13 @@ fn written(q: u8, out: &[u8]) -> Line {
     line
 }
 
+// The number in the four bytes from a place on.
+fn word(x: &[u8], at: usize) -> u32
+    requires { ⌜ at + 4 ≤ length (now x) ⌝ }
+{
+    number4(x[at], x[at + 1], x[at + 2], x[at + 3])
+}
+
 fn message_line(x: &[u8], out: &mut [u8]) -> Line
     requires { ⌜ length (now x) ≡ 38 ⌝ }
 {
@@ -34,8 +42,8 @@ fn message_line(x: &[u8], out: &mut [u8]) -> Line
         return unlisted();
     }
     let votes = VoteSet {
-        known: number4(x[9], x[10], x[11], x[12]),
-        willing: number4(x[13], x[14], x[15], x[16]),
+        known: word(x, 9),
+        willing: word(x, 13),
     };
     let m = Message {
         kind: wire::kind_of(x[0]),
@@ -43,7 +51,7 @@ fn message_line(x: &[u8], out: &mut [u8]) -> Line
         f: x[2],
         from: x[3],
         to: x[4],
-        order: number4(x[5], x[6], x[7], x[8]),
+        order: word(x, 5),
         votes,
     };
     let q = message_wire::write_message(out, m);
@@ -61,8 +69,8 @@ fn checkpoint_line(x: &[u8], out: &mut [u8]) -> Line
         n: x[1],
         f: x[2],
         outcome: wire::outcome_of(x[3]),
-        order: number4(x[4], x[5], x[6], x[7]),
-        position: number4(x[8], x[9], x[10], x[11]),
+        order: word(x, 4),
+        position: word(x, 8),
     };
     let q = checkpoint_wire::write_checkpoint(out, p);
     written(q, out)
@@ -81,7 +89,7 @@ fn event_line(x: &[u8], out: &mut [u8]) -> Line
 }
 
 // Writes what the fields say into a buffer.
-pub fn line_of(what: u8, x: &[u8], out: &mut [u8]) -> Line
+pub(crate) fn line_of(what: u8, x: &[u8], out: &mut [u8]) -> Line
     requires { ⌜ length (now x) ≡ 38 ⌝ }
 {
     match what {

@@ -1,26 +1,25 @@
 -- Event records, both ways round.
-use Prim.Native.Nat.{ℕ, zero, suc, _+_, _*_, _<_, _^_}
+use Prim.Native.Nat.{ℕ, zero, suc, _<_, _^_}
 use mathlib.Core.Path.{_≡_, refl, sym, _∙_, ap}
-use mathlib.Core.Bool.{Bool, true, false, _&&_}
+use mathlib.Core.Bool.{true, _&&_}
 use mathlib.Core.List.{List, [], _∷_, _++_}
 use native.Mathlib.Omega.{arith}
 use lib.Dec.{eqb}
 use lib.ListN.{length}
-use Rattle.votes.specs.Tests.{and-l, and-r, and-i, eqb-eq, no-both}
+use Rattle.votes.specs.Tests.{and-l, and-r, eqb-eq, no-both}
 use Rattle.model.specs.Numbers.{kindNumber}
-use Rattle.model.specs.Questions.{Reply, accepted, refused, firstNo, unless}
+use Rattle.model.specs.Questions.{Reply, accepted, refused, number, firstNo}
 use Rattle.model.specs.QuestionLaws.{AllYes, all-yes, yes-all}
 use Rattle.model.specs.declared.Event.{Event}
 use Rattle.model.specs.declared.Event.the-variants.{Lock, Order, Cast, Deliver, Timeout, Decide, Stop, Save, Restore}
 use Rattle.wire.specs.Bytes.{byte, number2, number4, bytes2, bytes4, AllBytes}
 use Rattle.wire.specs.Codes.{isKind, kindOf, isFlag, flagOf, flagNumber, unused}
 use Rattle.wire.specs.Marks.{eventMark, eventLength}
-use Rattle.wire.specs.RoundTrip.{EventRoundTrip}
-use Rattle.wire.specs.Events.{fieldsIn, fieldsOf, recordOf, eventBytes, rows, rowOf, rowFor, eventQuestions, returned, readEvent}
+use Rattle.wire.specs.Promises.{EventPromises}
+use Rattle.wire.specs.Events.{fieldsIn, fieldsOf, recordOf, eventBytes, rows, rowOf, rowFor, eventQuestions, returned, readEvent, answerOf}
 use Rattle.wire.specs.declared.Fields.{Fields}
-use Rattle.wire.specs.declared.ReadEvent.{ReadEvent}
-use Rattle.wire.specs.declared.ReadEvent.the-variants.{Read, Refused}
-use Rattle.wire.specs.ByteLaws.{four, of-two, of-four, places, spread}
+use Rattle.wire.specs.declared.ReadEvent.the-variants.{Read}
+use Rattle.wire.specs.ByteLaws.{four, of-two, of-four, spread}
 use Rattle.wire.specs.CodeLaws.{kind-listed, kind-of-number, number-of-kind, flag-listed, flag-of-number, number-of-flag}
 use Rattle.wire.proofs.Rows.{no-row}
 
@@ -143,5 +142,14 @@ event-written-back s e all q =
     ∙ (ap recordOf (same-fields (x .kind) (x .a) (x .b) (x .c) (x .value) (yes .1 .1 .0))
     ∙ same-bytes s all (eqb-eq (length s) eventLength (yes .0)) (eqb-eq (number2 s 0) eventMark (yes .1 .0)))
 
-pub round-trip : EventRoundTrip
-round-trip = record { reads-back = event-read-back; writes-back = event-written-back }
+-- the number of what a reader returns
+number-of : (r : Reply) (x : Event) → answerOf (returned r x) ≡ number r
+number-of accepted x = refl
+number-of (refused q) x = refl
+
+answered : (s : List ℕ) → answerOf (readEvent s) ≡ number (firstNo (eventQuestions s))
+unfolding readEvent
+answered s = number-of (firstNo (eventQuestions s)) (rowFor (fieldsIn s) .event)
+
+pub promises : EventPromises
+promises = record { answered = answered; reads-back = event-read-back; writes-back = event-written-back }

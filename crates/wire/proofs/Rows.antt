@@ -1,11 +1,11 @@
 -- The rows of the table of events, by the kind.
 use Prim.Native.Nat.{ℕ, zero, suc, _≤_, _<_}
-use mathlib.Core.Path.{_≡_, refl, ap}
+use mathlib.Core.Path.{_≡_, ap}
 use mathlib.Core.Bool.{false}
 use native.Mathlib.Omega.{arith}
 use borrow.Author.Tests.{ne-eqb}
 use Rattle.model.specs.declared.Event.the-variants.{Lock}
-use Rattle.wire.specs.Events.{Row, row, rows, rowOf, rowFor}
+use Rattle.wire.specs.Events.{row, rows, rowOf, rowFor}
 use Rattle.wire.specs.declared.Fields.{Fields}
 
 pub row-at : (x : Fields) (k : ℕ) → x .kind ≡ k → rowFor x ≡ rowOf k (rows x)

@@ -5,7 +5,7 @@ use mathlib.Core.List.{List, [], _∷_, _++_, append-nil}
 use native.Mathlib.Omega.{arith}
 use lib.ListN.{length, take, drop, drop-of-length-le}
 use lib.Seq.{take-length}
-use Rattle.wire.specs.Bytes.{byte, number2, number4, bytes2, bytes4}
+use Rattle.wire.specs.Bytes.{byte, bytes2, bytes4}
 
 -- the number of its bytes
 pub two : (v : ℕ) → v < 65536 → v / 256 % 256 * 256 + v % 256 ≡ v

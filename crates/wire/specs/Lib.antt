@@ -5,4 +5,4 @@ pub mod CodeLaws
 pub mod Marks
 pub mod Writing
 pub mod Events
-pub mod RoundTrip
+pub mod Promises

@@ -1,21 +1,18 @@
-// Event records.
+// Event records: their reader and writer.
 use crate::Fields;
 use crate::ReadEvent;
 use crate::codes::flag_number;
 use crate::codes::flag_of;
-use crate::codes::is_flag;
-use crate::codes::is_kind;
 use crate::codes::kind_of;
+use crate::listed::listed;
 use crate::number::low;
 use crate::number::number2;
 use crate::number::number4;
 use model::Event;
 use model::kind_number;
 ghost use mathlib.Core.Path.{_≡_};
-ghost use mathlib.Core.Bool.{_&&_};
 ghost use lib.ListN.{length};
 ghost use Rattle.model.specs.Questions.{number};
-ghost use Rattle.wire.specs.Codes.{isKind, isFlag, unused};
 ghost use Rattle.wire.specs.Marks.{eventLength};
 ghost use Rattle.wire.specs.Events.{fieldsIn, fieldsOf, eventBytes, rowFor, readEvent, answerOf, eventReply, writeEvent, copyReply, copyEvent};
 
@@ -30,65 +27,6 @@ fn fields_in(s: &[u8]) -> Fields
         b: s[4],
         c: s[5],
         value: number4(s[6], s[7], s[8], s[9]),
-    }
-}
-
-// Question 3 by the kind of event: the flags and kinds among the fields are listed values, and what is not used is 0.
-fn lock_listed(c: u8, value: u32) -> bool
-    ensures { λ r. ⌜ r ≡ (unused c && unused value) ⌝ }
-{
-    c == 0 && value == 0
-}
-
-fn order_listed(a: u8, b: u8, c: u8) -> bool
-    ensures { λ r. ⌜ r ≡ (unused a && unused b && unused c) ⌝ }
-{
-    if a != 0 {
-        return false;
-    }
-    b == 0 && c == 0
-}
-
-fn vote_listed(b: u8, c: u8) -> bool
-    ensures { λ r. ⌜ r ≡ (isFlag b && unused c) ⌝ }
-{
-    is_flag(b) && c == 0
-}
-
-fn delivery_listed(c: u8, value: u32) -> bool
-    ensures { λ r. ⌜ r ≡ (isKind c && unused value) ⌝ }
-{
-    is_kind(c) && value == 0
-}
-
-fn decision_listed(b: u8, c: u8, value: u32) -> bool
-    ensures { λ r. ⌜ r ≡ (isFlag b && unused c && unused value) ⌝ }
-{
-    is_flag(b) && lock_listed(c, value)
-}
-
-fn other_listed(b: u8, c: u8, value: u32) -> bool
-    ensures { λ r. ⌜ r ≡ (unused b && unused c && unused value) ⌝ }
-{
-    b == 0 && lock_listed(c, value)
-}
-
-// Question 3: is the kind a listed value, and do the other fields suit it?
-fn listed(x: Fields) -> bool
-    ensures { λ r. ⌜ r ≡ rowFor x .listed ⌝ }
-{
-    let kind = x.kind;
-    match kind {
-        0 => lock_listed(x.c, x.value),
-        1 => order_listed(x.a, x.b, x.c),
-        2 => vote_listed(x.b, x.c),
-        3 => delivery_listed(x.c, x.value),
-        4 => other_listed(x.b, x.c, x.value),
-        5 => decision_listed(x.b, x.c, x.value),
-        6 => other_listed(x.b, x.c, x.value),
-        7 => other_listed(x.b, x.c, x.value),
-        8 => other_listed(x.b, x.c, x.value),
-        _ => false,
     }
 }
 
@@ -111,6 +49,7 @@ fn event_of(x: Fields) -> Event
     }
 }
 
+// The questions of reading, in their sequence: 1, 2 and 3.
 pub fn read_event(s: &[u8]) -> ReadEvent
     ensures { λ r. ⌜ r ≡ readEvent (now (s .entry)) ⌝ }
 {
@@ -128,6 +67,7 @@ pub fn read_event(s: &[u8]) -> ReadEvent
     ReadEvent::Read(e)
 }
 
+// The fields, in the sequence of the record.
 fn made(kind: u8, a: u8, b: u8, c: u8, value: u32) -> Fields
     ensures { λ r. ⌜ r ≡ record { kind = kind; a = a; b = b; c = c; value = value } ⌝ }
 {
@@ -157,6 +97,7 @@ pub fn fields_of(e: Event) -> Fields
     }
 }
 
+// The ten bytes of an event.
 fn event_bytes(e: Event) -> [u8; 10]
     ensures { λ r. ⌜ r ≡ eventBytes e ⌝ }
 {

@@ -3,6 +3,7 @@ use model::Event;
 
 mod codes;
 mod event;
+mod listed;
 mod number;
 
 pub use codes::flag_number;

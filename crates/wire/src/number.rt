@@ -8,6 +8,7 @@ fn wide(x: u8) -> u32
     x as u32
 }
 
+// The number that two bytes stand for, the first the highest; and that four do.
 pub fn number2(a: u8, b: u8) -> u32
     ensures { λ r. ⌜ r ≡ a * 256 + b ⌝ }
 {

@@ -1,6 +1,6 @@
 use borrow.Author.Tests.{eq-eqb, ne-eqb}
-use Rattle.wire.proofs.event.lock_listed.Statement.{statement}
-use Rattle.wire.proofs.event.lock_listed.Tie as tie
+use Rattle.wire.proofs.listed.lock_listed.Statement.{statement}
+use Rattle.wire.proofs.listed.lock_listed.Tie as tie
 
 returns : tie.Need-returns
 returns c = simp (eq-eqb _ _ (c .if1 .taken))

@@ -2,8 +2,8 @@ use borrow.Author.Tests.{le-leb, lt-leb, not-true, not-false}
 use borrow.Author.Needs.{needs}
 use Rattle.message_wire.specs.Messages.{aboutMessage}
 use Rattle.model.specs.Questions.{firstNo, unless}
-use Rattle.message_wire.proofs.question.Statement.{statement}
-use Rattle.message_wire.proofs.question.Tie as tie
+use Rattle.message_wire.proofs.questions.question.Statement.{statement}
+use Rattle.message_wire.proofs.questions.question.Tie as tie
 
 sizes-requires : tie.Need-sizes-requires
 sizes-requires c κs = search needs

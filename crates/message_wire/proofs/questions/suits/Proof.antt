@@ -1,8 +1,8 @@
 use borrow.Author.Tests.{not-true, not-false}
 use borrow.Author.Needs.{needs}
 use Rattle.message_wire.specs.Messages.{suits}
-use Rattle.message_wire.proofs.suits.Statement.{statement}
-use Rattle.message_wire.proofs.suits.Tie as tie
+use Rattle.message_wire.proofs.questions.suits.Statement.{statement}
+use Rattle.message_wire.proofs.questions.suits.Tie as tie
 
 bits-in-range-requires : tie.Need-bits-in-range-requires
 bits-in-range-requires c κs = search needs

@@ -1,8 +1,8 @@
 use borrow.Author.Tests.{not-true, not-false}
 use borrow.Author.Needs.{needs}
 use Rattle.message_wire.specs.Messages.{endsInRange}
-use Rattle.message_wire.proofs.ends_in_range.Statement.{statement}
-use Rattle.message_wire.proofs.ends_in_range.Tie as tie
+use Rattle.message_wire.proofs.questions.ends_in_range.Statement.{statement}
+use Rattle.message_wire.proofs.questions.ends_in_range.Tie as tie
 
 member-requires : tie.Need-member-requires
 member-requires c κs = search needs

@@ -1,7 +1,7 @@
 use borrow.Author.Needs.{needs}
 use Rattle.message_wire.specs.Messages.{knowsForKind}
-use Rattle.message_wire.proofs.knows_for_kind.Statement.{statement}
-use Rattle.message_wire.proofs.knows_for_kind.Tie as tie
+use Rattle.message_wire.proofs.questions.knows_for_kind.Statement.{statement}
+use Rattle.message_wire.proofs.questions.knows_for_kind.Tie as tie
 
 enum-told : tie.Need-enum-told
 enum-told c = search needs

@@ -1,6 +1,6 @@
 use borrow.Author.Needs.{needs}
-use Rattle.wire.proofs.event.delivery_listed.Statement.{statement}
-use Rattle.wire.proofs.event.delivery_listed.Tie as tie
+use Rattle.wire.proofs.listed.delivery_listed.Statement.{statement}
+use Rattle.wire.proofs.listed.delivery_listed.Tie as tie
 
 is-kind-requires : tie.Need-is-kind-requires
 is-kind-requires c κs = search needs

@@ -1,8 +1,8 @@
 use borrow.Author.Needs.{needs}
 use Rattle.wire.specs.Events.{rowOf, rows}
 use Rattle.wire.proofs.Rows.{row-at, no-row, above}
-use Rattle.wire.proofs.event.listed.Statement.{statement}
-use Rattle.wire.proofs.event.listed.Tie as tie
+use Rattle.wire.proofs.listed.listed.Statement.{statement}
+use Rattle.wire.proofs.listed.listed.Tie as tie
 
 lock-listed-requires : tie.Need-lock-listed-requires
 lock-listed-requires c κs = search needs

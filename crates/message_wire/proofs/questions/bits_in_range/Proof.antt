@@ -1,7 +1,7 @@
 use borrow.Author.Needs.{needs}
 use Rattle.message_wire.specs.Messages.{bitsInRange}
-use Rattle.message_wire.proofs.bits_in_range.Statement.{statement}
-use Rattle.message_wire.proofs.bits_in_range.Tie as tie
+use Rattle.message_wire.proofs.questions.bits_in_range.Statement.{statement}
+use Rattle.message_wire.proofs.questions.bits_in_range.Tie as tie
 
 none-above-requires : tie.Need-none-above-requires
 none-above-requires c κs = search needs

@@ -1,0 +1,28 @@
+-- Question 11 as it is asked, of two's complement, is the document's question of millimetres.
+use Prim.Native.Nat.{ℕ, _-_, _^_, _≤_, _<_}
+use mathlib.Core.Path.{_≡_, refl}
+use mathlib.Core.Bool.{Bool, true, false, _||_}
+use native.Mathlib.Omega.{arith}
+use borrow.Author.Tests.{ltb-true, ltb-false, lt-ltb, lt-leb, le-leb}
+use lib.Dec.{leb, ltb}
+use Rattle.votes.specs.Tests.{inl, inr, split, same-test, leb-le}
+use Rattle.model.specs.Ranges.{reachable}
+use Rattle.model.specs.Positions.{millimetres, inRange}
+
+-- the lower end, as two's complement and as millimetres
+low-end : (p : ℕ) → 2 ^ 31 ≤ p → p < 2 ^ 32 → leb 4294947296 p ≡ ltb (2 ^ 32 - 1 - p) 20000
+low-end p l h =
+    same-test (leb 4294947296 p) (ltb (2 ^ 32 - 1 - p) 20000)
+    (λ t. let e : 4294947296 ≤ p = leb-le 4294947296 p t in lt-ltb (2 ^ 32 - 1 - p) 20000 (omega arith))
+    (λ t. let e : 2 ^ 32 - 1 - p < 20000 = ltb-true (2 ^ 32 - 1 - p) 20000 t in le-leb 4294947296 p (omega arith))
+
+or-no : (b : Bool) → (b || false) ≡ b
+or-no true = refl
+or-no false = refl
+
+pub reachable-is : (p : ℕ) → p < 2 ^ 32 → reachable p ≡ inRange (millimetres p)
+unfolding reachable inRange millimetres
+reachable-is p h = elim (split (ltb p (2 ^ 31))) [
+  | inl t ↦ let e : p < 2 ^ 31 = ltb-true p (2 ^ 31) t in rw (t, lt-leb 4294947296 p (omega arith)) (or-no (leb p 20000))
+  | inr t ↦ let e : 2 ^ 31 ≤ p = ltb-false p (2 ^ 31) t in rw (t, lt-leb p 20000 (omega arith)) (low-end p e h)
+]
