@@ -1,7 +1,7 @@
 -- Document 01, "Words with values": which numbers there are.
-use Prim.Native.Nat.{ℕ}
+use Prim.Native.Nat.{ℕ, suc}
 use mathlib.Core.Bool.{Bool, _&&_, _||_}
-use lib.Dec.{leb, ltb}
+use lib.Dec.{eqb, leb, ltb}
 
 -- "n from 2 to 16; f from 1 to n − 1" (question 4)
 abbrev pub limit : ℕ
@@ -21,3 +21,6 @@ reachable p = leb p 20000 || leb 4294947296 p
 -- "Controllers 1 to f are holders; f + 1 is the second holder." The paper's backup processes.
 abbrev pub isBackup : ℕ → ℕ → Bool
 isBackup f k = leb k f
+
+abbrev pub isSecondBackup : ℕ → ℕ → Bool
+isSecondBackup f k = eqb k (suc f)

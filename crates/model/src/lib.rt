@@ -1,4 +1,20 @@
 // The records of document 01 as values: telegrams, cards, events, and what they are made of.
+mod numbers;
+mod ranges;
+mod routes;
+
+pub use numbers::is_move;
+pub use numbers::is_none;
+pub use numbers::is_stay;
+pub use numbers::kind_number;
+pub use numbers::outcome_number;
+pub use numbers::word_of;
+pub use ranges::is_backup;
+pub use ranges::is_second_backup;
+pub use ranges::member;
+pub use ranges::reachable;
+pub use ranges::sizes;
+pub use routes::route;
 use votes::VoteSet;
 
 // The kinds of telegram, numbered 1 to 4 on the wire: vote, acknowledgement, help call, help answer.
