@@ -9,6 +9,7 @@ use lib.Pow.{pow-pos, pow-lt, pow-add, shl-shr, mod-pow-add}
 use lib.Dec.{eqb, leb, ltb}
 use native.Mathlib.Decide.{decLe, ℕ-discrete}
 use lib.Bits.{bitOr, or-shr, or-step}
+use borrow.Author.Tests.{le-ltb}
 use Rattle.votes.specs.Tests.{_⊎_, inl, inr, split, by-cond, and-l, and-r, and-i, or-r, or-l, not-t, no-both, eqb-eq, eqb-same, eqb-no, eq-eqb, same-test, leb-le, le-leb, ltb-yes}
 use Rattle.votes.specs.Quantify.{allTo, all-at, all-of}
 use Rattle.votes.specs.Update.{upd, upd-same, upd-other, fun-ext}
@@ -19,6 +20,21 @@ pub has-at : (m k : ℕ) → 1 ≤ k → has m k ≡ eqb (m / 2 ^ (k - 1) % 2) 1
 unfolding has
 has-at m zero h = absurd (omega arith)
 has-at m (suc k) h = let e : suc k - 1 ≡ k = omega arith in rw e
+
+pub insert-at : (m k : ℕ) → 1 ≤ k → k ≤ width → insert m k ≡ bitOr m (2 ^ (k - 1))
+unfolding insert
+insert-at m zero h w = absurd (omega arith)
+insert-at m (suc k) h w = let e : suc k - 1 ≡ k = omega arith in rw (ltb-yes k width w, e)
+
+-- a number that has no bit leaves the set as it is
+pub insert-zero : (m : ℕ) → insert m 0 ≡ m
+unfolding insert
+insert-zero m = refl
+
+pub insert-past : (m k : ℕ) → width < k → insert m k ≡ m
+unfolding insert
+insert-past m zero h = refl
+insert-past m (suc k) h = rw (le-ltb k width (omega arith))
 
 -- a number below 2 is 0 or 1
 or-test : (x y : ℕ) → x < 2 → y < 2 → eqb (max x y) 1 ≡ (eqb x 1 || eqb y 1)
@@ -83,7 +99,7 @@ pub insert-is : (m i : ℕ) → 1 ≤ i → i ≤ width → has (insert m i) ≡
 insert-is m i a b = fun-ext (has (insert m i)) (upd (has m) i true) (λ k. has-insert m i k a b)
 
 -- the lowest n bits, one more
-low-suc : (m n : ℕ) → m % 2 ^ (suc n) ≡ m / 2 ^ n % 2 * 2 ^ n + m % 2 ^ n
+pub low-suc : (m n : ℕ) → m % 2 ^ (suc n) ≡ m / 2 ^ n % 2 * 2 ^ n + m % 2 ^ n
 low-suc m n = rw one-add at (mod-pow-add m 1 n)
 
 top-one : (b p r : ℕ) → b < 2 → r < p → b * p + r ≡ p * 2 - 1 → b ≡ 1

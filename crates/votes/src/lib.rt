@@ -1,5 +1,18 @@
+// Vote sets, and the masks that they are made of.
 ghost use mathlib.Core.Path.{_≡_};
-ghost use Rattle.votes.specs.VoteSets.{empty};
+ghost use mathlib.Core.Bool.{cond};
+ghost use Prim.Native.Nat.{_≤_, min};
+ghost use Rattle.votes.specs.Mask.{has};
+ghost use Rattle.votes.specs.VoteSets.{empty, single, join, complete, unanimous, joinAll};
+
+mod mask;
+
+pub use mask::full_to;
+pub use mask::has;
+pub use mask::insert;
+pub use mask::none_above;
+pub use mask::size;
+pub use mask::within;
 
 // A sheet: the controllers whose vote is known, and those of them known to be willing. Bit k - 1 is controller k.
 pub struct VoteSet {
@@ -14,4 +27,80 @@ pub fn empty_set() -> VoteSet
         known: 0,
         willing: 0,
     }
+}
+
+// The sheet of one vote.
+pub fn single(k: u8, willing: bool) -> VoteSet
+    ensures { λ r. ⌜ r ≡ single k willing ⌝ }
+{
+    let known = insert(0, k);
+    if willing {
+        return VoteSet {
+            known,
+            willing: known,
+        };
+    }
+    VoteSet { known, willing: 0 }
+}
+
+// What either of two sheets knows.
+pub fn join(s: VoteSet, t: VoteSet) -> VoteSet
+    ensures { λ r. ⌜ r ≡ join s t ⌝ }
+{
+    VoteSet {
+        known: s.known | t.known,
+        willing: s.willing | t.willing,
+    }
+}
+
+// Is the vote of each of 1..n known? (document 01: the sheet is full)
+pub fn complete(s: VoteSet, n: u8) -> bool
+    ensures { λ r. ⌜ r ≡ complete n s ⌝ }
+{
+    full_to(s.known, n)
+}
+
+// Is each of 1..n known and willing? (document 01: the sheet's word is Move)
+pub fn unanimous(s: VoteSet, n: u8) -> bool
+    ensures { λ r. ⌜ r ≡ unanimous n s ⌝ }
+{
+    if full_to(s.known, n) {
+        return full_to(s.willing, n);
+    }
+    false
+}
+
+// The join of the sheets of those senders of 1..m that are in a set. Only 16 have a sheet.
+pub fn join_all(m: u8, from: u32, sheets: [VoteSet; 16]) -> VoteSet
+    ensures { λ r. ⌜ r ≡ joinAll m from sheets ⌝ }
+{
+    let mut joined = empty_set();
+    let end = at_most_16(m);
+    let mut k: u8 = 0;
+    while k < end {
+        let at = k as usize;
+        let s = sheets[at];
+        k += 1;
+        joined = join_if(joined, s, from, k);
+    }
+    joined
+}
+
+fn at_most_16(m: u8) -> u8
+    ensures { λ r. ⌜ r ≡ min m 16 ⌝ }
+{
+    if m < 16 {
+        return m;
+    }
+    16
+}
+
+// The sheet joined with that of sender k, if k is in the set.
+fn join_if(joined: VoteSet, s: VoteSet, from: u32, k: u8) -> VoteSet
+    ensures { λ r. ⌜ r ≡ cond (has from k) (join joined s) joined ⌝ }
+{
+    if has(from, k) {
+        return join(joined, s);
+    }
+    joined
 }

@@ -1,0 +1,108 @@
+-- How many of 1..n are in a set: laws of `countTo n (has m)`, for any n.
+use Prim.Native.Nat.{ℕ, zero, suc, _+_, _*_, _^_, _/_, _%_, _≤_, _<_}
+use mathlib.Core.Path.{_≡_, refl, sym, _∙_, ap}
+use mathlib.Core.Bool.{Bool, true, false, not, cond, false≢true}
+use native.Mathlib.Omega.{arith}
+use native.Mathlib.Decide.{ℕ-discrete}
+use native.Mathlib.Nat.{mod-lt, mod-le, lt-of-le-of-lt}
+use lib.Pow.{pow-pos}
+use lib.Count.{ones, ones-cat, ones-le}
+use lib.Dec.{eqb}
+use Rattle.votes.specs.Tests.{_⊎_, inl, inr, split, no-both, eqb-eq, eqb-no, eq-eqb, same-test}
+use Rattle.votes.specs.Quantify.{allTo, all-at, all-of, countTo, count-le, count-all}
+use Rattle.votes.specs.Update.{upd, upd-same, upd-other}
+use Rattle.votes.specs.Mask.{width, has, insert, fullTo, within}
+use Rattle.votes.specs.MaskLaws.{low-suc, insert-is, full-is}
+use Rattle.votes.specs.Inclusion.{within-has}
+
+-- counts ---------------------------------------------------------------------------
+
+count-out : (m : ℕ) (p : ℕ → Bool) (j : ℕ) → m < j → countTo m (upd p j true) ≡ countTo m p
+unfolding countTo
+count-out zero p j h = refl
+count-out (suc m) p j h = rw (upd-other p j true (suc m) (eqb-no (suc m) j (λ e. omega arith)), count-out m p j (omega arith))
+
+-- a new member is counted once
+pub count-new : (m : ℕ) (p : ℕ → Bool) (j : ℕ) → 1 ≤ j → j ≤ m → p j ≡ false → countTo m (upd p j true) ≡ suc (countTo m p)
+unfolding countTo
+count-new zero p j a b e = absurd (omega arith)
+count-new (suc m) p j a b e = elim (ℕ-discrete j (suc m)) [
+  | yes q ↦ let e′ : p (suc m) ≡ false = (rw q at e) in rw (q, upd-same p (suc m) true, e′, count-out m p (suc m) (omega arith)) (omega arith)
+  | no q ↦ rw (upd-other p j true (suc m) (eqb-no (suc m) j (λ z. q (sym z))), count-new m p j a (omega arith) e) (omega arith)
+]
+
+-- where each that passes one test passes another, no more pass the first
+pub count-mono : (m : ℕ) (p q : ℕ → Bool) → ((k : ℕ) → p k ≡ true → q k ≡ true) → countTo m p ≤ countTo m q
+unfolding countTo
+count-mono zero p q h = omega arith
+count-mono (suc m) p q h = let ih : countTo m p ≤ countTo m q = count-mono m p q h in elim (split (p (suc m))) [
+  | inl e ↦ rw (e, h (suc m) e) (omega arith)
+  | inr e ↦ rw e (omega arith)
+]
+
+-- the count is 0 exactly if none of 1..m passes
+pub count-none : (m : ℕ) (p : ℕ → Bool) → countTo m p ≡ 0 → (k : ℕ) → 1 ≤ k → k ≤ m → p k ≡ false
+unfolding countTo
+count-none zero p e k a b = absurd (omega arith)
+count-none (suc m) p e k a b = elim (split (p (suc m))) [
+  | inl q ↦ let e′ : 1 + countTo m p ≡ 0 = (rw q at e) in absurd (omega arith)
+  | inr q ↦ let e′ : 0 + countTo m p ≡ 0 = (rw q at e) in elim (ℕ-discrete k (suc m)) [
+    | yes z ↦ rw z q
+    | no z ↦ count-none m p (omega arith) k a (omega arith)
+  ]
+]
+
+pub none-count : (m : ℕ) (p : ℕ → Bool) → ((k : ℕ) → 1 ≤ k → k ≤ m → p k ≡ false) → countTo m p ≡ 0
+unfolding countTo
+none-count zero p h = refl
+none-count (suc m) p h = rw (h (suc m) (omega arith) (omega arith), none-count m p (λ k a b. h k a (omega arith)))
+
+-- all pass: the count is m
+pub all-count : (m : ℕ) (p : ℕ → Bool) → ((k : ℕ) → 1 ≤ k → k ≤ m → p k ≡ true) → countTo m p ≡ m
+unfolding countTo
+all-count zero p h = refl
+all-count (suc m) p h = rw (h (suc m) (omega arith) (omega arith), all-count m p (λ k a b. h k a (omega arith))) (omega arith)
+
+-- sizes ----------------------------------------------------------------------------
+
+-- at most n of 1..n are in a set
+pub size-le : (n m : ℕ) → countTo n (has m) ≤ n
+size-le n m = count-le n (has m)
+
+ones-bit : (x : ℕ) → x < 2 → ones x ≡ cond (eqb x 1) 1 0
+unfolding ones
+ones-bit zero h = refl
+ones-bit (suc zero) h = refl
+ones-bit (suc (suc x)) h = absurd (omega arith)
+
+-- the size is the number of ones among the lowest n bits
+pub size-ones : (n m : ℕ) → countTo n (has m) ≡ ones (m % 2 ^ n)
+unfolding countTo has ones
+size-ones zero m = let e : m % 2 ^ 0 ≡ 0 = omega arith in rw e
+size-ones (suc n) m =
+    rw (low-suc m n, ones-cat n (m / 2 ^ n % 2) (m % 2 ^ n) (mod-lt m (pow-pos n)), ones-bit (m / 2 ^ n % 2) (omega arith), ← size-ones n m)
+
+-- and no more than a mask has bits
+pub size-fits : (n m : ℕ) → m < 2 ^ width → countTo n (has m) ≤ width
+size-fits n m h = rw size-ones (ones-le width (m % 2 ^ n) (lt-of-le-of-lt (mod-le m (2 ^ n)) h))
+
+-- a new member makes the set larger by one
+pub insert-size : (n m i : ℕ) → 1 ≤ i → i ≤ n → i ≤ width → has m i ≡ false → countTo n (has (insert m i)) ≡ suc (countTo n (has m))
+insert-size n m i a b w e = ap (countTo n) (insert-is m i a w) ∙ count-new n (has m) i a b e
+
+-- a set within another is no larger
+pub within-size : (n a b : ℕ) → within a b ≡ true → countTo n (has a) ≤ countTo n (has b)
+within-size n a b w = count-mono n (has a) (has b) (within-has a b w)
+
+has-pos : (m k : ℕ) → has m k ≡ true → 0 < k
+unfolding has
+has-pos m zero e = absurd (false≢true e)
+has-pos m (suc k) e = omega arith
+
+-- all of 1..n are in the set exactly if n of them are
+pub full-size : (n m : ℕ) → fullTo n m ≡ eqb (countTo n (has m)) n
+full-size n m =
+    rw full-is (same-test (allTo n (has m)) (eqb (countTo n (has m)) n)
+    (λ e. eq-eqb (countTo n (has m)) n (all-count n (has m) (all-at n (has m) e)))
+    (λ e. let q : countTo n (has m) ≡ n = eqb-eq (countTo n (has m)) n e in
+    all-of n (has m) (λ k a b. count-all n 0 (has m) (has-pos m) (omega arith) k a b)))
