@@ -9,10 +9,27 @@ use Rattle.model.specs.Routes.{route}
 use Rattle.model.specs.declared.Kind.{Kind}
 use Rattle.model.specs.declared.Event.{Event}
 use Rattle.model.specs.declared.Event.the-variants.{Lock, Order, Cast, Deliver, Timeout, Decide, Stop, Save, Restore}
+use Rattle.protocol.specs.declared.Condition.{Condition}
+use Rattle.protocol.specs.declared.Saved.{Saved}
+use Rattle.protocol.specs.declared.Sent.{Sent}
+use Rattle.protocol.specs.declared.Bench.{Bench}
 use Rattle.protocol.specs.Controllers.{isRunning, isStandby, isStopped, phaseIn}
-use Rattle.protocol.specs.Questions.{Question, ask, noOther}
+use Rattle.protocol.specs.Benches.{controller, card, sentBy}
+use Rattle.protocol.specs.Questions.{Question, ask, noOther, isCard}
+use Rattle.questions.specs.Events.{subject, source, receiversIn}
 use Rattle.questions.specs.declared.Common.{Common}
 use Rattle.questions.specs.declared.View.{View}
+
+-- the bench without its controllers
+abbrev pub commonOf : Bench → Common
+commonOf b = record { locked = b .locked; n = b .n; f = b .f; order = b .order; «move_proposed» = b .«move_proposed»; «stay_proposed» = b .«stay_proposed»; decision = b .decision }
+
+-- what an event's questions look at; and that, of a bench
+abbrev pub viewOf : Common → Event → Condition → Saved → Sent → View
+viewOf m e condition saved from = record { common = m; condition = condition; receivers = receiversIn e from; «has_card» = isCard saved }
+
+abbrev pub viewAt : Bench → Event → View
+viewAt b e = viewOf (commonOf b) e ((controller b (subject e)) .condition) (card b (subject e)) (sentBy b (source e))
 
 -- events of the whole bench
 abbrev pub lockQuestions : Bool → ℕ → ℕ → List Question

@@ -1,10 +1,16 @@
 // The questions that the bench puts to an event, from what they look at. Each function answers the number of the first "no", or 0.
 mod conditions;
+mod events;
 mod one;
 mod table;
 mod tests;
 mod whole;
 
+pub use events::of_kind;
+pub use events::of_one;
+pub use events::source;
+pub use events::subject;
+pub use events::view_of;
 use model::Outcome;
 pub use one::question;
 use protocol::Condition;
