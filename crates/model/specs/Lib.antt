@@ -1,3 +1,5 @@
 pub mod Ranges
 pub mod Routes
 pub mod Numbers
+pub mod Questions
+pub mod QuestionLaws

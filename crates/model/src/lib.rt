@@ -14,6 +14,7 @@ pub use ranges::is_second_backup;
 pub use ranges::member;
 pub use ranges::reachable;
 pub use ranges::sizes;
+pub use routes::recipients;
 pub use routes::route;
 use votes::VoteSet;
 

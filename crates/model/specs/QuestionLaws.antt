@@ -1,0 +1,51 @@
+-- Laws of questions: accepted is "yes" to each, and the number tells the reply.
+use Prim.Native.Nat.{ℕ, zero, suc}
+use mathlib.Core.Path.{_≡_, refl, sym, _∙_, ap}
+use mathlib.Core.Bool.{Bool, true, false, _&&_}
+use mathlib.Core.List.{List, [], _∷_}
+use native.Mathlib.Omega.{arith}
+use lib.Dec.{ltb}
+use Rattle.votes.specs.Tests.{_⊎_, inl, inr, split, and-l, and-r}
+use Rattle.model.specs.Questions.{Reply, accepted, refused, number, Question, ask, unless, firstNo}
+
+-- each question is answered "yes"
+abbrev pub AllYes : List Question → Type 0
+AllYes [] = Unit
+AllYes (q ∷ qs) = (q .yes ≡ true) × AllYes qs
+
+never : {A : Type 0} (q : ℕ) → refused q ≡ accepted → A
+never q e = let z : _≡_ {A = ℕ} 0 1 = cc in absurd (omega arith)
+
+pub all-yes : (qs : List Question) → firstNo qs ≡ accepted → AllYes qs
+unfolding firstNo unless
+all-yes [] e = tt
+all-yes (q ∷ qs) e = elim (split (q .yes)) [
+  | inl y ↦ (y, all-yes qs (rw y at e))
+  | inr y ↦ never (q .number) (rw y at e)
+]
+
+pub yes-all : (qs : List Question) → AllYes qs → firstNo qs ≡ accepted
+unfolding firstNo unless
+yes-all [] a = refl
+yes-all (q ∷ qs) a = rw (a .0) (yes-all qs (a .1))
+
+-- no question has the number 0, which means accepted
+abbrev pub numbered : List Question → Bool
+numbered [] = true
+numbered (q ∷ qs) = ltb 0 (q .number) && numbered qs
+
+not-zero : (q : ℕ) → ltb 0 q ≡ true → q ≡ 0 → ⊥
+not-zero zero t e = let z : _≡_ {A = ℕ} 0 1 = cc in omega arith
+not-zero (suc q) t e = omega arith
+
+pub zero-accepted : (qs : List Question) → numbered qs ≡ true → number (firstNo qs) ≡ 0 → firstNo qs ≡ accepted
+unfolding firstNo unless
+zero-accepted [] n e = refl
+zero-accepted (q ∷ qs) n e = elim (split (q .yes)) [
+  | inl y ↦ rw y (zero-accepted qs (and-r (ltb 0 (q .number)) (numbered qs) n) (rw y at e))
+  | inr y ↦ absurd (not-zero (q .number) (and-l (ltb 0 (q .number)) (numbered qs) n) (rw y at e))
+]
+
+pub other-refused : (r : Reply) → (number r ≡ 0 → ⊥) → r ≡ refused (number r)
+other-refused accepted n = absurd (n refl)
+other-refused (refused q) n = refl

@@ -1,0 +1,64 @@
+-- Event records. Document 01, "Records": "Event, 10 bytes: 4C 45; kind; a; b; c; value (4)."
+use Prim.Native.Nat.{ℕ}
+use mathlib.Core.Bool.{Bool, false, cond, _&&_}
+use mathlib.Core.List.{List, [], _∷_, _++_}
+use lib.Dec.{eqb}
+use lib.ListN.{length}
+use Rattle.model.specs.Numbers.{kindNumber}
+use Rattle.model.specs.Questions.{Reply, accepted, refused, Question, ask, firstNo}
+use Rattle.model.specs.declared.Event.{Event}
+use Rattle.model.specs.declared.Event.the-variants.{Lock, Order, Cast, Deliver, Timeout, Decide, Stop, Save, Restore}
+use Rattle.wire.specs.Bytes.{byte, number2, number4, bytes2, bytes4}
+use Rattle.wire.specs.Codes.{isKind, kindOf, isFlag, flagOf, flagNumber, unused}
+use Rattle.wire.specs.Marks.{eventMark, eventLength}
+use Rattle.wire.specs.declared.Fields.{Fields}
+use Rattle.wire.specs.declared.ReadEvent.{ReadEvent}
+use Rattle.wire.specs.declared.ReadEvent.the-variants.{Read, Refused}
+
+-- the fields as they stand on the record
+unfoldable pub fieldsIn : List ℕ → Fields
+fieldsIn s = record { kind = byte s 2; a = byte s 3; b = byte s 4; c = byte s 5; value = number4 s 6 }
+
+-- a kind of event: its number, the test of its flags and unused fields, and the event that the fields stand for
+pub record Row : Type 0 where
+  pub kind : ℕ
+  pub listed : Bool
+  pub event : Event
+
+abbrev pub row : ℕ → Bool → Event → Row
+row k t e = record { kind = k; listed = t; event = e }
+
+-- "0 lock (a = n, b = f); 1 order (value = number); 2 vote (a, b = 1 willing or 0, value = target, two's complement); 3 deliver (a = from, b = to,
+-- c = telegram kind); 4 bell (a); 5 arbiter (a, b = 0 Stay or 1 Move); 6 stop (a); 7 save (a); 8 restore (a). Unused fields are 0."
+unfoldable pub rows : Fields → List Row
+rows x =
+    row 0 (unused (x .c) && unused (x .value)) (Lock (x .a) (x .b))
+    ∷ row 1 (unused (x .a) && (unused (x .b) && unused (x .c))) (Order (x .value))
+    ∷ row 2 (isFlag (x .b) && unused (x .c)) (Cast (x .a) (flagOf (x .b)) (x .value))
+    ∷ row 3 (isKind (x .c) && unused (x .value)) (Deliver (x .a) (x .b) (kindOf (x .c)))
+    ∷ row 4 (unused (x .b) && (unused (x .c) && unused (x .value))) (Timeout (x .a))
+    ∷ row 5 (isFlag (x .b) && (unused (x .c) && unused (x .value))) (Decide (x .a) (flagOf (x .b)))
+    ∷ row 6 (unused (x .b) && (unused (x .c) && unused (x .value))) (Stop (x .a))
+    ∷ row 7 (unused (x .b) && (unused (x .c) && unused (x .value))) (Save (x .a))
+    ∷ row 8 (unused (x .b) && (unused (x .c) && unused (x .value))) (Restore (x .a))
+    ∷ []
+
+-- the row of a kind; a kind without one is no listed value
+unfoldable pub rowOf : ℕ → List Row → Row
+rowOf k [] = row k false (Lock 0 0)
+rowOf k (r ∷ rs) = cond (eqb k (r .kind)) r (rowOf k rs)
+
+unfoldable pub rowFor : Fields → Row
+rowFor x = rowOf (x .kind) (rows x)
+
+-- "Reading an event record puts 1 to 3"
+abbrev pub eventQuestions : List ℕ → List Question
+eventQuestions s = ask 1 (eqb (length s) eventLength) ∷ ask 2 (eqb (number2 s 0) eventMark) ∷ ask 3 (rowFor (fieldsIn s) .listed) ∷ []
+
+-- "A refused read returns the number and no record"
+abbrev pub answer : Reply → Event → ReadEvent
+answer accepted e = Read e
+answer (refused q) e = Refused q
+
+unfoldable pub readEvent : List ℕ → ReadEvent
+readEvent s = answer (firstNo (eventQuestions s)) (rowFor (fieldsIn s) .event)

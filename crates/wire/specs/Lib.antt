@@ -1,0 +1,4 @@
+pub mod Bytes
+pub mod Codes
+pub mod Marks
+pub mod Events
