@@ -4,12 +4,12 @@ use mathlib.Core.Path.{_≡_, sym, _∙_, ap}
 use native.Mathlib.Omega.{arith}
 use mathlib.Core.List.{List}
 use native.Mathlib.Decide.{decLe}
-use native.Mathlib.Nat.{mod-lt, mod-eq-of-lt, lt-of-lt-of-le}
-use lib.Pow.{pow-pos, pow-mono, shl-exact}
+use native.Mathlib.Nat.{mod-eq-of-lt, lt-of-lt-of-le}
+use lib.Pow.{pow-mono, shl-exact}
 use lib.Dec.{eqb, lit<}
 use lib.ListN.{length}
 use lib.Bits.{bitAnd, bitOr, and-mask}
-use lib.Count.{ones, ones-le}
+use lib.Count.{ones}
 use Rattle.votes.specs.Mask.{width, has, insert, fullTo}
 use Rattle.votes.specs.MaskLaws.{insert-at}
 use Rattle.votes.specs.Quantify.{countTo}

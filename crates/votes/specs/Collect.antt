@@ -1,16 +1,15 @@
 -- Laws of `collect`, the set of those of 1..n that pass a test. It is exact as far as masks have bits.
 use Prim.Native.Nat.{ℕ, zero, suc, _^_, _≤_, _<_}
-use mathlib.Core.Path.{_≡_, refl, sym, _∙_, ap}
+use mathlib.Core.Path.{_≡_, refl, sym, _∙_}
 use mathlib.Core.Bool.{Bool, true, false, _&&_}
 use native.Mathlib.Omega.{arith}
 use native.Mathlib.Decide.{decLe, ℕ-discrete}
-use native.Mathlib.Nat.{lt-of-lt-of-le}
 use lib.Pow.{pow-pos, pow-lt}
-use lib.Dec.{eqb, leb, ltb}
+use lib.Dec.{leb, ltb}
 use lib.Bits.{bitOr, or-lt}
 use borrow.Author.Tests.{lt-leb, ltb-true}
-use Rattle.votes.specs.Tests.{_⊎_, inl, inr, split, by-cond, and-l, and-r, eqb-no, le-leb, leb-le}
-use Rattle.votes.specs.Update.{upd, upd-same, upd-other, fun-ext}
+use Rattle.votes.specs.Tests.{by-cond, and-l, and-r, eqb-no, le-leb, leb-le}
+use Rattle.votes.specs.Update.{upd-same, upd-other, fun-ext}
 use Rattle.votes.specs.Mask.{width, has, insert, noneAbove, collect}
 use Rattle.votes.specs.MaskLaws.{has-none, has-insert}
 use Rattle.votes.specs.Inclusion.{le-none-above}

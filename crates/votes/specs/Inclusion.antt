@@ -5,14 +5,14 @@ use mathlib.Core.Bool.{Bool, true, false, _||_, true≢false, false≢true}
 use native.Mathlib.Omega.{arith}
 use native.Mathlib.Decide.{decLe}
 use native.Mathlib.Nat.{div-eq-of-lt, div-lt-iff-lt-mul, mod-eq-of-lt, lt-of-lt-of-le, pow-suc, zero-add, suc-add}
-use lib.Pow.{pow-pos, pow-mono, pow-lt}
+use lib.Pow.{pow-pos, pow-mono}
 use lib.Dec.{eqb}
-use lib.Bits.{bitOr, or-comm, or-lt}
+use lib.Bits.{bitOr, or-lt}
 use borrow.Author.Tests.{ltb-true, lt-ltb, eqb-false}
-use Rattle.votes.specs.Tests.{_⊎_, inl, inr, split, no-both, eqb-eq, eq-eqb, or-l, or-r}
+use Rattle.votes.specs.Tests.{_⊎_, inl, inr, split, no-both, eqb-eq, eq-eqb, or-l}
 use Rattle.votes.specs.Quantify.{all-at}
-use Rattle.votes.specs.Mask.{has, fullTo, noneAbove, within}
-use Rattle.votes.specs.MaskLaws.{low-suc, has-or, full-is}
+use Rattle.votes.specs.Mask.{has, insert, fullTo, noneAbove, within}
+use Rattle.votes.specs.MaskLaws.{low-suc, has-or, insert-only, full-is}
 
 -- bits that no member has ---------------------------------------------------------
 
@@ -121,9 +121,21 @@ pub has-within : (a b : ℕ) → ((k : ℕ) → has a k ≡ true → has b k ≡
 unfolding within
 has-within a b h = eq-eqb (bitOr a b) b (same-set (bitOr a b) b (λ k. has-or a b k ∙ or-absorbs (has a k) (has b k) (h k)))
 
--- unions ---------------------------------------------------------------------------
+-- no bit above n ----------------------------------------------------------------------
 
--- a union has no bit above n if neither part has
+-- a union has none if neither part has
 pub or-none-above : (n a b : ℕ) → noneAbove n a ≡ true → noneAbove n b ≡ true → noneAbove n (bitOr a b) ≡ true
 unfolding noneAbove
 or-none-above n a b p q = lt-ltb (bitOr a b) (2 ^ n) (or-lt n a b (ltb-true a (2 ^ n) p) (ltb-true b (2 ^ n) q))
+
+-- a set within one that has none has none
+pub within-none-above : (n a b : ℕ) → within a b ≡ true → noneAbove n b ≡ true → noneAbove n a ≡ true
+within-none-above n a b w p = le-none-above n a (λ k e. none-above-le n b p k (within-has a b w k e))
+
+-- to put one of 1..n in makes none
+pub insert-none-above : (n m i : ℕ) → i ≤ n → noneAbove n m ≡ true → noneAbove n (insert m i) ≡ true
+insert-none-above n m i h p = le-none-above n (insert m i) (λ k e. low k (insert-only m i k e))
+  where
+    low : (k : ℕ) → (k ≡ i) ⊎ (has m k ≡ true) → k ≤ n
+    low k (inl q) = omega arith
+    low k (inr q) = none-above-le n m p k q

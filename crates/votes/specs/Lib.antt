@@ -8,4 +8,5 @@ pub mod Collect
 pub mod Sizes
 pub mod VoteSets
 pub mod ListLaws
+pub mod Halves
 pub mod VoteLaws

@@ -1,19 +1,19 @@
 -- Laws of masks, for any n: what is in a union, in a set with one more, in a full set.
-use Prim.Native.Nat.{ℕ, zero, suc, _+_, _*_, _^_, _/_, _%_, _-_, _≤_, _<_, max, min}
-use mathlib.Core.Path.{_≡_, refl, sym, _∙_, ap, subst}
-use mathlib.Core.Bool.{Bool, true, false, not, _&&_, _||_, cond}
+use Prim.Native.Nat.{ℕ, zero, suc, _+_, _*_, _^_, _/_, _%_, _-_, _≤_, _<_, max}
+use mathlib.Core.Path.{_≡_, refl, sym, _∙_}
+use mathlib.Core.Bool.{Bool, true, false, _||_, cond}
 use native.Mathlib.Omega.{arith}
-use native.Mathlib.Nat.{mod-lt, div-self, div-eq-of-lt, pow-suc, eq-or-lt-of-le}
+use native.Mathlib.Nat.{mod-lt, div-self, div-eq-of-lt, pow-suc}
 use native.Mathlib.Numerals.{one-add}
 use lib.Pow.{pow-pos, pow-lt, pow-add, shl-shr, mod-pow-add}
-use lib.Dec.{eqb, leb, ltb}
+use lib.Dec.{eqb, ltb}
 use native.Mathlib.Decide.{decLe, ℕ-discrete}
 use lib.Bits.{bitOr, or-shr, or-step}
 use borrow.Author.Tests.{le-ltb}
-use Rattle.votes.specs.Tests.{_⊎_, inl, inr, split, by-cond, and-l, and-r, and-i, or-r, or-l, not-t, no-both, eqb-eq, eqb-same, eqb-no, eq-eqb, same-test, leb-le, le-leb, ltb-yes}
-use Rattle.votes.specs.Quantify.{allTo, all-at, all-of}
-use Rattle.votes.specs.Update.{upd, upd-same, upd-other, fun-ext}
-use Rattle.votes.specs.Mask.{width, has, insert, fullTo, collect}
+use Rattle.votes.specs.Tests.{_⊎_, inl, inr, by-cond, and-l, and-r, and-i, or-e, or-l, eqb-eq, eqb-same, eqb-no, eq-eqb, same-test, ltb-yes}
+use Rattle.votes.specs.Quantify.{allTo}
+use Rattle.votes.specs.Update.{upd, upd-same, fun-ext}
+use Rattle.votes.specs.Mask.{width, has, insert, fullTo}
 
 -- as the code reads it
 pub has-at : (m k : ℕ) → 1 ≤ k → has m k ≡ eqb (m / 2 ^ (k - 1) % 2) 1
@@ -53,6 +53,9 @@ pub has-or : (a b k : ℕ) → has (bitOr a b) k ≡ (has a k || has b k)
 unfolding has
 has-or a b zero = refl
 has-or a b (suc k) = rw (or-shr a b k, low-or (a / 2 ^ k) (b / 2 ^ k)) (or-test (a / 2 ^ k % 2) (b / 2 ^ k % 2) (omega arith) (omega arith))
+
+pub or-is : (a b : ℕ) → has (bitOr a b) ≡ (λ k. has a k || has b k)
+or-is a b = fun-ext (has (bitOr a b)) (λ k. has a k || has b k) (has-or a b)
 
 pub has-none : (k : ℕ) → has 0 k ≡ false
 unfolding has
@@ -97,6 +100,33 @@ has-insert m (suc i) k a b = rw (ltb-yes i width (omega arith), has-or m (2 ^ i)
 
 pub insert-is : (m i : ℕ) → 1 ≤ i → i ≤ width → has (insert m i) ≡ upd (has m) i true
 insert-is m i a b = fun-ext (has (insert m i)) (upd (has m) i true) (λ k. has-insert m i k a b)
+
+-- the one put in is there
+pub insert-own : (m i : ℕ) → 1 ≤ i → i ≤ width → has (insert m i) i ≡ true
+insert-own m i a b = has-insert m i i a b ∙ upd-same (has m) i true
+
+-- and all that were there stay
+pub insert-keeps : (m i k : ℕ) → has m k ≡ true → has (insert m i) k ≡ true
+unfolding insert
+insert-keeps m zero k e = e
+insert-keeps m (suc i) k e =
+    by-cond (λ (x : ℕ). has x k ≡ true) (ltb i width) (bitOr m (2 ^ i)) m
+    (λ _. has-or m (2 ^ i) k ∙ or-l (has m k) (has (2 ^ i) k) e)
+    (λ _. e)
+
+-- no other comes in
+pub insert-only : (m i k : ℕ) → has (insert m i) k ≡ true → (k ≡ i) ⊎ (has m k ≡ true)
+unfolding insert
+insert-only m zero k e = inr e
+insert-only m (suc i) k e =
+    by-cond (λ (x : ℕ). has x k ≡ true → (k ≡ suc i) ⊎ (has m k ≡ true)) (ltb i width) (bitOr m (2 ^ i)) m
+    (λ _ q. either (or-e (has m k) (has (2 ^ i) k) (sym (has-or m (2 ^ i) k) ∙ q)))
+    (λ _ q. inr q)
+    e
+  where
+    either : (has m k ≡ true) ⊎ (has (2 ^ i) k ≡ true) → (k ≡ suc i) ⊎ (has m k ≡ true)
+    either (inl q) = inr q
+    either (inr q) = inl (eqb-eq k (suc i) (sym (has-pow i k) ∙ q))
 
 -- the lowest n bits, one more
 pub low-suc : (m n : ℕ) → m % 2 ^ (suc n) ≡ m / 2 ^ n % 2 * 2 ^ n + m % 2 ^ n

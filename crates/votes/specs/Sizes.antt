@@ -1,14 +1,14 @@
 -- How many of 1..n are in a set: laws of `countTo n (has m)`, for any n.
-use Prim.Native.Nat.{ℕ, zero, suc, _+_, _*_, _^_, _/_, _%_, _≤_, _<_}
+use Prim.Native.Nat.{ℕ, zero, suc, _+_, _^_, _/_, _%_, _≤_, _<_}
 use mathlib.Core.Path.{_≡_, refl, sym, _∙_, ap}
-use mathlib.Core.Bool.{Bool, true, false, not, cond, false≢true}
+use mathlib.Core.Bool.{Bool, true, false, cond, false≢true}
 use native.Mathlib.Omega.{arith}
 use native.Mathlib.Decide.{ℕ-discrete}
 use native.Mathlib.Nat.{mod-lt, mod-le, lt-of-le-of-lt}
 use lib.Pow.{pow-pos}
 use lib.Count.{ones, ones-cat, ones-le}
 use lib.Dec.{eqb}
-use Rattle.votes.specs.Tests.{_⊎_, inl, inr, split, no-both, eqb-eq, eqb-no, eq-eqb, same-test}
+use Rattle.votes.specs.Tests.{inl, inr, split, eqb-eq, eqb-no, eq-eqb, same-test}
 use Rattle.votes.specs.Quantify.{allTo, all-at, all-of, countTo, count-le, count-all}
 use Rattle.votes.specs.Update.{upd, upd-same, upd-other}
 use Rattle.votes.specs.Mask.{width, has, insert, fullTo, within}

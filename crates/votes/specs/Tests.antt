@@ -1,8 +1,8 @@
 -- Tests: a Bool that was computed, and the fact that it stands for.
-use Prim.Native.Nat.{ℕ, zero, suc, _+_, _≤_, _<_}
-use mathlib.Core.Path.{_≡_, refl, sym, _∙_, ap, subst}
+use Prim.Native.Nat.{ℕ, suc, _≤_, _<_}
+use mathlib.Core.Path.{_≡_, refl, sym, _∙_, subst}
 use mathlib.Core.Bool.{Bool, true, false, not, _&&_, _||_, cond, true≢false, false≢true}
-use lib.Dec.{T, eqb, leb, ltb, eqb→eq, leb→le, le→leb, nleb→lt, eqb-refl}
+use lib.Dec.{T, eqb, leb, ltb, eqb→eq, leb→le, le→leb, eqb-refl}
 
 infixr 20 _⊎_
 pub data _⊎_ (A B : Type 0) : Type 0 where

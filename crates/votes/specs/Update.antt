@@ -1,11 +1,9 @@
 -- A function of the controller's number, changed at one place.
-use Prim.Native.Nat.{ℕ, zero, suc, _+_, _≤_, _<_}
-use mathlib.Core.Path.{_≡_, refl, sym, _∙_, ap, subst}
-use mathlib.Core.Bool.{Bool, true, false, not, _&&_, _||_, cond, true≢false, false≢true}
-use native.Mathlib.Omega.{arith}
-use native.Mathlib.Decide.{decLe, ℕ-discrete}
+use Prim.Native.Nat.{ℕ}
+use mathlib.Core.Path.{_≡_}
+use mathlib.Core.Bool.{false, cond}
 use lib.Dec.{eqb}
-use Rattle.votes.specs.Tests.{_⊎_, inl, inr, split, eqb-eq, eqb-same}
+use Rattle.votes.specs.Tests.{inl, inr, split, eqb-eq, eqb-same}
 
 -- the function g with a at place i
 unfoldable pub upd : {A : Type 0} → (ℕ → A) → ℕ → A → ℕ → A

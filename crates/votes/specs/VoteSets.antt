@@ -1,7 +1,8 @@
 -- Vote sets. Document 01, "Words with values": "A *sheet* has two sets of controllers: known, and willing (within known);
 -- it is *full* when all n are known. Its *word* is Move if all n are known and willing, else Stay."
-use Prim.Native.Nat.{ℕ, zero, suc, _-_}
-use mathlib.Core.Bool.{Bool, cond, _&&_}
+use Prim.Native.Nat.{ℕ, zero, suc, _-_, _≤_}
+use mathlib.Core.Path.{_≡_}
+use mathlib.Core.Bool.{Bool, true, cond, _&&_}
 use mathlib.Core.List.{List}
 use lib.ListN.{getD, set}
 use lib.Bits.{bitOr}
@@ -46,3 +47,11 @@ put l k a = set l (k - 1) a
 unfoldable pub joinAll : ℕ → ℕ → List VoteSet → VoteSet
 joinAll zero from l = empty
 joinAll (suc m) from l = cond (has from (suc m)) (join (joinAll m from l) (nth empty l (suc m))) (joinAll m from l)
+
+-- a vote set that is the sheet of some sender of 1..m in a set
+pub record Among (m from : ℕ) (l : List VoteSet) (s : VoteSet) : Type 0 where
+  pub sender : ℕ
+  pub low : 1 ≤ sender
+  pub high : sender ≤ m
+  pub sent : has from sender ≡ true
+  pub sheet : nth empty l sender ≡ s

@@ -1,25 +1,18 @@
+-- `votes::join_if` meets its contract, by what `has` and `join` ensure.
 use mathlib.Core.Path.{sym, _∙_}
 use borrow.Author.Needs.{needs}
 use Rattle.votes.proofs.join_if.Statement.{statement}
 use Rattle.votes.proofs.join_if.Tie as tie
-use Rattle.votes.proofs.join_if.Reads as reads
-use Rattle.votes.proofs.join_if.Lts as lts
-use Rattle.votes.proofs.join.Reads as join-reads
-use Rattle.votes.proofs.mask.has.Reads as has-reads
 
--- src/lib.rt:102:8
 has-requires : tie.Need-has-requires
 has-requires c κs = search needs
 
--- src/lib.rt:103:9
 join-requires : tie.Need-join-requires
 join-requires c κs = search needs
 
--- src/lib.rt:103:9
 returns : tie.Need-returns
 returns c = rw (sym (c .before .before .has .ensures) ∙ c .before .if1 .taken) (c .join .ensures)
 
--- src/lib.rt:99:1
 returns-2 : tie.Need-returns-2
 returns-2 c = rw (sym (c .before .has .ensures) ∙ c .if1 .left)
 

@@ -1,21 +1,16 @@
+-- `votes::single` meets its contract, by what `insert` ensures.
 use Rattle.votes.specs.VoteSets.{single}
 use borrow.Author.Needs.{needs}
 use Rattle.votes.proofs.single.Statement.{statement}
 use Rattle.votes.proofs.single.Tie as tie
-use Rattle.votes.proofs.single.Reads as reads
-use Rattle.votes.proofs.single.Lts as lts
-use Rattle.votes.proofs.mask.insert.Reads as insert-reads
 
--- src/lib.rt:36:9
 insert-requires : tie.Need-insert-requires
 insert-requires c κs = search needs
 
--- src/lib.rt:38:9
 returns : tie.Need-returns
 unfolding single
 returns c = rw (c .before .insert .ensures, c .if1 .taken)
 
--- src/lib.rt:33:1
 returns-2 : tie.Need-returns-2
 unfolding single
 returns-2 c = rw (c .before .insert .ensures, c .if1 .left)

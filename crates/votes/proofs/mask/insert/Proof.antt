@@ -1,3 +1,4 @@
+-- `votes::insert` meets its contract: a number that has a bit sets it, and no other changes the set.
 use Rattle.votes.specs.MaskLaws.{insert-zero, insert-past}
 use Rattle.votes.proofs.Computed.{inserted}
 use mathlib.Core.Path.{_≡_, sym}
@@ -5,26 +6,19 @@ use native.Mathlib.Omega.{arith}
 use borrow.Author.Needs.{needs}
 use Rattle.votes.proofs.mask.insert.Statement.{statement}
 use Rattle.votes.proofs.mask.insert.Tie as tie
-use Rattle.votes.proofs.mask.insert.Reads as reads
-use Rattle.votes.proofs.mask.insert.Lts as lts
 
--- src/mask.rt:25:9
 returns : tie.Need-returns
 returns c = let z : c .before .args .k ≡ 0 = omega arith in rw (z, insert-zero)
 
--- src/mask.rt:28:9
 returns-2 : tie.Need-returns-2
 returns-2 c = sym (insert-past _ _ (c .if2 .taken))
 
--- src/mask.rt:30:19
 cast-result : tie.Need-cast-result
 cast-result c = search needs
 
--- src/mask.rt:30:10
 shl-result : tie.Need-shl-result
 shl-result c = search needs
 
--- src/mask.rt:21:1
 returns-3 : tie.Need-returns-3
 returns-3 c = inserted _ _ (omega arith) (omega arith)
 

@@ -1,3 +1,4 @@
+-- `votes::none_above` meets its contract. A mask has 32 bits, so nothing above 32 is in it.
 use mathlib.Core.Path.{sym}
 use native.Mathlib.Omega.{arith}
 use Rattle.votes.specs.Mask.{noneAbove}
@@ -5,19 +6,13 @@ use Rattle.votes.specs.Inclusion.{none-above-past}
 use borrow.Author.Needs.{needs}
 use Rattle.votes.proofs.mask.none_above.Statement.{statement}
 use Rattle.votes.proofs.mask.none_above.Tie as tie
-use Rattle.votes.proofs.mask.none_above.Reads as reads
-use Rattle.votes.proofs.mask.none_above.Lts as lts
-use Rattle.votes.proofs.mask.power.Reads as power-reads
 
--- src/mask.rt:49:9
 returns : tie.Need-returns
 returns c = sym (none-above-past 32 _ _ (c .before .fits .m .fits) (omega arith))
 
--- src/mask.rt:51:18
 power-requires : tie.Need-power-requires
 power-requires c κs = search needs
 
--- src/mask.rt:45:1
 returns-2 : tie.Need-returns-2
 unfolding noneAbove
 returns-2 c = rw (c .power .ensures)

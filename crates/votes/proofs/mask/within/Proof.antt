@@ -1,11 +1,9 @@
+-- `votes::within` meets its contract: the code is the definition.
 use mathlib.Core.Path.{refl}
 use Rattle.votes.specs.Mask.{within}
 use Rattle.votes.proofs.mask.within.Statement.{statement}
 use Rattle.votes.proofs.mask.within.Tie as tie
-use Rattle.votes.proofs.mask.within.Reads as reads
-use Rattle.votes.proofs.mask.within.Lts as lts
 
--- src/mask.rt:55:1
 returns : tie.Need-returns
 unfolding within
 returns c = refl

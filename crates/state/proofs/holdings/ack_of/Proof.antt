@@ -1,0 +1,51 @@
+use mathlib.Core.Path.{_≡_, sym, _∙_}
+use native.Mathlib.Omega.{arith}
+use lib.ListN.{length, length-map}
+use Rattle.votes.specs.VoteSets.{empty, nth}
+use Rattle.votes.specs.ListLaws.{nth-at, nth-past}
+use borrow.Author.Needs.{needs}
+use Rattle.state.proofs.holdings.ack_of.Statement.{statement}
+use Rattle.state.proofs.holdings.ack_of.Tie as tie
+
+empty-set-requires : tie.Need-empty-set-requires
+empty-set-requires c κs = search needs
+
+returns : tie.Need-returns
+unfolding nth
+returns c = let none : c .before .before .args .j ≡ 0 = omega arith in rw none (c .empty-set .ensures)
+
+empty-set-requires-2 : tie.Need-empty-set-requires-2
+empty-set-requires-2 c κs = search needs
+
+returns-2 : tie.Need-returns-2
+returns-2 c =
+    let start = c .before .before .before .args in
+    let held : length (start .t1 .acks) ≡ 16 = (simp length-map at (c .before .before .before .good .0 .1 .1 .1 .1 .0 .1 .0 .1)) in
+    c .empty-set2 .ensures ∙ sym (nth-past empty (start .t1 .acks) (start .j) (omega arith))
+
+cast-at : tie.Need-cast-at
+cast-at c = search needs
+
+mul-result : tie.Need-mul-result
+mul-result c = search needs
+
+element-copy-out-result : tie.Need-element-copy-out-result
+element-copy-out-result c = search needs
+
+returns-3 : tie.Need-returns-3
+returns-3 c =
+    let start = c .before .before .before .args in
+    sym (nth-at empty (start .t1 .acks) (start .j) (omega arith))
+
+pub ack-of-spec : {M : Type 1} → statement M
+ack-of-spec =
+    tie.close
+    (tie.spec
+    empty-set-requires
+    returns
+    empty-set-requires-2
+    returns-2
+    cast-at
+    mul-result
+    element-copy-out-result
+    returns-3)
