@@ -1,5 +1,4 @@
 // The questions that the bench puts to an event, from what they look at. Each function answers the number of the first "no", or 0.
-mod conditions;
 mod events;
 mod one;
 mod table;

@@ -1,8 +1,5 @@
 // The questions of the events of one controller, in document 01's sequence.
 use crate::View;
-use crate::conditions::is_running;
-use crate::conditions::is_stopped;
-use crate::conditions::phase_in;
 use crate::table::ask;
 use crate::tests::apart;
 use crate::tests::awaits_decision;
@@ -14,6 +11,9 @@ use model::Kind;
 use model::member;
 use model::reachable;
 use model::route;
+use state::is_running;
+use state::is_stopped;
+use state::phase_in;
 use votes::has;
 ghost use mathlib.Core.Path.{_≡_};
 ghost use Rattle.protocol.specs.Questions.{number, firstNo};

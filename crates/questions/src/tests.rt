@@ -1,11 +1,11 @@
 // What single questions test.
 use crate::Common;
-use crate::conditions::is_running;
-use crate::conditions::is_standby;
-use crate::conditions::phase_in;
 use model::Outcome;
 use model::member;
 use protocol::Condition;
+use state::is_running;
+use state::is_standby;
+use state::phase_in;
 ghost use mathlib.Core.Path.{_≡_};
 ghost use mathlib.Core.Bool.{not, _&&_, _||_};
 ghost use lib.Dec.{eqb};
