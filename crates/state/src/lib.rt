@@ -12,6 +12,7 @@ pub use changes::conclude;
 pub use changes::freeze;
 pub use changes::fresh;
 pub use changes::propose;
+pub use changes::unsent;
 pub use conditions::is_running;
 pub use conditions::is_standby;
 pub use conditions::is_stopped;
