@@ -1,4 +1,5 @@
 // The bench: one call takes a bench and an event, and returns the answer and the bench.
+mod orders;
 mod parts;
 
 pub use parts::bench_with;
