@@ -2,19 +2,11 @@
 use protocol::Controller;
 use votes::VoteSet;
 use votes::empty_set;
-use votes::has;
 use votes::insert;
 use votes::join;
 ghost use mathlib.Core.Path.{_≡_};
 ghost use Prim.Native.Nat.{_-_};
-ghost use Rattle.protocol.specs.Controllers.{hasAck, ackOf, hasHelped, learn, bump, keepAck, keepHelped, answered};
-
-// Has it an acknowledgement of j?
-pub fn has_ack(c: Controller, j: u8) -> bool
-    ensures { λ r. ⌜ r ≡ hasAck c j ⌝ }
-{
-    has(c.acks_from, j)
-}
+ghost use Rattle.protocol.specs.Controllers.{ackOf, learn, bump, keepAck, keepHelped, answered};
 
 // The acknowledgement of j.
 pub fn ack_of(c: Controller, j: u8) -> VoteSet
@@ -28,13 +20,6 @@ pub fn ack_of(c: Controller, j: u8) -> VoteSet
     }
     let at = (j - 1) as usize;
     c.acks[at]
-}
-
-// Has it a help answer of j?
-pub fn has_helped(c: Controller, j: u8) -> bool
-    ensures { λ r. ⌜ r ≡ hasHelped c j ⌝ }
-{
-    has(c.helped_from, j)
 }
 
 // A sheet goes on its own.

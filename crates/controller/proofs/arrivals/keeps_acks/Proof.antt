@@ -1,0 +1,16 @@
+use borrow.Author.Tests.{le-leb, lt-leb}
+use borrow.Author.Needs.{needs}
+use Rattle.controller.proofs.arrivals.keeps_acks.Statement.{statement}
+use Rattle.controller.proofs.arrivals.keeps_acks.Tie as tie
+
+phase-requires : tie.Need-phase-requires
+phase-requires c κs = search needs
+
+returns : tie.Need-returns
+returns c = simp (← c .before .phase .ensures, le-leb _ _ (c .if1 .taken))
+
+returns-2 : tie.Need-returns-2
+returns-2 c = simp (← c .before .phase .ensures, lt-leb _ _ (c .if1 .left))
+
+pub keeps-acks-spec : {M : Type 1} → statement M
+keeps-acks-spec = tie.close (tie.spec phase-requires returns returns-2)

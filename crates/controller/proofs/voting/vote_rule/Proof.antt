@@ -1,0 +1,38 @@
+use Rattle.protocol.specs.Rules.{voteRule}
+use borrow.Author.Needs.{needs}
+use Rattle.controller.proofs.voting.vote_rule.Statement.{statement}
+use Rattle.controller.proofs.voting.vote_rule.Tie as tie
+
+single-requires : tie.Need-single-requires
+single-requires c κs = search needs
+
+learn-requires : tie.Need-learn-requires
+learn-requires c κs = search needs
+
+aim-requires : tie.Need-aim-requires
+aim-requires c κs = search needs
+
+phase-after-vote-requires : tie.Need-phase-after-vote-requires
+phase-after-vote-requires c κs = search needs
+
+advance-requires : tie.Need-advance-requires
+advance-requires c κs = search needs
+
+recipients-requires : tie.Need-recipients-requires
+recipients-requires c κs = search needs
+
+returns : tie.Need-returns
+unfolding voteRule
+returns c = simp (← c .before .before .before .before .before .single .ensures, ← c .before .before .before .before .learn .ensures, ← c .before .before .before .aim .ensures, ← c .before .before .phase-after-vote .ensures, ← c .before .advance .ensures, c .recipients .ensures)
+
+pub vote-rule-spec : {M : Type 1} → statement M
+vote-rule-spec =
+    tie.close
+    (tie.spec
+    single-requires
+    learn-requires
+    aim-requires
+    phase-after-vote-requires
+    advance-requires
+    recipients-requires
+    returns)
