@@ -6,6 +6,7 @@ mod timeouts;
 mod voting;
 mod waiting;
 
+pub use answers::passed;
 pub use calls::decide;
 pub use calls::receive;
 pub use calls::renew;

@@ -1,9 +1,12 @@
 // What an event does to the one controller that it concerns.
+mod answers;
 mod posts;
+mod stations;
+mod turns;
 
-pub use posts::station_after;
 use protocol::Station;
 use questions::Common;
+pub use turns::turn_of;
 
 // What a turn leaves: the bench's own state, and the controller's station.
 pub struct Turn {

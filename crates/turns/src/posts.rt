@@ -3,9 +3,8 @@ use protocol::Answer;
 use protocol::Outgoing;
 use protocol::Post;
 use protocol::Sent;
-use protocol::Station;
 ghost use mathlib.Core.Path.{_≡_};
-ghost use Rattle.protocol.specs.Benches.{posted, sentAfter, stationAfter};
+ghost use Rattle.protocol.specs.Benches.{posted, sentAfter};
 
 fn posted(old: Outgoing, p: Post) -> Outgoing
     ensures { λ r. ⌜ r ≡ posted old p ⌝ }
@@ -19,7 +18,7 @@ fn posted(old: Outgoing, p: Post) -> Outgoing
     }
 }
 
-fn sent_after(s: Sent, a: Answer) -> Sent
+pub(crate) fn sent_after(s: Sent, a: Answer) -> Sent
     ensures { λ r. ⌜ r ≡ sentAfter s a ⌝ }
 {
     let vote = a.vote;
@@ -31,19 +30,5 @@ fn sent_after(s: Sent, a: Answer) -> Sent
         ack: posted(s.ack, ack),
         help: posted(s.help, help),
         helped: posted(s.helped, helped),
-    }
-}
-
-// A station after its controller's answer.
-pub fn station_after(s: Station, a: Answer) -> Station
-    ensures { λ r. ⌜ r ≡ stationAfter s a ⌝ }
-{
-    let sent = sent_after(s.sent, a);
-    let controller = a.controller;
-    let card = s.card;
-    Station {
-        controller,
-        sent,
-        card,
     }
 }

@@ -1,7 +1,7 @@
 use Rattle.protocol.specs.Benches.{stationAfter}
 use borrow.Author.Needs.{needs}
-use Rattle.turns.proofs.posts.station_after.Statement.{statement}
-use Rattle.turns.proofs.posts.station_after.Tie as tie
+use Rattle.turns.proofs.stations.station_after.Statement.{statement}
+use Rattle.turns.proofs.stations.station_after.Tie as tie
 
 sent-after-requires : tie.Need-sent-after-requires
 sent-after-requires c κs = search needs
