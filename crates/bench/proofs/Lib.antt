@@ -1,2 +1,4 @@
 pub mod Defaults
 pub mod Ended
+pub mod Maps
+pub mod Replies
