@@ -9,10 +9,11 @@ use state::fresh;
 use state::unsent;
 ghost use mathlib.Core.Path.{_≡_};
 ghost use lib.ListN.{replicate};
-ghost use Rattle.votes.specs.VoteSets.{empty, nth};
+ghost use Rattle.votes.specs.VoteSets.{empty};
 ghost use Rattle.protocol.specs.Benches.{unsentAll, freshStation, benchOf, newBench};
 ghost use Rattle.questions.specs.Views.{commonOf};
 ghost use Rattle.turns.specs.TurnLaws.{benchWith};
+ghost use Rattle.bench.specs.Stations.{seen};
 
 // Nothing sent yet.
 pub(crate) fn unsent_all() -> Sent
@@ -93,7 +94,7 @@ pub fn bench_with(m: Common, stations: [Station; 16]) -> Bench
 
 // Station i; a number that no controller has reads as a controller that has just begun.
 pub(crate) fn station_at(b: Bench, i: u8) -> Station
-    ensures { λ r. ⌜ r ≡ nth (freshStation (replicate 16 empty)) (b .stations) i ⌝ }
+    ensures { λ r. ⌜ r ≡ seen b i ⌝ }
 {
     if i < 1 {
         return fresh_station();
