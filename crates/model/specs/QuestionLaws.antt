@@ -38,7 +38,7 @@ not-zero : (q : ℕ) → ltb 0 q ≡ true → q ≡ 0 → ⊥
 not-zero zero t e = let z : _≡_ {A = ℕ} 0 1 = cc in omega arith
 not-zero (suc q) t e = omega arith
 
-pub zero-accepted : (qs : List Question) → numbered qs ≡ true → number (firstNo qs) ≡ 0 → firstNo qs ≡ accepted
+zero-accepted : (qs : List Question) → numbered qs ≡ true → number (firstNo qs) ≡ 0 → firstNo qs ≡ accepted
 unfolding firstNo unless
 zero-accepted [] n e = refl
 zero-accepted (q ∷ qs) n e = elim (split (q .yes)) [
@@ -46,6 +46,13 @@ zero-accepted (q ∷ qs) n e = elim (split (q .yes)) [
   | inr y ↦ absurd (not-zero (q .number) (and-l (ltb 0 (q .number)) (numbered qs) n) (rw y at e))
 ]
 
-pub other-refused : (r : Reply) → (number r ≡ 0 → ⊥) → r ≡ refused (number r)
+other-refused : (r : Reply) → (number r ≡ 0 → ⊥) → r ≡ refused (number r)
 other-refused accepted n = absurd (n refl)
 other-refused (refused q) n = refl
+
+-- the reply, from the number that code answered
+pub reply-accepted : (qs : List Question) (q : ℕ) → numbered qs ≡ true → q ≡ number (firstNo qs) → q ≡ 0 → firstNo qs ≡ accepted
+reply-accepted qs q n e z = zero-accepted qs n (sym e ∙ z)
+
+pub reply-refused : (qs : List Question) (q : ℕ) → q ≡ number (firstNo qs) → (q ≡ 0 → ⊥) → firstNo qs ≡ refused q
+reply-refused qs q e n = other-refused (firstNo qs) (λ z. n (e ∙ z)) ∙ ap refused (sym e)

@@ -1,17 +1,15 @@
 -- The bench and its parts, by controller number. Document 01, "The parts" and "Words with values".
 use Prim.Native.Nat.{ℕ}
-use mathlib.Core.Bool.{Bool, true, false, cond, _||_}
-use mathlib.Core.List.{List, [], _∷_}
+use mathlib.Core.Bool.{Bool, false, _||_}
+use mathlib.Core.List.{List, []}
 use lib.ListN.{replicate}
 use lib.Bits.{bitOr}
 use Rattle.votes.specs.VoteSets.{empty, nth, put}
 use Rattle.votes.specs.declared.VoteSet.{VoteSet}
-use Rattle.model.specs.Ranges.{limit}
 use Rattle.model.specs.Numbers.{isMove, isStay}
 use Rattle.model.specs.declared.Kind.{Kind}
 use Rattle.model.specs.declared.Kind.the-variants.{Vote, Ack, Help, Helped}
-use Rattle.model.specs.declared.Outcome.{Outcome}
-use Rattle.model.specs.declared.Outcome.the-variants.{None, Stay, Move}
+use Rattle.model.specs.declared.Outcome.the-variants.{None}
 use Rattle.model.specs.declared.Message.{Message}
 use Rattle.protocol.specs.declared.Member.{Member}
 use Rattle.protocol.specs.declared.Outgoing.{Outgoing}
@@ -20,7 +18,7 @@ use Rattle.protocol.specs.declared.Post.{Post}
 use Rattle.protocol.specs.declared.Post.the-variants.{Nothing as NoPost, To}
 use Rattle.protocol.specs.declared.Answer.{Answer}
 use Rattle.protocol.specs.declared.Saved.{Saved}
-use Rattle.protocol.specs.declared.Saved.the-variants.{Nothing, Card}
+use Rattle.protocol.specs.declared.Saved.the-variants.{Nothing}
 use Rattle.protocol.specs.declared.Sent.{Sent}
 use Rattle.protocol.specs.declared.Station.{Station}
 use Rattle.protocol.specs.declared.Bench.{Bench}

@@ -1,7 +1,6 @@
 -- What a controller shows, and the small changes that the rules are made of.
 use Prim.Native.Nat.{ℕ, suc}
 use mathlib.Core.Bool.{Bool, true, false, cond, _&&_}
-use mathlib.Core.List.{List}
 use lib.Dec.{ltb}
 use Rattle.votes.specs.Mask.{has, insert}
 use Rattle.votes.specs.VoteSets.{empty, join, nth, put}
@@ -9,11 +8,8 @@ use Rattle.votes.specs.declared.VoteSet.{VoteSet}
 use Rattle.model.specs.Numbers.{isNone, isMove}
 use Rattle.model.specs.declared.Outcome.{Outcome}
 use Rattle.model.specs.declared.Outcome.the-variants.{None, Stay, Move}
-use Rattle.protocol.specs.declared.Progress.{Progress}
 use Rattle.protocol.specs.declared.Condition.{Condition}
 use Rattle.protocol.specs.declared.Condition.the-variants.{Running, Stopped, Standby}
-use Rattle.protocol.specs.declared.Cnt.{Cnt}
-use Rattle.protocol.specs.declared.CntHelp.{CntHelp}
 use Rattle.protocol.specs.declared.Outgoing.{Outgoing}
 use Rattle.protocol.specs.declared.Controller.{Controller}
 

@@ -1,11 +1,9 @@
 -- What the bench shows. Document 01, "The bench program": the C lines and the T line.
 use Prim.Native.Nat.{ℕ, zero, suc, _+_}
-use mathlib.Core.Bool.{Bool, cond}
 use Rattle.votes.specs.Quantify.{countTo}
 use Rattle.votes.specs.Mask.{has}
 use Rattle.model.specs.declared.Kind.{Kind}
 use Rattle.model.specs.declared.Outcome.{Outcome}
-use Rattle.protocol.specs.declared.Progress.{Progress}
 use Rattle.protocol.specs.declared.Condition.{Condition}
 use Rattle.protocol.specs.declared.Condition.the-variants.{Running, Stopped, Standby}
 use Rattle.protocol.specs.declared.Bench.{Bench}

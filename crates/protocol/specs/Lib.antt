@@ -5,3 +5,4 @@ pub mod Benches
 pub mod Questions
 pub mod Steps
 pub mod Display
+pub mod Claim

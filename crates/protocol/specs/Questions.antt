@@ -1,6 +1,5 @@
 -- Document 01, "Questions put to a record or event": those that the bench puts to an event, in their sequence.
-use Prim.Native.Nat.{ℕ}
-use mathlib.Core.Bool.{Bool, true, false, cond, not, _&&_, _||_}
+use mathlib.Core.Bool.{Bool, true, false, not, _&&_, _||_}
 use mathlib.Core.List.{List, [], _∷_}
 use lib.Dec.{eqb, leb, ltb}
 use Rattle.votes.specs.Quantify.{allTo}
@@ -8,6 +7,8 @@ use Rattle.votes.specs.Mask.{has}
 use Rattle.model.specs.Ranges.{sizes, member, reachable}
 use Rattle.model.specs.Routes.{route}
 use Rattle.model.specs.Numbers.{isNone}
+pub use Rattle.model.specs.Questions.{Reply, accepted, refused, number, isAccepted, Question, ask}
+unfoldable pub use Rattle.model.specs.Questions.{unless, firstNo}
 use Rattle.model.specs.declared.Outcome.{Outcome}
 use Rattle.model.specs.declared.Outcome.the-variants.{None, Stay, Move}
 use Rattle.model.specs.declared.Event.{Event}
@@ -18,37 +19,6 @@ use Rattle.protocol.specs.declared.Saved.the-variants.{Nothing, Card}
 use Rattle.protocol.specs.declared.Bench.{Bench}
 use Rattle.protocol.specs.Controllers.{runs, standsBy, isStopped, phase, outcome}
 use Rattle.protocol.specs.Benches.{controller, sentBy, card, ofKind}
-
--- accepted, or refused with the number of the first question answered "no"
-pub data Reply : Type 0 where
-  accepted : Reply
-  refused : ℕ → Reply
-
--- the number that is printed
-abbrev pub number : Reply → ℕ
-number accepted = 0
-number (refused q) = q
-
-abbrev pub isAccepted : Reply → Bool
-isAccepted accepted = true
-isAccepted (refused q) = false
-
--- a question's number, and whether the answer is "yes"
-pub record Question : Type 0 where
-  pub number : ℕ
-  pub yes : Bool
-
-abbrev pub ask : ℕ → Bool → Question
-ask q t = record { number = q; yes = t }
-
--- "The first "no" gives its number."
-unfoldable pub unless : ℕ → Bool → Reply → Reply
-unless q true rest = rest
-unless q false rest = refused q
-
-unfoldable pub firstNo : List Question → Reply
-firstNo [] = accepted
-firstNo (q ∷ qs) = unless (q .number) (q .yes) (firstNo qs)
 
 -- 13: "Has every running controller an outcome, or has no order been opened yet?"
 unfoldable pub ended : Controller → Bool

@@ -4,18 +4,16 @@ use Prim.Native.Nat.{ℕ, suc, _+_}
 use mathlib.Core.Bool.{Bool, true, false, cond, not, _&&_, _||_}
 use lib.Dec.{eqb, leb, ltb}
 use Rattle.votes.specs.Quantify.{allTo}
-use Rattle.votes.specs.Mask.{has, insert, fullTo}
-use Rattle.votes.specs.VoteSets.{empty, knows, wills, single, join, joinAll, complete, unanimous}
+use Rattle.votes.specs.Mask.{has, insert}
+use Rattle.votes.specs.VoteSets.{empty, knows, single, join, joinAll, complete, unanimous}
 use Rattle.votes.specs.declared.VoteSet.{VoteSet}
 use Rattle.model.specs.Ranges.{isBackup}
 use Rattle.model.specs.Routes.{recipients}
 use Rattle.model.specs.Numbers.{wordOf}
-use Rattle.model.specs.declared.Kind.{Kind}
-use Rattle.model.specs.declared.Kind.the-variants.{Vote, Ack, Help, Helped}
+use Rattle.model.specs.declared.Kind.the-variants.{Vote, Ack, Help}
 use Rattle.model.specs.declared.Outcome.{Outcome}
-use Rattle.model.specs.declared.Outcome.the-variants.{None, Stay, Move}
+use Rattle.model.specs.declared.Outcome.the-variants.{None}
 use Rattle.protocol.specs.declared.Controller.{Controller}
-use Rattle.protocol.specs.declared.Post.{Post}
 use Rattle.protocol.specs.declared.Post.the-variants.{Nothing, To}
 use Rattle.protocol.specs.declared.Answer.{Answer}
 use Rattle.protocol.specs.Controllers.{outcome, phase, hasAck, ackOf, hasHelped, advance, learn, aim, keepAck, keepHelped, freeze, answered, await, propose, conclude}

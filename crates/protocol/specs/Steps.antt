@@ -3,8 +3,7 @@ use Prim.Native.Nat.{ℕ}
 use mathlib.Core.Bool.{Bool, true, false, cond}
 use mathlib.Core.List.{List, [], _∷_, map}
 use Rattle.model.specs.Numbers.{wordOf}
-use Rattle.model.specs.declared.Outcome.{Outcome}
-use Rattle.model.specs.declared.Outcome.the-variants.{None, Stay, Move}
+use Rattle.model.specs.declared.Outcome.the-variants.{None}
 use Rattle.model.specs.declared.Event.{Event}
 use Rattle.model.specs.declared.Event.the-variants.{Lock, Order, Cast, Deliver, Timeout, Decide, Stop, Save, Restore}
 use Rattle.protocol.specs.declared.Member.{Member}
@@ -16,8 +15,8 @@ use Rattle.protocol.specs.declared.Station.{Station}
 use Rattle.protocol.specs.declared.Bench.{Bench}
 use Rattle.protocol.specs.Rules.{passed}
 use Rattle.protocol.specs.Calls.{vote, receive, timeout, decide, stop, save, restore, renew}
-use Rattle.protocol.specs.Benches.{benchOf, newBench, station, controller, card, memberAt, message, unsentAll, withStation, commit}
-use Rattle.protocol.specs.Questions.{Reply, accepted, reply, isAccepted}
+use Rattle.protocol.specs.Benches.{benchOf, station, controller, card, memberAt, message, unsentAll, withStation, commit}
+use Rattle.protocol.specs.Questions.{accepted, reply, isAccepted}
 
 -- **New order**: "Old telegrams, words put and the arbiter's choice are gone; cards remain."
 unfoldable pub renewed : Station → Station

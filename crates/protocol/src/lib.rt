@@ -1,4 +1,5 @@
 // The state of the controllers and of the bench. The rules over it stand in specs/, and so does the claim about them.
+ghost use Rattle.protocol.specs.Claim.{Demand3};
 use model::Checkpoint;
 use model::Outcome;
 use votes::VoteSet;
@@ -109,3 +110,8 @@ pub struct Bench {
     pub decision: Outcome,
     pub stations: [Station; 16],
 }
+
+// Demand 3 of the buyer, as a contract: it holds of the definitions over these types, for every list of events.
+pub fn demand_3()
+    ensures { λ _. ⌜ Demand3 ⌝ }
+{}

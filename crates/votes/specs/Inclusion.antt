@@ -29,6 +29,7 @@ full-past w n m h l = elim (split (fullTo n m)) [
   | inr e ↦ e
 ]
 
+-- and has no bit above any such n
 pub none-above-past : (w n m : ℕ) → m < 2 ^ w → w ≤ n → noneAbove n m ≡ true
 unfolding noneAbove
 none-above-past w n m h l = lt-ltb m (2 ^ n) (lt-of-lt-of-le h (pow-mono {i = w} {j = n} l))

@@ -36,6 +36,7 @@ module _ {A : Type 0} (d : A) where
   pub nth-put : (l : List A) (i : ℕ) (a : A) → 1 ≤ i → i ≤ length l → nth d (put l i a) ≡ upd (nth d l) i a
   nth-put l i a x y = fun-ext (nth d (put l i a)) (upd (nth d l) i a) (nth-put-at l i a x y)
 
+-- the list keeps its length
 pub length-put : {A : Type 0} (l : List A) (i : ℕ) (a : A) → length (put l i a) ≡ length l
 unfolding put
 length-put l i a = length-set l (i - 1) a

@@ -49,14 +49,17 @@ or-test (suc (suc x)) y p q = absurd (omega arith)
 low-or : (a b : ℕ) → bitOr a b % 2 ≡ max (a % 2) (b % 2)
 low-or a b = let e : bitOr a b ≡ bitOr (a / 2) (b / 2) * 2 + max (a % 2) (b % 2) = or-step a b in omega arith
 
+-- in a union is who is in either
 pub has-or : (a b k : ℕ) → has (bitOr a b) k ≡ (has a k || has b k)
 unfolding has
 has-or a b zero = refl
 has-or a b (suc k) = rw (or-shr a b k, low-or (a / 2 ^ k) (b / 2 ^ k)) (or-test (a / 2 ^ k % 2) (b / 2 ^ k % 2) (omega arith) (omega arith))
 
+-- the same as functions of the number
 pub or-is : (a b : ℕ) → has (bitOr a b) ≡ (λ k. has a k || has b k)
 or-is a b = fun-ext (has (bitOr a b)) (λ k. has a k || has b k) (has-or a b)
 
+-- nobody is in 0
 pub has-none : (k : ℕ) → has 0 k ≡ false
 unfolding has
 has-none zero = refl

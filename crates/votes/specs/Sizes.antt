@@ -40,7 +40,7 @@ count-mono (suc m) p q h = let ih : countTo m p ≤ countTo m q = count-mono m p
   | inr e ↦ rw e (omega arith)
 ]
 
--- the count is 0 exactly if none of 1..m passes
+-- a count of 0: none of 1..m passes
 pub count-none : (m : ℕ) (p : ℕ → Bool) → countTo m p ≡ 0 → (k : ℕ) → 1 ≤ k → k ≤ m → p k ≡ false
 unfolding countTo
 count-none zero p e k a b = absurd (omega arith)
@@ -52,6 +52,7 @@ count-none (suc m) p e k a b = elim (split (p (suc m))) [
   ]
 ]
 
+-- and where none passes it is 0
 pub none-count : (m : ℕ) (p : ℕ → Bool) → ((k : ℕ) → 1 ≤ k → k ≤ m → p k ≡ false) → countTo m p ≡ 0
 unfolding countTo
 none-count zero p h = refl

@@ -62,26 +62,30 @@ all-wills = on-all willing-half
 
 -- complete and unanimous ---------------------------------------------------------------
 
--- "full when all n are known": the vote of each of 1..n is
+-- "full when all n are known": exactly if each of 1..n is
 pub complete-is : (n : ℕ) (s : VoteSet) → complete n s ≡ allTo n (knows s)
 unfolding complete
 complete-is n s = full-is n (s .known)
 
+-- a complete set knows each of 1..n
 pub complete-knows : (n : ℕ) (s : VoteSet) → complete n s ≡ true → (k : ℕ) → 1 ≤ k → k ≤ n → knows s k ≡ true
 complete-knows n s e = all-at n (knows s) (sym (complete-is n s) ∙ e)
 
+-- and one that knows each of them is complete
 pub knows-complete : (n : ℕ) (s : VoteSet) → ((k : ℕ) → 1 ≤ k → k ≤ n → knows s k ≡ true) → complete n s ≡ true
 knows-complete n s h = complete-is n s ∙ all-of n (knows s) h
 
--- "Move if all n are known and willing": each of 1..n is
+-- a unanimous set knows each of 1..n
 pub unanimous-known : (n : ℕ) (s : VoteSet) → unanimous n s ≡ true → (k : ℕ) → 1 ≤ k → k ≤ n → knows s k ≡ true
 unfolding unanimous
 unanimous-known n s e = all-at n (knows s) (sym (full-is n (s .known)) ∙ and-l (fullTo n (s .known)) (fullTo n (s .willing)) e)
 
+-- and has each as willing
 pub unanimous-willing : (n : ℕ) (s : VoteSet) → unanimous n s ≡ true → (k : ℕ) → 1 ≤ k → k ≤ n → wills s k ≡ true
 unfolding unanimous
 unanimous-willing n s e = all-at n (wills s) (sym (full-is n (s .willing)) ∙ and-r (fullTo n (s .known)) (fullTo n (s .willing)) e)
 
+-- one that knows each of them, and as willing, is unanimous
 pub votes-unanimous : (n : ℕ) (s : VoteSet)
     → ((k : ℕ) → 1 ≤ k → k ≤ n → knows s k ≡ true)
     → ((k : ℕ) → 1 ≤ k → k ≤ n → wills s k ≡ true)
@@ -90,6 +94,7 @@ unfolding unanimous
 votes-unanimous n s p q =
     and-i (fullTo n (s .known)) (fullTo n (s .willing)) (full-is n (s .known) ∙ all-of n (knows s) p) (full-is n (s .willing) ∙ all-of n (wills s) q)
 
+-- "Move if all n are known and willing": exactly if each of 1..n is
 pub unanimous-is : (n : ℕ) (s : VoteSet) → unanimous n s ≡ allTo n (λ k. knows s k && wills s k)
 unanimous-is n s =
     same-test (unanimous n s) (allTo n (λ k. knows s k && wills s k))
@@ -104,14 +109,17 @@ unanimous-complete n s e = knows-complete n s (unanimous-known n s e)
 
 -- order and repetition -------------------------------------------------------------------
 
+-- the order of two does not matter
 pub join-comm : (s t : VoteSet) → join s t ≡ join t s
 unfolding join
 join-comm s t = both (join s t) (join t s) (or-comm (s .known) (t .known)) (or-comm (s .willing) (t .willing))
 
+-- nor how often one is joined
 pub join-same : (s : VoteSet) → join s s ≡ s
 unfolding join
 join-same s = both (join s s) s (or-self (s .known)) (or-self (s .willing))
 
+-- nor which two of three are joined first
 pub join-assoc : (s t u : VoteSet) → join (join s t) u ≡ join s (join t u)
 unfolding join
 join-assoc s t u =
@@ -246,14 +254,17 @@ willing-unanimous n s w =
 
 -- "No bit above n" (of willing it follows by `within-none-above`) ----------------------------------
 
+-- the sheet of one vote of 1..n has none
 pub single-none-above : (n i : ℕ) (willing : Bool) → i ≤ n → noneAbove n (single i willing .known) ≡ true
 unfolding single
 single-none-above n i willing h = insert-none-above n 0 i h (le-none-above n 0 (λ k e. absurd (no-both (has 0 k) e (has-none k))))
 
+-- nor has a join of two that have none
 pub join-none-above : (n : ℕ) (s t : VoteSet) → noneAbove n (s .known) ≡ true → noneAbove n (t .known) ≡ true → noneAbove n (join s t .known) ≡ true
 unfolding join
 join-none-above n s t p q = or-none-above n (s .known) (t .known) p q
 
+-- or of many
 pub all-none-above : (n m from : ℕ) (l : List VoteSet)
     → ((j : ℕ) → 1 ≤ j → j ≤ m → has from j ≡ true → noneAbove n (nth empty l j .known) ≡ true)
     → noneAbove n (joinAll m from l .known) ≡ true

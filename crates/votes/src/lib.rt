@@ -1,7 +1,7 @@
 // Vote sets, and the masks that they are made of.
 ghost use mathlib.Core.Path.{_≡_};
 ghost use mathlib.Core.Bool.{cond};
-ghost use Prim.Native.Nat.{_≤_, min};
+ghost use Prim.Native.Nat.{min};
 ghost use Rattle.votes.specs.Mask.{has};
 ghost use Rattle.votes.specs.VoteSets.{empty, single, join, complete, unanimous, joinAll};
 
@@ -20,6 +20,7 @@ pub struct VoteSet {
     pub willing: u32,
 }
 
+// The sheet that knows nobody.
 pub fn empty_set() -> VoteSet
     ensures { λ r. ⌜ r ≡ empty ⌝ }
 {
@@ -86,6 +87,7 @@ pub fn join_all(m: u8, from: u32, sheets: [VoteSet; 16]) -> VoteSet
     joined
 }
 
+// The smaller of m and 16.
 fn at_most_16(m: u8) -> u8
     ensures { λ r. ⌜ r ≡ min m 16 ⌝ }
 {

@@ -1,21 +1,24 @@
 // Event records.
 use crate::Fields;
 use crate::ReadEvent;
+use crate::codes::flag_number;
 use crate::codes::flag_of;
 use crate::codes::is_flag;
 use crate::codes::is_kind;
 use crate::codes::kind_of;
+use crate::number::low;
 use crate::number::number2;
 use crate::number::number4;
 use model::Event;
+use model::kind_number;
 ghost use mathlib.Core.Path.{_≡_};
 ghost use mathlib.Core.Bool.{_&&_};
 ghost use mathlib.Core.List.{[], _∷_};
 ghost use lib.ListN.{length};
-ghost use Rattle.model.specs.Questions.{ask, firstNo};
+ghost use Rattle.model.specs.Questions.{ask, firstNo, number};
 ghost use Rattle.wire.specs.Codes.{isKind, isFlag, unused};
 ghost use Rattle.wire.specs.Marks.{eventLength};
-ghost use Rattle.wire.specs.Events.{fieldsIn, rowFor, answer, readEvent};
+ghost use Rattle.wire.specs.Events.{fieldsIn, fieldsOf, eventBytes, rowFor, answer, readEvent, eventReply, writeEvent};
 
 // The fields as they stand on the record.
 fn fields_in(s: &[u8]) -> Fields
@@ -39,7 +42,7 @@ fn lock_listed(c: u8, value: u32) -> bool
 }
 
 fn order_listed(a: u8, b: u8, c: u8) -> bool
-    ensures { λ r. ⌜ r ≡ (unused a && (unused b && unused c)) ⌝ }
+    ensures { λ r. ⌜ r ≡ (unused a && unused b && unused c) ⌝ }
 {
     if a != 0 {
         return false;
@@ -60,13 +63,13 @@ fn delivery_listed(c: u8, value: u32) -> bool
 }
 
 fn decision_listed(b: u8, c: u8, value: u32) -> bool
-    ensures { λ r. ⌜ r ≡ (isFlag b && (unused c && unused value)) ⌝ }
+    ensures { λ r. ⌜ r ≡ (isFlag b && unused c && unused value) ⌝ }
 {
     is_flag(b) && lock_listed(c, value)
 }
 
 fn other_listed(b: u8, c: u8, value: u32) -> bool
-    ensures { λ r. ⌜ r ≡ (unused b && (unused c && unused value)) ⌝ }
+    ensures { λ r. ⌜ r ≡ (unused b && unused c && unused value) ⌝ }
 {
     b == 0 && lock_listed(c, value)
 }
@@ -118,4 +121,63 @@ pub fn read_event(s: &[u8]) -> ReadEvent
         return ReadEvent::Refused(2);
     }
     event_of(fields_in(s))
+}
+
+fn made(kind: u8, a: u8, b: u8, c: u8, value: u32) -> Fields
+    ensures { λ r. ⌜ r ≡ record { kind = kind; a = a; b = b; c = c; value = value } ⌝ }
+{
+    Fields {
+        kind,
+        a,
+        b,
+        c,
+        value,
+    }
+}
+
+// The fields of an event; what it does not use is 0.
+pub fn fields_of(e: Event) -> Fields
+    ensures { λ r. ⌜ r ≡ fieldsOf e ⌝ }
+{
+    match e {
+        Event::Lock(n, f) => made(0, n, f, 0, 0),
+        Event::Order(number) => made(1, 0, 0, 0, number),
+        Event::Cast(id, willing, target) => made(2, id, flag_number(willing), 0, target),
+        Event::Deliver(from, to, kind) => made(3, from, to, kind_number(kind), 0),
+        Event::Timeout(id) => made(4, id, 0, 0, 0),
+        Event::Decide(id, is_move) => made(5, id, flag_number(is_move), 0, 0),
+        Event::Stop(id) => made(6, id, 0, 0, 0),
+        Event::Save(id) => made(7, id, 0, 0, 0),
+        Event::Restore(id) => made(8, id, 0, 0, 0),
+    }
+}
+
+fn event_bytes(e: Event) -> [u8; 10]
+    ensures { λ r. ⌜ r ≡ eventBytes e ⌝ }
+{
+    let x = fields_of(e);
+    [
+        low(Event::MARK / 256),
+        low(Event::MARK),
+        x.kind,
+        x.a,
+        x.b,
+        x.c,
+        low(x.value / 65536 / 256),
+        low(x.value / 65536),
+        low(x.value / 256),
+        low(x.value),
+    ]
+}
+
+// Answers 0, or the number of the first question that was answered "no"; then the buffer is untouched.
+pub fn write_event(out: &mut [u8], e: Event) -> u8
+    ensures { λ r. ⌜ (r ≡ number (eventReply (now (out .entry)) e)) × (now (out .exit) ≡ writeEvent (now (out .entry)) e) ⌝ }
+{
+    if out.len() != Event::LENGTH {
+        return 1;
+    }
+    let record = event_bytes(e);
+    bytes::copy(&record, out);
+    0
 }

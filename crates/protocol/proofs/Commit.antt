@@ -1,0 +1,87 @@
+-- One controller's answer put back keeps the invariant, if the answer fits. Every event of an order goes through this.
+use Prim.Native.Nat.{ℕ}
+use mathlib.Core.Path.{_≡_, refl}
+use mathlib.Core.Bool.{Bool, true, false, _||_, cond, false≢true}
+use lib.Dec.{eqb}
+use Rattle.votes.specs.Tests.{inl, inr, split, eqb-eq, or-e, or-l}
+use Rattle.votes.specs.Update.{upd, upd-same, upd-other, upd-all}
+use Rattle.model.specs.Numbers.{isMove, isStay}
+use Rattle.protocol.specs.declared.Controller.{Controller}
+use Rattle.protocol.specs.declared.Answer.{Answer}
+use Rattle.protocol.specs.declared.Sent.{Sent}
+use Rattle.protocol.specs.Rules.{quiet, passed}
+use Rattle.protocol.specs.Benches.{sentAfter}
+use Rattle.protocol.proofs.View.{View, commitV}
+use Rattle.protocol.proofs.Invariant.{SentOk, Grown, Grows, AllWilling, StayEv, Own, CtlOk, Inv}
+use Rattle.protocol.proofs.Growth.{sent-mono, all-mono, stay-mono, out-mono, ctl-mono}
+
+pub grown-refl : (i : ℕ) (l : Sent) → Grown i l l
+grown-refl i l = record { voted = λ e. e; will = λ e. refl; acked = λ e. e; ack = λ e. refl; helped = λ e. e; help = λ e. refl }
+
+pub grows-upd : (L : ℕ → Sent) (i : ℕ) (l : Sent) → Grown i (L i) l → Grows L (upd L i l)
+grows-upd L i l g = upd-all (λ k x. Grown k (L k) x) L i l g (λ k. grown-refl k (L k))
+
+-- two functions changed at one place
+pub upd-all₂ : {A B : Type 0} (P : ℕ → A → B → Type 0) (f : ℕ → A) (g : ℕ → B) (i : ℕ) (a : A) (b : B) → P i a b → ((k : ℕ) → P k (f k) (g k)) → (k : ℕ) → P k (upd f i a k) (upd g i b k)
+upd-all₂ P f g i a b here there k = elim (split (eqb k i)) [
+  | inl e ↦ rw (eqb-eq k i e, upd-same f i a, upd-same g i b) here
+  | inr e ↦ rw (upd-other f i a k e, upd-other g i b k e) (there k)
+]
+
+cond-or : (v a b p q : Bool) → cond v a b ≡ true → cond v (a || p) (b || q) ≡ true
+cond-or true a b p q e = or-l a p e
+cond-or false a b p q e = or-l b q e
+
+module _ (n f : ℕ) where
+  -- what an answer owes
+  pub record Fits (b : View) (i : ℕ) (a : Answer) : Type 0 where
+    pub grown : Grown i (b .world .sent i) (sentAfter (b .world .sent i) a)
+    pub sent-ok : SentOk f (upd (b .world .sent) i (sentAfter (b .world .sent i) a)) i (sentAfter (b .world .sent i) a)
+    pub own-ok : Own n f i (a .controller) (sentAfter (b .world .sent i) a)
+    pub ctl-ok : CtlOk n f (upd (b .world .sent) i (sentAfter (b .world .sent i) a)) (b .world .decision) i (a .controller)
+    pub move-ok : isMove (a .proposal) ≡ true → AllWilling n f (upd (b .world .sent) i (sentAfter (b .world .sent i) a))
+    pub stay-ok : isStay (a .proposal) ≡ true → StayEv n f (upd (b .world .sent) i (sentAfter (b .world .sent i) a))
+
+  pub lines-after : (b : View) (i : ℕ) (l : Sent) → Inv n f b → Grown i (b .world .sent i) l → SentOk f (upd (b .world .sent) i l) i l → (k : ℕ) → SentOk f (upd (b .world .sent) i l) k (upd (b .world .sent) i l k)
+  lines-after b i l inv g o =
+      let L : ℕ → Sent = b .world .sent in
+      let L′ : ℕ → Sent = upd L i l in
+      upd-all (λ k x. SentOk f L′ k x) L i l o (λ k. sent-mono L L′ (grows-upd L i l g) f k (L k) (inv .lines k))
+
+  pub commit-inv : (b : View) (i : ℕ) (a : Answer) → Inv n f b → Fits b i a → Inv n f (commitV b i a)
+  unfolding commitV
+  commit-inv b i a inv t =
+      let L : ℕ → Sent = b .world .sent in
+      let L′ : ℕ → Sent = upd L i (sentAfter (L i) a) in
+      let g : Grows L L′ = grows-upd L i (sentAfter (L i) a) (t .grown) in
+      record {
+        lines = lines-after b i (sentAfter (L i) a) inv (t .grown) (t .sent-ok);
+        owns = upd-all₂ (λ k c x. Own n f k c x) (b .ctl) L i (a .controller) (sentAfter (L i) a) (t .own-ok) (inv .owns);
+        ctls = upd-all (λ k c. CtlOk n f L′ (b .world .decision) k c) (b .ctl) i (a .controller) (t .ctl-ok) (λ k. ctl-mono L L′ g (b .world .decision) (b .world .decision) (λ v e. e) n f k (b .ctl k) (inv .ctls k));
+        move = λ e. elim (or-e (b .world .moveProposed) (isMove (a .proposal)) e) [ inl p ↦ all-mono L L′ g n f (inv .move p) | inr p ↦ t .move-ok p ];
+        stay = λ e. elim (or-e (b .world .stayProposed) (isStay (a .proposal)) e) [ inl p ↦ stay-mono L L′ g n f (inv .stay p) | inr p ↦ t .stay-ok p ];
+        card-old = inv .card-old;
+        card-ok = λ k e v x. out-mono L L′ g (b .world .decision) (b .world .decision) (λ v e. e) n f v (inv .card-ok k e v x);
+        chosen = λ v e. cond-or v (b .world .moveProposed) (b .world .stayProposed) (isMove (a .proposal)) (isStay (a .proposal)) (inv .chosen v e);
+      }
+
+  -- an answer that sends nothing and puts no word
+  module _ (b : View) (inv : Inv n f b) (i : ℕ) where
+    pub quiet-fits : (c : Controller) → Own n f i c (b .world .sent i) → CtlOk n f (b .world .sent) (b .world .decision) i c → Fits b i (quiet c)
+    unfolding quiet sentAfter
+    quiet-fits c o k =
+        let L : ℕ → Sent = b .world .sent in
+        let g : Grows L (upd L i (L i)) = grows-upd L i (L i) (grown-refl i (L i)) in
+        record {
+          grown = grown-refl i (L i);
+          sent-ok = sent-mono L (upd L i (L i)) g f i (L i) (inv .lines i);
+          own-ok = o;
+          ctl-ok = ctl-mono L (upd L i (L i)) g (b .world .decision) (b .world .decision) (λ v e. e) n f i c k;
+          move-ok = λ e. absurd (false≢true e);
+          stay-ok = λ e. absurd (false≢true e);
+        }
+
+    pub passed-fits : Fits b i (passed (b .ctl i))
+    unfolding passed sentAfter quiet
+    passed-fits = let t : Fits b i (quiet (b .ctl i)) = quiet-fits (b .ctl i) (inv .owns i) (inv .ctls i) in
+        record { grown = t .grown; sent-ok = t .sent-ok; own-ok = t .own-ok; ctl-ok = t .ctl-ok; move-ok = t .move-ok; stay-ok = t .stay-ok }

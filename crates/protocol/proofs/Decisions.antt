@@ -1,0 +1,176 @@
+-- The arbiter's word, a save, a new order: they keep the invariant.
+use Prim.Native.Nat.{ℕ, _≤_, _<_}
+use mathlib.Core.Path.{_≡_, refl, sym, _∙_, ap}
+use mathlib.Core.Bool.{Bool, true, false, cond, true≢false, false≢true}
+use native.Mathlib.Omega.{arith}
+use lib.ListN.{length}
+use Rattle.votes.specs.Tests.{inr, no-both, by-cond}
+use Rattle.votes.specs.Quantify.{countTo}
+use Rattle.votes.specs.Mask.{has}
+use Rattle.votes.specs.MaskLaws.{has-none}
+use Rattle.votes.specs.Update.{upd-all}
+use Rattle.votes.specs.VoteSets.{empty}
+use Rattle.model.specs.Numbers.{wordOf}
+use Rattle.model.specs.declared.Checkpoint.{Checkpoint}
+use Rattle.model.specs.declared.Outcome.{Outcome}
+use Rattle.model.specs.declared.Outcome.the-variants.{None}
+use Rattle.protocol.specs.declared.Condition.{Condition}
+use Rattle.protocol.specs.declared.Condition.the-variants.{Stopped}
+use Rattle.protocol.specs.declared.Controller.{Controller}
+use Rattle.protocol.specs.declared.Saved.{Saved}
+use Rattle.protocol.specs.declared.Saved.the-variants.{Card}
+use Rattle.protocol.specs.declared.Sent.{Sent}
+use Rattle.protocol.specs.Controllers.{isRunning, phaseIn, outcomeIn, isStopped, runs, phase, outcome, inPhase, cleared, noting, conclude}
+use Rattle.protocol.specs.Rules.{quiet}
+use Rattle.protocol.specs.Calls.{renew}
+use Rattle.protocol.specs.Benches.{unsentAll}
+use Rattle.protocol.specs.Questions.{noOther}
+use Rattle.protocol.proofs.View.{World, View, newWorld, cardOrder, cardOutcome, chosen, openedV, savedV}
+use Rattle.protocol.proofs.Words.{word-is, none-word, noting-runs, noting-phase, noting-outcome, given-is}
+use Rattle.protocol.proofs.Invariant.{OutEv, Own, CtlOk, Inv}
+use Rattle.protocol.proofs.Growth.{out-mono, ctl-mono}
+use Rattle.protocol.proofs.TrueSheets.{empty-ok}
+use Rattle.protocol.proofs.Commit.{Fits, grown-refl, quiet-fits}
+use Rattle.protocol.proofs.Events.{count-zero}
+
+-- the choice is made, or given again
+pub chosen-inv : (n f : ℕ) (b : View) (w : Bool) → Inv n f b → cond w (b .world .moveProposed) (b .world .stayProposed) ≡ true → noOther (b .world .decision) w ≡ true → Inv n f (chosen b w)
+unfolding chosen
+chosen-inv n f b w inv p q = record {
+  lines = inv .lines;
+  owns = inv .owns;
+  ctls = λ k. ctl-mono (b .world .sent) (b .world .sent) (λ k. grown-refl k (b .world .sent k)) (b .world .decision) (wordOf w) (λ v e. given-is (b .world .decision) w v q e) n f k (b .ctl k) (inv .ctls k);
+  card-old = inv .card-old;
+  card-ok = λ k e v x. out-mono (b .world .sent) (b .world .sent) (λ k. grown-refl k (b .world .sent k)) (b .world .decision) (wordOf w) (λ v e. given-is (b .world .decision) w v q e) n f v (inv .card-ok k e v x);
+  move = inv .move;
+  stay = inv .stay;
+  chosen = λ v e. let z : w ≡ v = word-is w v e in rw z at p;
+}
+
+own-concluded : (n f i : ℕ) (o : Outcome) (c : Controller) (l : Sent) → (runs c ≡ true → 3 ≤ phase c) → Own n f i c l → Own n f i (conclude c o) l
+unfolding conclude
+own-concluded n f i v c l late o =
+    let p : isRunning (noting (c .condition) v) ≡ runs c = noting-runs (c .condition) v in
+    let q : phaseIn (noting (c .condition) v) ≡ phase c = noting-phase (c .condition) v in
+    record {
+      fresh0 = λ r e. o .fresh0 (sym p ∙ r) (sym q ∙ e);
+      fresh1 = λ r e. o .fresh1 (sym p ∙ r) (rw q at e);
+      fresh2 = λ r e. o .fresh2 (sym p ∙ r) (rw q at e);
+      undecided = λ r e. absurd (far (late (sym p ∙ r)) (rw q at e));
+      own = λ e. o .own (rw q at e);
+      same = λ e. o .same (rw q at e);
+      late = λ e. o .late (rw q at e);
+      help-copy = λ e. o .help-copy (rw q at e);
+      waiter = λ e. absurd (false≢true e);
+      idle = λ e. refl;
+      early = λ e. o .early (rw q at e);
+      own-ack = λ e. o .own-ack (rw q at e);
+      ack-count = o .ack-count;
+      help-count = o .help-count;
+      room = o .room;
+    }
+  where
+    far : 3 ≤ phase c → phase c ≤ 2 → ⊥
+    far x y = omega arith
+
+ctl-concluded : (n f : ℕ) (L : ℕ → Sent) (ch : Outcome) (i : ℕ) (c : Controller) (o : Outcome) → CtlOk n f L ch i c → ((v : Bool) → outcomeIn (noting (c .condition) o) ≡ wordOf v → OutEv n f L ch v) → CtlOk n f L ch i (conclude c o)
+unfolding conclude
+ctl-concluded n f L ch i c v o h = record { votes-ok = o .votes-ok; acks-ok = o .acks-ok; helps-ok = o .helps-ok; helped-ok = o .helped-ok; outcome-ok = h }
+
+pub decide-fits : (n f : ℕ) (b : View) (i : ℕ) (w : Bool) → Inv n f b → (runs (b .ctl i) ≡ true → 3 ≤ phase (b .ctl i)) → cond w (b .world .moveProposed) (b .world .stayProposed) ≡ true → b .world .decision ≡ wordOf w → Fits n f b i (quiet (conclude (b .ctl i) (wordOf w)))
+decide-fits n f b i w inv late p ch = quiet-fits n f b inv i (conclude (b .ctl i) (wordOf w))
+    (own-concluded n f i (wordOf w) (b .ctl i) (b .world .sent i) late (inv .owns i))
+    (ctl-concluded n f (b .world .sent) (b .world .decision) i (b .ctl i) (wordOf w) (inv .ctls i) (λ v e. noting-outcome ((b .ctl i) .condition) w v (inv .ctls i .outcome-ok v) (given w v p ch) e))
+  where
+    given : (w v : Bool) → cond w (b .world .moveProposed) (b .world .stayProposed) ≡ true → b .world .decision ≡ wordOf w → w ≡ v → OutEv n f (b .world .sent) (b .world .decision) v
+    given true true p ch e = (inv .move p, inr ch)
+    given false false p ch e = inr ch
+    given true false p ch e = absurd (true≢false e)
+    given false true p ch e = absurd (false≢true e)
+
+pub saved-inv : (n f : ℕ) (b : View) (i : ℕ) (card : Checkpoint) → card .order ≡ b .order → card .outcome ≡ outcome (b .ctl i) → Inv n f b → Inv n f (savedV b i card)
+unfolding savedV
+saved-inv n f b i card p q inv = record {
+  lines = inv .lines;
+  owns = inv .owns;
+  ctls = inv .ctls;
+  move = inv .move;
+  stay = inv .stay;
+  card-old = upd-all (λ k (c : Saved). cardOrder c ≤ b .order) (b .cards) i (Card card) (omega arith) (inv .card-old);
+  card-ok = upd-all (λ k (c : Saved). cardOrder c ≡ b .order → (v : Bool) → cardOutcome c ≡ wordOf v → OutEv n f (b .world .sent) (b .world .decision) v) (b .cards) i (Card card) (λ e v x. inv .ctls i .outcome-ok v (sym q ∙ x)) (inv .card-ok);
+  chosen = inv .chosen;
+}
+
+-- a controller that holds nothing, at stage 0
+pub record Blank (c : Controller) : Type 0 where
+  pub votes : c .votes ≡ empty
+  pub phase : phase c ≡ 0
+  pub acks-none : c .«acks_from» ≡ 0
+  pub helps-none : c .«helped_from» ≡ 0
+  pub helped : c .helped ≡ empty
+  pub cnt-none : c .cnt .0 ≡ 0
+  pub cnt-help-none : c .«cnt_help» .0 ≡ 0
+  pub waiting : c .waiting ≡ false
+  pub outcome : outcome c ≡ None
+
+pub cleared-blank : (k : Condition) (c : Controller) → phaseIn k ≡ 0 → outcomeIn k ≡ None → Blank (cleared k c)
+unfolding cleared
+cleared-blank k c p q = record { votes = refl; phase = p; acks-none = refl; helps-none = refl; helped = refl; cnt-none = refl; cnt-help-none = refl; waiting = refl; outcome = q }
+
+pub renew-blank : (c : Controller) → Blank (renew c)
+unfolding renew
+renew-blank c = by-cond Blank (isStopped (c .condition)) _ _ (λ e. cleared-blank Stopped c refl refl) (λ e. cleared-blank (inPhase 0 None) c refl refl)
+
+pub record RenewKeeps (c c′ : Controller) : Type 0 where
+  pub acks : c′ .acks ≡ c .acks
+  pub position : c′ .position ≡ c .position
+
+pub renew-keeps : (c : Controller) → RenewKeeps c (renew c)
+unfolding renew cleared
+renew-keeps c = by-cond (RenewKeeps c) (isStopped (c .condition)) (cleared Stopped c) (cleared (inPhase 0 None) c) (λ e. record { acks = refl; position = refl }) (λ e. record { acks = refl; position = refl })
+
+-- a bench on which nothing has happened keeps the invariant, whatever cards of older orders it has
+pub blank-inv : (n f o : ℕ) (w : World) (ctl : ℕ → Controller) (cards : ℕ → Saved) → ((k : ℕ) → w .sent k ≡ unsentAll) → w .moveProposed ≡ false → w .stayProposed ≡ false → w .decision ≡ None
+    → ((k : ℕ) → Blank (ctl k)) → ((k : ℕ) → 1 ≤ k → k ≤ n → n ≤ length ((ctl k) .acks)) → ((k : ℕ) → cardOrder (cards k) ≤ o) → ((k : ℕ) → cardOrder (cards k) ≡ o → cardOutcome (cards k) ≡ None)
+    → Inv n f (record { order = o; world = w; ctl = ctl; cards = cards })
+unfolding unsentAll
+blank-inv n f o w ctl cards ln pm ps ch bl room old fresh = record {
+  lines = λ k. rw (ln k) (record { ack-ok = λ e. none k e; help-ok = λ e. none k e; ack-in-help = λ e. none k e; vote-to = λ j e. none j e; ack-to = λ j e. none j e; helped-to = λ j e. none j e; vote-within = λ j e. none j e; vote-only = λ j e. none j e });
+  owns = λ k. let s : phase (ctl k) ≡ 0 = bl k .phase in record {
+    fresh0 = λ e r. rw (ln k) (has-none k);
+    fresh1 = λ e r. rw (ln k) (has-none k);
+    fresh2 = λ e r. rw (ln k) (has-none k);
+    undecided = λ e r. bl k .outcome;
+    own = λ e. absurd (omega arith);
+    same = λ e. absurd (omega arith);
+    late = λ e. absurd (omega arith);
+    help-copy = λ e. absurd (omega arith);
+    waiter = λ e. absurd (no-both ((ctl k) .waiting) e (bl k .waiting));
+    idle = λ e. bl k .waiting;
+    early = λ e. bl k .helps-none;
+    own-ack = λ e. absurd (omega arith);
+    ack-count = bl k .cnt-none ∙ sym (count-zero n) ∙ ap (λ (m : ℕ). countTo n (has m)) (sym (bl k .acks-none));
+    help-count = bl k .cnt-help-none ∙ sym (count-zero n) ∙ ap (λ (m : ℕ). countTo n (has m)) (sym (bl k .helps-none));
+    room = room k;
+  };
+  ctls = λ k. record {
+    votes-ok = rw (bl k .votes) (empty-ok _);
+    helped-ok = rw (bl k .helped) (empty-ok _);
+    acks-ok = λ j e. none j (sym (ap (λ (m : ℕ). has m j) (bl k .acks-none)) ∙ e);
+    helps-ok = λ j e. none j (sym (ap (λ (m : ℕ). has m j) (bl k .helps-none)) ∙ e);
+    outcome-ok = λ v e. none-word v (sym (bl k .outcome) ∙ e);
+  };
+  move = λ e. absurd (no-both (w .moveProposed) e pm);
+  stay = λ e. absurd (no-both (w .stayProposed) e ps);
+  card-old = old;
+  card-ok = λ k e v x. none-word v (sym (fresh k e) ∙ x);
+  chosen = λ v e. none-word v (sym ch ∙ e);
+}
+  where
+    none : {X : Type 0} (j : ℕ) → has 0 j ≡ true → X
+    none j e = absurd (no-both (has 0 j) e (has-none j))
+
+pub opened-inv : (n f : ℕ) (b : View) (o : ℕ) → b .order < o → Inv n f b → Inv n f (openedV b o)
+unfolding openedV newWorld
+opened-inv n f b o h inv = blank-inv n f o _ _ (b .cards) (λ k. refl) refl refl refl (λ k. renew-blank (b .ctl k)) (λ k x y. rw (renew-keeps (b .ctl k) .acks) (inv .owns k .room x y))
+    (λ k. let q : cardOrder (b .cards k) ≤ b .order = inv .card-old k in omega arith) (λ k e. let q : cardOrder (b .cards k) ≤ b .order = inv .card-old k in absurd (omega arith))

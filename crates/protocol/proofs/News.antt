@@ -1,0 +1,177 @@
+-- What an accepted event itself adds, as the clean order needs it.
+use Prim.Native.Nat.{ℕ, suc, _≤_}
+use mathlib.Core.Path.{_≡_, refl, sym, _∙_}
+use mathlib.Core.Bool.{Bool, true, false, not, _&&_, _||_, cond, false≢true}
+use native.Mathlib.Omega.{arith}
+use lib.Dec.{leb, eqb, ltb}
+use Rattle.votes.specs.Tests.{_⊎_, inl, inr, split, by-cond, and-l, and-r, or-r, or-e, leb-le, le-leb, eqb-eq, eqb-same}
+use Rattle.votes.specs.MaskLaws.{insert-own}
+use Rattle.votes.specs.Mask.{width, has}
+use Rattle.votes.specs.Update.{upd-same}
+use Rattle.votes.specs.VoteSets.{knows}
+use Rattle.votes.specs.VoteLaws.{single-knows, single-wills, join-knows}
+use Rattle.votes.specs.declared.VoteSet.{VoteSet}
+use Rattle.model.specs.Ranges.{limit, member}
+use Rattle.model.specs.Routes.{route, voteRoute}
+use Rattle.model.specs.declared.Kind.the-variants.{Vote, Ack, Help, Helped}
+use Rattle.model.specs.declared.Event.{Event}
+use Rattle.model.specs.declared.Event.the-variants.{Lock, Order, Cast, Deliver, Timeout, Decide, Stop, Save, Restore}
+use Rattle.protocol.specs.declared.Controller.{Controller}
+use Rattle.protocol.specs.declared.Answer.{Answer}
+use Rattle.protocol.specs.Controllers.{runs, phase, hasAck, advance, learn, keepAck, keepHelped, freeze, await, propose, conclude}
+use Rattle.protocol.specs.Rules.{passed, quiet, proposes, verdict, voteRule, voteArrives, firstTimeout, ackJoin, decides, enough, settle, frozen, laidDown, callsHelp, secondTimeout, ackArrives}
+use Rattle.protocol.specs.Calls.{arrives}
+use Rattle.protocol.specs.Benches.{sentAfter}
+use Rattle.protocol.specs.Questions.{firstNo}
+use Rattle.protocol.proofs.View.{View, commitV, accepts, timeoutRule, performV, ask-l, ask-r}
+use Rattle.protocol.proofs.Invariant.{votedBy, willBy, ackedBy, Inv}
+
+module _ (n f : ℕ) where
+  -- a vote that arrives before the first timeout is known
+  known-after : (b : View) (i j : ℕ) (s : VoteSet) → knows s i ≡ true → phase (b .ctl j) ≤ 1 → knows (((commitV b j (voteArrives s (b .ctl j))) .ctl j) .votes) i ≡ true
+  unfolding commitV
+  known-after b i j s e h = rw (upd-same (b .ctl) j ((voteArrives s (b .ctl j)) .controller)) learned
+    where
+      learned : knows ((voteArrives s (b .ctl j)) .controller .votes) i ≡ true
+      learned = unfold voteArrives quiet learn in rw (le-leb (phase (b .ctl j)) 1 h) (join-knows ((b .ctl j) .votes) s i ∙ or-r (knows ((b .ctl j) .votes) i) (knows s i) e)
+
+  -- an acknowledgement that arrives before the second timeout is held
+  record Holds (i : ℕ) (a : Answer) : Type 0 where
+    is : hasAck (a .controller) i ≡ true
+
+  settle-holds : (i : ℕ) (a : Answer) → Holds i a → Holds i (settle n f a)
+  unfolding settle proposes propose
+  settle-holds i a h = by-cond (Holds i) (enough n f (a .controller)) _ _ (λ q. record { is = h .is }) (λ q. h)
+
+  ack-held : (i : ℕ) (s : VoteSet) (c : Controller) → 1 ≤ i → i ≤ width → phase c ≤ 2 → Holds i (ackArrives n f i s c)
+  unfolding ackArrives
+  ack-held i s c a b h = by-cond (Holds i) (not (hasAck c i) && (leb (phase c) 2 || c .waiting)) _ _
+      (λ e. settle-holds i _ kept) (λ e. unfold passed in record { is = already (hasAck c i) (leb (phase c) 2) (c .waiting) (le-leb (phase c) 2 h) e })
+    where
+      kept : Holds i (quiet (keepAck c i s))
+      kept = unfold quiet keepAck in record { is = insert-own (c .«acks_from») i a b }
+
+      already : (x y z : Bool) → y ≡ true → (not x && (y || z)) ≡ false → x ≡ true
+      already true y z p q = refl
+      already false true z p q = sym q
+      already false false z p q = absurd (false≢true p)
+
+  held-after : (b : View) (i j : ℕ) (s : VoteSet) → 1 ≤ i → i ≤ width → phase (b .ctl j) ≤ 2 → hasAck ((commitV b j (ackArrives n f i s (b .ctl j))) .ctl j) i ≡ true
+  unfolding commitV
+  held-after b i j s a w h = rw (upd-same (b .ctl) j ((ackArrives n f i s (b .ctl j)) .controller)) (ack-held i s (b .ctl j) a w h .is)
+
+  -- a vote begins the order
+  begun-after : (b : View) (i : ℕ) (w : Bool) (t : ℕ) → 1 ≤ phase ((commitV b i (voteRule n f i w t (b .ctl i))) .ctl i)
+  unfolding commitV voteRule advance
+  begun-after b i w t = rw (upd-same (b .ctl) i _) (low (leb i (suc f)))
+    where
+      low : (x : Bool) → 1 ≤ cond x 1 2
+      low true = omega arith
+      low false = omega arith
+
+  told-after : (b : View) (i : ℕ) (w : Bool) (t : ℕ) → 1 ≤ i → i ≤ width
+      → (votedBy i ((commitV b i (voteRule n f i w t (b .ctl i))) .world .sent i) ≡ true) × (willBy i ((commitV b i (voteRule n f i w t (b .ctl i))) .world .sent i) ≡ w)
+  unfolding commitV voteRule sentAfter
+  told-after b i w t lo hi = (rw (upd-same (b .world .sent) i _) (single-knows i w i lo hi ∙ eqb-same i), rw (upd-same (b .world .sent) i _) (single-wills i w i lo hi ∙ and-yes w (eqb i i) (eqb-same i)))
+    where
+      and-yes : (x y : Bool) → y ≡ true → (x && y) ≡ x
+      and-yes true y e = e
+      and-yes false y e = refl
+
+  -- the phase after a timeout
+  record Rings (s : ℕ) (a : Answer) : Type 0 where
+    is : phase (a .controller) ≡ s
+
+  settle-rings : (s : ℕ) (a : Answer) → Rings s a → Rings s (settle n f a)
+  unfolding settle proposes propose
+  settle-rings s a h = by-cond (Rings s) (enough n f (a .controller)) _ _ (λ q. record { is = h .is }) (λ q. h)
+
+  second-rings : (j : ℕ) (c : Controller) → Rings 3 (secondTimeout n f j c)
+  unfolding secondTimeout
+  second-rings j c = by-cond (Rings 3) (decides n f j c) _ _ (λ d. direct) (λ d. by-cond (Rings 3) (ltb 0 (c .cnt .0)) _ _ (λ e. put) (λ e. settle-rings 3 _ waits))
+    where
+      direct : Rings 3 (laidDown n c (conclude (frozen n c) (verdict n (ackJoin n c))))
+      direct = unfold laidDown conclude frozen freeze advance in record { is = refl }
+
+      put : Rings 3 (proposes (laidDown n c (frozen n c)) (verdict n (ackJoin n c)))
+      put = unfold proposes laidDown propose frozen freeze advance in record { is = refl }
+
+      waits : Rings 3 (callsHelp n f j c)
+      waits = unfold callsHelp keepHelped await frozen freeze advance in record { is = refl }
+
+  first-rings : (j : ℕ) (c : Controller) → Rings 2 (firstTimeout n f j c)
+  unfolding firstTimeout advance
+  first-rings j c = record { is = refl }
+
+  rung-after : (b : View) (i : ℕ) (a : Answer) (s : ℕ) → Rings s a → phase ((commitV b i a) .ctl i) ≡ s
+  unfolding commitV
+  rung-after b i a s h = rw (upd-same (b .ctl) i (a .controller)) (h .is)
+
+  pub record InRange (i : ℕ) : Type 0 where
+    pub lo : 1 ≤ i
+    pub hi : i ≤ n
+
+  pub record NewVote (b b′ : View) (k : ℕ) (w : Bool) : Type 0 where
+    pub cast : votedBy k (b′ .world .sent k) ≡ true
+    pub will : willBy k (b′ .world .sent k) ≡ w
+    pub ran : runs (b .ctl k) ≡ true
+    pub begun : 1 ≤ phase (b′ .ctl k)
+
+  pub record NewVoteTo (b b′ : View) (i j : ℕ) : Type 0 where
+    pub ran : runs (b .ctl j) ≡ true
+    pub route : voteRoute f i j ≡ true
+    pub known : phase (b .ctl j) ≤ 1 → knows ((b′ .ctl j) .votes) i ≡ true
+
+  pub record NewAckTo (b b′ : View) (i j : ℕ) : Type 0 where
+    pub acked : ackedBy i (b .world .sent i) ≡ true
+    pub held : phase (b .ctl j) ≤ 2 → hasAck (b′ .ctl j) i ≡ true
+
+  pub record NewTimeout (b b′ : View) (i : ℕ) : Type 0 where
+    pub ran : runs (b .ctl i) ≡ true
+    pub at : InRange i
+    pub at-phase : (phase (b .ctl i) ≡ 1) ⊎ (phase (b .ctl i) ≡ 2)
+    pub after : 2 ≤ phase (b′ .ctl i)
+
+  abbrev pub New : Event → View → View → Type 0
+  New (Lock a c) b b′ = Unit {0}
+  New (Order o) b b′ = Unit {0}
+  New (Cast i w t) b b′ = NewVote b b′ i w
+  New (Deliver i j Vote) b b′ = NewVoteTo b b′ i j
+  New (Deliver i j Ack) b b′ = NewAckTo b b′ i j
+  New (Deliver i j Help) b b′ = Unit {0}
+  New (Deliver i j Helped) b b′ = Unit {0}
+  New (Timeout i) b b′ = NewTimeout b b′ i
+  New (Decide i w) b b′ = Unit {0}
+  New (Stop i) b b′ = Unit {0}
+  New (Save i) b b′ = Unit {0}
+  New (Restore i) b b′ = Unit {0}
+
+  pub perform-new : n ≤ limit → (b : View) (e : Event) → Inv n f b → accepts n f b e ≡ true → New e b (performV n f b e)
+  unfolding performV accepts firstNo member route arrives timeoutRule
+  perform-new s b (Lock a c) inv q = tt
+  perform-new s b (Order o) inv q = tt
+  perform-new s b (Cast i w t) inv q =
+      let lo : 1 ≤ i = leb-le _ _ (search (ask-l, ask-r, and-l, and-r) depth 14) in let hi : i ≤ n = leb-le _ _ (search (ask-l, ask-r, and-l, and-r) depth 14) in
+      record { cast = told-after b i w t lo (omega arith) .0; will = told-after b i w t lo (omega arith) .1; ran = (search (ask-l, ask-r, and-l, and-r) depth 14); begun = begun-after b i w t }
+  perform-new s b (Deliver i j Vote) inv q =
+      let sent : has ((b .world .sent i) .vote .to) j ≡ true = (search (ask-l, ask-r, and-l, and-r) depth 14) in
+      record { ran = (search (ask-l, ask-r, and-l, and-r) depth 14); route = inv .lines i .vote-to j sent .1; known = known-after b i j _ (inv .lines i .vote-to j sent .0) }
+  perform-new s b (Deliver i j Ack) inv q =
+      let sent : has ((b .world .sent i) .ack .to) j ≡ true = (search (ask-l, ask-r, and-l, and-r) depth 14) in
+      let lo : 1 ≤ i = leb-le _ _ (search (ask-l, ask-r, and-l, and-r) depth 14) in let hi : i ≤ n = leb-le _ _ (search (ask-l, ask-r, and-l, and-r) depth 14) in
+      record { acked = inv .lines i .ack-to j sent .0; held = held-after b i j _ lo (omega arith) }
+  perform-new s b (Deliver i j Help) inv q = tt
+  perform-new s b (Deliver i j Helped) inv q = tt
+  perform-new s b (Timeout i) inv q = record {
+    ran = (search (ask-l, ask-r, and-l, and-r) depth 14);
+    at = record { lo = leb-le _ _ (search (ask-l, ask-r, and-l, and-r) depth 14); hi = leb-le _ _ (search (ask-l, ask-r, and-l, and-r) depth 14) };
+    at-phase = elim (or-e (eqb (phase (b .ctl i)) 1) (eqb (phase (b .ctl i)) 2) (search (ask-l, ask-r, and-l, and-r) depth 14)) [ inl e ↦ inl (eqb-eq _ _ e) | inr e ↦ inr (eqb-eq _ _ e) ];
+    after = elim (split (eqb (phase (b .ctl i)) 1)) [
+      | inl e ↦ rw e (omega (arith, rung-after b i _ 2 (first-rings i (b .ctl i))))
+      | inr e ↦ rw e (omega (arith, rung-after b i _ 3 (second-rings i (b .ctl i))))
+    ];
+  }
+  perform-new s b (Decide i w) inv q = tt
+  perform-new s b (Stop i) inv q = tt
+  perform-new s b (Save i) inv q = tt
+  perform-new s b (Restore i) inv q = tt

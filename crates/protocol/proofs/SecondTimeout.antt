@@ -1,0 +1,301 @@
+-- The second timeout: its three ways out fit.
+use Prim.Native.Nat.{ℕ, zero, suc, _≤_, _<_}
+use mathlib.Core.Path.{_≡_, refl, sym, _∙_, ap, subst}
+use mathlib.Core.Bool.{Bool, true, false, not, _&&_, _||_, false≢true}
+use native.Mathlib.Omega.{arith}
+use native.Mathlib.Decide.{decLe, ℕ-discrete}
+use lib.Bits.{bitOr}
+use lib.Dec.{leb, ltb}
+use Rattle.votes.specs.Tests.{inl, inr, no-both, by-cond, and-l, and-r, or-l, leb-le, le-leb}
+use Rattle.votes.specs.Quantify.{Found, allTo, all-at, countTo}
+use Rattle.votes.specs.Mask.{has}
+use Rattle.votes.specs.MaskLaws.{has-none}
+use Rattle.votes.specs.Update.{upd, upd-same}
+use Rattle.votes.specs.VoteSets.{empty, knows, complete, unanimous}
+use Rattle.votes.specs.VoteLaws.{join-knows, join-unanimous-r, knows-in-all, complete-knows}
+use Rattle.votes.specs.declared.VoteSet.{VoteSet}
+use Rattle.model.specs.Ranges.{limit}
+use Rattle.model.specs.Routes.{recipients}
+use Rattle.model.specs.Numbers.{wordOf}
+use Rattle.model.specs.declared.Kind.the-variants.{Help}
+use Rattle.model.specs.declared.Outcome.{Outcome}
+use Rattle.protocol.specs.declared.Outgoing.{Outgoing}
+use Rattle.protocol.specs.declared.Controller.{Controller}
+use Rattle.protocol.specs.declared.Sent.{Sent}
+use Rattle.protocol.specs.Controllers.{runs, phase, outcome, hasAck, ackOf, hasHelped, advance, freeze, await, keepHelped, conclude}
+use Rattle.protocol.specs.Rules.{verdict, ackJoin, backupsComplete, secondKnows, decides, helpSheet, frozen, laidDown, proposes, callsHelp, secondTimeout}
+use Rattle.protocol.specs.Benches.{sentAfter}
+use Rattle.protocol.proofs.View.{View}
+use Rattle.protocol.proofs.Words.{or-else-is}
+use Rattle.protocol.proofs.Invariant.{helpOn, fixedBy, OkSheet, SentOk, Grown, Grows, SecondAck, DirectMove, StayEv, OutEv, Own, HeldAck, CtlOk, Inv}
+use Rattle.protocol.proofs.Growth.{sheet-mono, sent-mono, all-mono, stay-mono, out-mono, ctl-mono}
+use Rattle.protocol.proofs.TrueSheets.{join-ok, move-all, all-move, stay-unwilling}
+use Rattle.protocol.proofs.Commit.{Fits, grows-upd}
+use Rattle.protocol.proofs.Settle.{acks-true, ack-stay, move-put, stay-put, own-put, ctl-put, settle-fits, count-some, not-above}
+use Rattle.protocol.proofs.Keeping.{own-help-kept, ctl-help-kept}
+
+module _ (n f : ℕ) where
+  own-waiting : (i : ℕ) (c : Controller) (l : Sent) → f < i → 3 ≤ phase c → Own n f i c l → Own n f i (await c) l
+  unfolding await
+  own-waiting i c l h p o = record {
+    fresh0 = o .fresh0;
+    fresh1 = o .fresh1;
+    fresh2 = o .fresh2;
+    undecided = o .undecided;
+    own = o .own;
+    same = o .same;
+    late = o .late;
+    help-copy = o .help-copy;
+    waiter = λ e. h;
+    idle = λ e. absurd (omega arith);
+    early = o .early;
+    own-ack = o .own-ack;
+    ack-count = o .ack-count;
+    help-count = o .help-count;
+    room = o .room;
+  }
+
+  ctl-waiting : (L : ℕ → Sent) (ch : Outcome) (i : ℕ) (c : Controller) → CtlOk n f L ch i c → CtlOk n f L ch i (await c)
+  unfolding await
+  ctl-waiting L ch i c o = record { votes-ok = o .votes-ok; acks-ok = o .acks-ok; helps-ok = o .helps-ok; helped-ok = o .helped-ok; outcome-ok = o .outcome-ok }
+
+count-one : (m : ℕ) (p : ℕ → Bool) (j : ℕ) → 1 ≤ j → j ≤ m → p j ≡ true → 1 ≤ countTo m p
+unfolding countTo
+count-one zero p j a b e = absurd (omega arith)
+count-one (suc m) p j a b e = elim (ℕ-discrete j (suc m)) [
+  | yes q ↦ let e′ : p (suc m) ≡ true = (rw q at e) in rw e′ (omega arith)
+  | no q ↦ omega (arith, count-one m p j a (omega arith) e)
+]
+
+module _ (n f : ℕ) (f<n : f < n) (1≤f : 1 ≤ f) (small : n ≤ limit) (b : View) (inv : Inv n f b) (i : ℕ) (low : 1 ≤ i) (high : i ≤ n) (runs′ : runs (b .ctl i) ≡ true) (st : phase (b .ctl i) ≡ 2) where
+  abbrev c : Controller
+  c = b .ctl i
+
+  abbrev L : ℕ → Sent
+  L = b .world .sent
+
+  abbrev s : VoteSet
+  s = helpSheet n c
+
+  -- what it has sent afterwards: its help sheet is laid down, and help calls h are out or not
+  abbrev l′ : Outgoing → Sent
+  l′ h = record { vote = (L i) .vote; ack = (L i) .ack; help = h; helped = record { to = bitOr ((L i) .helped .to) 0; votes = s } }
+
+  abbrev L′ : Outgoing → ℕ → Sent
+  L′ h = upd L i (l′ h)
+
+  s-ok : OkSheet L s
+  unfolding helpSheet
+  s-ok = join-ok L (c .votes) (ackJoin n c) (inv .ctls i .votes-ok) (acks-true n f L (inv .lines) i c (inv .ctls i .acks-ok))
+
+  s-knows : (k : ℕ) → knows (c .votes) k ≡ true → knows s k ≡ true
+  unfolding helpSheet
+  s-knows k e = join-knows (c .votes) (ackJoin n c) k ∙ or-l (knows (c .votes) k) (knows (ackJoin n c) k) e
+
+  s-own : knows s i ≡ true
+  s-own = s-knows i (inv .owns i .own (omega arith))
+
+  grown : (h : Outgoing) → Grown i (L i) (l′ h)
+  grown h = record {
+    voted = λ e. e;
+    will = λ e. refl;
+    acked = λ e. e;
+    ack = λ e. refl;
+    helped = λ e. s-own;
+    help = λ e. absurd (no-both (fixedBy i (L i)) e (inv .owns i .fresh2 runs′ (omega arith)));
+  }
+
+  grows : (h : Outgoing) → Grows L (L′ h)
+  grows h = grows-upd L i (l′ h) (grown h)
+
+  sent-ok : (h : Outgoing) → SentOk f (L′ h) i (l′ h)
+  sent-ok h = let o : SentOk f (L′ h) i (L i) = sent-mono L (L′ h) (grows h) f i (L i) (inv .lines i) in record {
+    ack-ok = o .ack-ok;
+    help-ok = λ e. sheet-mono L (L′ h) (grows h) s s-ok;
+    ack-in-help = λ e e′ k q. s-knows k (inv .owns i .same (omega arith) e k q);
+    vote-to = o .vote-to;
+    ack-to = o .ack-to;
+    helped-to = λ j e. s-own;
+    vote-within = o .vote-within;
+    vote-only = o .vote-only;
+  }
+
+  -- the controller at stage 3 with its help sheet frozen
+  own-frozen : (h : Outgoing) → Own n f i (frozen n c) (l′ h)
+  unfolding frozen freeze advance
+  own-frozen h = let o : Own n f i c (L i) = inv .owns i in record {
+    fresh0 = λ r e. absurd (omega arith);
+    fresh1 = λ r e. absurd (omega arith);
+    fresh2 = λ r e. absurd (omega arith);
+    undecided = λ r e. absurd (omega arith);
+    own = λ e. o .own (omega arith);
+    same = λ e. o .same (omega arith);
+    late = λ e. s-own;
+    help-copy = λ e. refl;
+    waiter = o .waiter;
+    idle = λ e. absurd (omega arith);
+    early = λ e. absurd (omega arith);
+    own-ack = λ e. o .own-ack (omega arith);
+    ack-count = o .ack-count;
+    help-count = o .help-count;
+    room = o .room;
+  }
+
+  old-ok : (h : Outgoing) → CtlOk n f (L′ h) (b .world .decision) i c
+  old-ok h = ctl-mono L (L′ h) (grows h) (b .world .decision) (b .world .decision) (λ v e. e) n f i c (inv .ctls i)
+
+  ctl-frozen : (h : Outgoing) → CtlOk n f (L′ h) (b .world .decision) i (frozen n c)
+  unfolding frozen freeze advance
+  ctl-frozen h = let o : CtlOk n f (L′ h) (b .world .decision) i c = old-ok h in record { votes-ok = o .votes-ok; acks-ok = o .acks-ok; helps-ok = o .helps-ok; helped-ok = o .helped-ok; outcome-ok = o .outcome-ok }
+
+  acks-ok : OkSheet L (ackJoin n c)
+  acks-ok = acks-true n f L (inv .lines) i c (inv .ctls i .acks-ok)
+
+  abbrev h₀ : Outgoing
+  h₀ = (L i) .help
+
+  -- the direct decision
+  module _ (d : decides n f i c ≡ true) where
+    got-ack : (j : ℕ) → 1 ≤ j → j ≤ f → (hasAck c j ≡ true) × (complete n (ackOf c j) ≡ true)
+    unfolding decides backupsComplete
+    got-ack j a h =
+        let e : hasAck c j && complete n (ackOf c j) ≡ true = all-at f (λ j. hasAck c j && complete n (ackOf c j)) (and-l (allTo f (λ j. hasAck c j && complete n (ackOf c j))) _ d) j a h in
+        (and-l (hasAck c j) (complete n (ackOf c j)) e, and-r (hasAck c j) (complete n (ackOf c j)) e)
+
+    ack-fact : (j : ℕ) → 1 ≤ j → j ≤ f → HeldAck n f L i (ackOf c j) j
+    ack-fact j a h = inv .ctls i .acks-ok j (got-ack j a h .0)
+
+    all-known : (k : ℕ) → 1 ≤ k → k ≤ n → knows (ackJoin n c) k ≡ true
+    unfolding ackJoin
+    all-known k x y = knows-in-all n (c .«acks_from») (c .acks) 1 (omega arith) (omega arith) (got-ack 1 (omega arith) 1≤f .0) k (complete-knows n (ackOf c 1) (got-ack 1 (omega arith) 1≤f .1) k x y)
+
+    second : i ≤ f → SecondAck n f L
+    unfolding decides secondKnows
+    second h =
+        let e : not (leb i f) || (hasAck c (suc f) && complete f (ackOf c (suc f))) ≡ true = and-r (backupsComplete n f c) _ d in
+        let e′ : hasAck c (suc f) && complete f (ackOf c (suc f)) ≡ true = (rw (le-leb i f h) at e) in
+        let t : HeldAck n f L i (ackOf c (suc f)) (suc f) = inv .ctls i .acks-ok (suc f) (and-l (hasAck c (suc f)) _ e′) in
+        record { acked = t .acked; knows = λ k x y. rw (← t .copy) (complete-knows f (ackOf c (suc f)) (and-r (hasAck c (suc f)) _ e′) k x y) }
+
+    moves : unanimous n (ackJoin n c) ≡ true → DirectMove n f (L′ h₀)
+    moves e = record {
+      acks = λ j a h. let t : HeldAck n f L i (ackOf c j) j = ack-fact j a h in (
+        grows h₀ j .acked (t .acked),
+        rw (grows h₀ j .ack (t .acked), ← t .copy) (all-move L n f (ackOf c j) (rw (t .copy) (inv .lines j .ack-ok (t .acked))) (move-all L n f (ackJoin n c) acks-ok e) (got-ack j a h .1)),
+      );
+      more = elim (decLe i f) [
+        | yes h ↦ let t : SecondAck n f L = second h in inr (record { acked = grows h₀ (suc f) .acked (t .acked); knows = λ k x y. rw (grows h₀ (suc f) .ack (t .acked)) (t .knows k x y) })
+        | no h ↦ inl (record { at = i; low = omega arith; high = high; helped = rw (upd-same L i (l′ h₀)) s-own; moves = rw (upd-same L i (l′ h₀)) (help-moves e) })
+      ];
+    }
+      where
+        help-moves : unanimous n (ackJoin n c) ≡ true → unanimous n s ≡ true
+        help-moves e = unfold helpSheet in join-unanimous-r n (c .votes) (ackJoin n c) e
+
+    grounds : (v : Bool) → unanimous n (ackJoin n c) ≡ v → OutEv n f (L′ h₀) (b .world .decision) v
+    grounds true e = (all-mono L (L′ h₀) (grows h₀) n f (move-all L n f (ackJoin n c) acks-ok e), inl (moves e))
+    grounds false e = out-mono L (L′ h₀) (grows h₀) (b .world .decision) (b .world .decision) (λ v e. e) n f false (inl (stay-unwilling L n f (ackJoin n c) acks-ok all-known e))
+
+    direct-fits : Fits n f b i (laidDown n c (conclude (frozen n c) (verdict n (ackJoin n c))))
+    unfolding laidDown sentAfter conclude frozen freeze advance verdict
+    direct-fits =
+        let o : Own n f i (frozen n c) (l′ h₀) = own-frozen h₀ in
+        let k : CtlOk n f (L′ h₀) (b .world .decision) i (frozen n c) = ctl-frozen h₀ in
+        record {
+          grown = grown h₀;
+          sent-ok = sent-ok h₀;
+          own-ok = record {
+            fresh0 = o .fresh0;
+            fresh1 = o .fresh1;
+            fresh2 = o .fresh2;
+            undecided = λ r e. absurd (omega arith);
+            own = o .own;
+            same = o .same;
+            late = o .late;
+            help-copy = o .help-copy;
+            waiter = λ e. absurd (false≢true e);
+            idle = λ e. refl;
+            early = o .early;
+            own-ack = o .own-ack;
+            ack-count = o .ack-count;
+            help-count = o .help-count;
+            room = o .room;
+          };
+          ctl-ok = record {
+            votes-ok = k .votes-ok;
+            acks-ok = k .acks-ok;
+            helps-ok = k .helps-ok;
+            helped-ok = k .helped-ok;
+            outcome-ok = λ v e. or-else-is (outcome c) (unanimous n (ackJoin n c)) v (k .outcome-ok v) (grounds v) e;
+          };
+          move-ok = λ e. absurd (false≢true e);
+          stay-ok = λ e. absurd (false≢true e);
+        }
+
+  -- a word put at the timeout
+  put-fits : ltb 0 (c .cnt .0) ≡ true → Fits n f b i (proposes (laidDown n c (frozen n c)) (verdict n (ackJoin n c)))
+  unfolding laidDown proposes sentAfter verdict
+  put-fits e = record {
+    grown = grown h₀;
+    sent-ok = sent-ok h₀;
+    own-ok = own-put n f i (frozen n c) (l′ h₀) (wordOf (unanimous n (ackJoin n c))) (own-frozen h₀);
+    ctl-ok = ctl-put n f (L′ h₀) (b .world .decision) i (frozen n c) (wordOf (unanimous n (ackJoin n c))) (ctl-frozen h₀);
+    move-ok = λ p. all-mono L (L′ h₀) (grows h₀) n f (move-all L n f (ackJoin n c) acks-ok (move-put n (unanimous n (ackJoin n c)) p));
+    stay-ok = λ p. stay-mono L (L′ h₀) (grows h₀) n f (stays (stay-put n (unanimous n (ackJoin n c)) p));
+  }
+    where
+      stays : unanimous n (ackJoin n c) ≡ false → StayEv n f L
+      stays q = elim (decLe i f) [
+        | yes h ↦ let o : hasAck c i ≡ true = inv .owns i .own-ack (omega arith) h in
+            ack-stay n f L (inv .lines) i c i low h high o (inv .ctls i .acks-ok i o) q
+        | no h ↦ let x : 1 ≤ c .cnt .0 = leb-le 1 (c .cnt .0) e in
+            let y : c .cnt .0 ≡ countTo n (has (c .«acks_from»)) = inv .owns i .ack-count in
+            let r : Found n (has (c .«acks_from»)) = count-some n (has (c .«acks_from»)) (omega arith) in
+            let t : HeldAck n f L i (ackOf c (r .at)) (r .at) = inv .ctls i .acks-ok (r .at) (r .holds) in
+            ack-stay n f L (inv .lines) i c (r .at) (r .low) (t .backup (omega arith)) (r .high) (r .holds) t q
+      ]
+
+  -- it waits
+  abbrev h₁ : Outgoing
+  h₁ = record { to = bitOr ((L i) .help .to) (recipients n f Help i); votes = empty }
+
+  beyond : ltb 0 (c .cnt .0) ≡ false → f < i
+  beyond e = elim (decLe i f) [
+    | yes h ↦ let z : c .cnt .0 ≡ 0 = not-above (c .cnt .0) e in
+        let y : c .cnt .0 ≡ countTo n (has (c .«acks_from»)) = inv .owns i .ack-count in
+        absurd (omega (arith, count-one n (has (c .«acks_from»)) i low high (inv .owns i .own-ack (omega arith) h)))
+    | no h ↦ omega arith
+  ]
+
+  unheard : hasHelped (await (frozen n c)) i ≡ false
+  unfolding await frozen freeze advance
+  unheard = rw (inv .owns i .early (omega arith)) (has-none i)
+
+  at3 : 3 ≤ phase (await (frozen n c))
+  unfolding await frozen freeze advance
+  at3 = omega arith
+
+  at3′ : 3 ≤ phase (frozen n c)
+  unfolding frozen freeze advance
+  at3′ = omega arith
+
+  wait-fits : ltb 0 (c .cnt .0) ≡ false → Fits n f b i (callsHelp n f i c)
+  unfolding callsHelp sentAfter
+  wait-fits e = record {
+    grown = grown h₁;
+    sent-ok = sent-ok h₁;
+    own-ok = own-help-kept n f small i (await (frozen n c)) (l′ h₁) i s low high at3 unheard (own-waiting n f i (frozen n c) (l′ h₁) (beyond e) at3′ (own-frozen h₁));
+    ctl-ok = subst (λ (x : VoteSet). CtlOk n f (L′ h₁) (b .world .decision) i (keepHelped (await (frozen n c)) i x)) (sym same)
+        (ctl-help-kept n f small (L′ h₁) (b .world .decision) i (await (frozen n c)) i low high (rw (upd-same L i (l′ h₁)) s-own) (beyond e) (rw (upd-same L i (l′ h₁)) (sheet-mono L (L′ h₁) (grows h₁) s s-ok)) (ctl-waiting n f (L′ h₁) (b .world .decision) i (frozen n c) (ctl-frozen h₁)));
+    move-ok = λ p. absurd (false≢true p);
+    stay-ok = λ p. absurd (false≢true p);
+  }
+    where
+      same : s ≡ helpOn (L′ h₁ i)
+      same = sym (ap (λ (x : Sent). helpOn x) (upd-same L i (l′ h₁)))
+
+  pub second-fits : Fits n f b i (secondTimeout n f i c)
+  unfolding secondTimeout
+  second-fits = by-cond (Fits n f b i) (decides n f i c) _ _ direct-fits
+      (λ d. by-cond (Fits n f b i) (ltb 0 (c .cnt .0)) _ _ put-fits
+      (λ e. settle-fits n f f<n b inv i (callsHelp n f i c) (wait-fits e)))

@@ -1,0 +1,193 @@
+//! The bench: the events put to it, their questions in sequence, and the run over a schedule.
+
+pub mod lock;
+
+use crate::controller::Controller;
+use crate::group::Group;
+use crate::questions::{
+    answer, ask, controller_in_range, group_in_range, order_in_range, position_in_range,
+    route_in_range,
+};
+use crate::records::event::Event;
+use crate::records::message::MessageKind;
+use crate::vote_set::Verdict;
+use lock::Lock;
+
+/// "a new bench, without lock, order, telegrams, words or cards"
+#[derive(Clone, PartialEq, Eq, Debug, Default)]
+pub struct Bench {
+    lock: Option<Lock>,
+}
+
+/// "The records follow one another with nothing between them." Each gets its answer.
+pub fn run(schedule: &[u8]) -> (Vec<u8>, Bench) {
+    let mut bench = Bench::default();
+    let records = schedule.chunks(Event::LENGTH);
+    let answers = records.map(|record| bench.step_record(record)).collect();
+    (answers, bench)
+}
+
+impl Bench {
+    pub fn lock(&self) -> Option<&Lock> {
+        self.lock.as_ref()
+    }
+
+    /// "a record that reading refuses leaves the bench as it is"
+    pub fn step_record(&mut self, record: &[u8]) -> u8 {
+        match Event::read(record) {
+            Ok(event) => self.step(&event),
+            Err(number) => number,
+        }
+    }
+
+    /// Answers 0, or the question refused: "a refused event leaves the bench untouched".
+    pub fn step(&mut self, event: &Event) -> u8 {
+        answer(match *event {
+            Event::Lock { group } => self.set_up(group),
+            Event::Order { number } => self.order(number),
+            Event::Vote {
+                id,
+                willing,
+                target,
+            } => self.vote(id, willing, target),
+            Event::Deliver { from, to, kind } => self.deliver(from, to, kind),
+            Event::Timeout { id } => self.timeout(id),
+            Event::Decision { id, verdict } => self.decide(id, verdict),
+            Event::Stop { id } => self.stop(id),
+            Event::Save { id } => self.save(id),
+            Event::Restore { id } => self.restore(id),
+        })
+    }
+
+    /// "After the lock event every controller is running at stage 0, without outcome or card."
+    fn set_up(&mut self, group: Group) -> Result<(), u8> {
+        group_in_range(group)?;
+        // 6. "Is no lock set up yet?"
+        ask(6, self.lock.is_none())?;
+        self.lock = Some(Lock::new(group));
+        Ok(())
+    }
+
+    fn order(&mut self, number: u32) -> Result<(), u8> {
+        let lock = self.locked()?;
+        order_in_range(number)?;
+        // 12. "Is the order number above the last one?"
+        ask(12, number > lock.last_order())?;
+        // 13. "Has every running controller an outcome, or has no order been opened yet?"
+        let ended = |c: &Controller| !c.is_running() || c.outcome().is_some();
+        ask(
+            13,
+            !lock.is_order_open() || lock.controllers().iter().all(ended),
+        )?;
+        lock.open(number);
+        Ok(())
+    }
+
+    fn vote(&mut self, id: u8, willing: bool, target: i32) -> Result<(), u8> {
+        let lock = self.locked()?;
+        controller_in_range(lock.group(), id)?;
+        position_in_range(target)?;
+        ask_order_open(lock)?;
+        let controller = lock.controller_mut(id);
+        ask_running(controller)?;
+        ask(16, controller.phase() == Some(0))?;
+        let answer = controller.vote(willing, target);
+        lock.note(id, answer);
+        Ok(())
+    }
+
+    fn deliver(&mut self, from: u8, to: u8, kind: MessageKind) -> Result<(), u8> {
+        let lock = self.locked()?;
+        route_in_range(lock.group(), from, to)?;
+        ask(10, lock.group().permits(kind, from, to))?;
+        ask_order_open(lock)?;
+        ask_running(lock.controller(to))?;
+        // 17. "Was that telegram sent in this order? It may be delivered any number of times."
+        let message = lock.message(kind, from, to).ok_or(17)?;
+        let answer = lock.controller_mut(to).receive(&message);
+        lock.note(to, answer);
+        Ok(())
+    }
+
+    fn timeout(&mut self, id: u8) -> Result<(), u8> {
+        let lock = self.locked()?;
+        controller_in_range(lock.group(), id)?;
+        ask_order_open(lock)?;
+        let controller = lock.controller_mut(id);
+        ask_running(controller)?;
+        ask(16, matches!(controller.phase(), Some(1 | 2)))?;
+        let answer = controller.timeout();
+        lock.note(id, answer);
+        Ok(())
+    }
+
+    fn decide(&mut self, id: u8, verdict: Verdict) -> Result<(), u8> {
+        let lock = self.locked()?;
+        controller_in_range(lock.group(), id)?;
+        ask_order_open(lock)?;
+        let controller = lock.controller(id);
+        ask_not_stopped(controller)?;
+        // 16. "arbiter 3, if running"
+        ask(16, controller.phase().is_none_or(|phase| phase == 3))?;
+        // 18. "Was the word put in this order, and no other given?"
+        let no_other_given = lock.decision().is_none_or(|given| given == verdict);
+        ask(18, lock.is_proposed(verdict) && no_other_given)?;
+        lock.give(verdict);
+        let answer = lock.controller_mut(id).decide(verdict);
+        lock.note(id, answer);
+        Ok(())
+    }
+
+    fn stop(&mut self, id: u8) -> Result<(), u8> {
+        let lock = self.locked()?;
+        controller_in_range(lock.group(), id)?;
+        ask_order_open(lock)?;
+        let controller = lock.controller_mut(id);
+        ask_not_stopped(controller)?;
+        controller.stop();
+        Ok(())
+    }
+
+    /// "Save makes the card; the bench keeps the newest per controller."
+    fn save(&mut self, id: u8) -> Result<(), u8> {
+        let lock = self.locked()?;
+        controller_in_range(lock.group(), id)?;
+        ask_order_open(lock)?;
+        let controller = lock.controller(id);
+        ask_not_stopped(controller)?;
+        let checkpoint = controller.save();
+        lock.keep_checkpoint(id, checkpoint);
+        Ok(())
+    }
+
+    fn restore(&mut self, id: u8) -> Result<(), u8> {
+        let lock = self.locked()?;
+        controller_in_range(lock.group(), id)?;
+        ask_order_open(lock)?;
+        ask(15, lock.controller(id).is_stopped())?;
+        // 19. "Has the controller a card?"
+        let checkpoint = lock.checkpoint(id).ok_or(19)?;
+        lock.controller_mut(id).restore(&checkpoint);
+        Ok(())
+    }
+
+    /// 5. "Is a lock set up? (every event but lock)"
+    fn locked(&mut self) -> Result<&mut Lock, u8> {
+        self.lock.as_mut().ok_or(5)
+    }
+}
+
+/// 14. "Is an order open? (kinds 2 to 8)"
+fn ask_order_open(lock: &Lock) -> Result<(), u8> {
+    ask(14, lock.is_order_open())
+}
+
+/// 15. "Vote, bell, receiver of a delivery: running."
+fn ask_running(controller: &Controller) -> Result<(), u8> {
+    ask(15, controller.is_running())
+}
+
+/// 15. "Arbiter, stop, save: running or standing by."
+fn ask_not_stopped(controller: &Controller) -> Result<(), u8> {
+    ask(15, !controller.is_stopped())
+}

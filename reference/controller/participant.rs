@@ -1,0 +1,243 @@
+//! A running controller within one order: document 01, "A controller's rules".
+
+use super::Answer;
+use crate::group::{Group, MAX_CONTROLLERS};
+use crate::members::Members;
+use crate::records::message::MessageKind;
+use crate::vote_set::{Verdict, VoteSet};
+
+#[derive(Clone, PartialEq, Eq, Debug)]
+pub struct Participant {
+    group: Group,
+    id: u8,
+    /// The "stage": 0 before the own vote, 1 before the first timeout, 2 before the second, 3 after it.
+    phase: u8,
+    outcome: Option<Verdict>,
+    target: i32,
+    /// The own votes, frozen when phase 1 ends.
+    votes: VoteSet,
+    /// The acknowledgements held, by sender.
+    acks: [Option<VoteSet>; MAX_CONTROLLERS as usize],
+    /// The "help sheet", set and frozen at the second timeout.
+    help_votes: VoteSet,
+    /// Whether neither an outcome nor a proposal was reached since the second timeout.
+    waiting: bool,
+    /// Whose help answers are counted, and their join.
+    helped_by: Members,
+    helped_votes: VoteSet,
+    /// The callers that got their help answer.
+    answered: Members,
+}
+
+impl Participant {
+    pub fn new(group: Group, id: u8) -> Participant {
+        Participant {
+            group,
+            id,
+            phase: 0,
+            outcome: None,
+            target: 0,
+            votes: VoteSet::EMPTY,
+            acks: [None; MAX_CONTROLLERS as usize],
+            help_votes: VoteSet::EMPTY,
+            waiting: false,
+            helped_by: Members::NONE,
+            helped_votes: VoteSet::EMPTY,
+            answered: Members::NONE,
+        }
+    }
+
+    pub fn phase(&self) -> u8 {
+        self.phase
+    }
+
+    pub fn outcome(&self) -> Option<Verdict> {
+        self.outcome
+    }
+
+    pub fn target(&self) -> i32 {
+        self.target
+    }
+
+    pub fn is_waiting(&self) -> bool {
+        self.waiting
+    }
+
+    /// "Vote (stage 0): takes willing or not, and a target position."
+    pub fn vote(&mut self, willing: bool, target: i32) -> Answer {
+        if self.phase != 0 {
+            return Answer::passed_over();
+        }
+        let vote = VoteSet::single(self.id, willing);
+        self.target = target;
+        // "Its own vote goes on its sheet."
+        self.votes = self.votes.join(vote);
+        // "Controllers 1 to f + 1 go to stage 1, others to stage 2."
+        self.phase = if self.group.has_two_timeouts(self.id) {
+            1
+        } else {
+            2
+        };
+        self.send(MessageKind::Vote, vote)
+    }
+
+    pub fn timeout(&mut self) -> Answer {
+        match self.phase {
+            1 => self.first_timeout(),
+            2 => self.second_timeout(),
+            _ => Answer::passed_over(),
+        }
+    }
+
+    /// "Bell at stage 1 (the first bell): the sheet is frozen as the acknowledgement."
+    fn first_timeout(&mut self) -> Answer {
+        self.phase = 2;
+        // "A holder [...] counts its own as received. Controller f + 1 [...] does not count its own."
+        if self.group.is_backup(self.id) {
+            self.keep_ack(self.id, self.votes);
+        }
+        self.send(MessageKind::Ack, self.votes)
+    }
+
+    /// "Bell at stage 2 (the second bell; f + 2 to n have just this one): to stage 3."
+    fn second_timeout(&mut self) -> Answer {
+        self.phase = 3;
+        let held = self.joined_acks();
+        // "The help sheet is the join of own sheet and acknowledgements held, then frozen."
+        self.help_votes = self.votes.join(held);
+        let verdict = held.verdict(self.group.everyone());
+        if self.acks_suffice() {
+            // "the outcome is the word of their join."
+            self.outcome = Some(verdict);
+            Answer::taken()
+        } else if self.cnt() >= 1 {
+            // "Otherwise, if at least one is held, it puts the word of their join to the arbiter."
+            Answer::taken().proposing(Some(verdict))
+        } else {
+            // "Otherwise it waits, sends help calls to all others of f + 1 to n, and counts its own help sheet as an
+            // answer."
+            self.waiting = true;
+            self.count_help_answer(self.id, self.help_votes);
+            let answer = self.send(MessageKind::Help, VoteSet::EMPTY);
+            answer.proposing(self.proposal_when_enough())
+        }
+    }
+
+    /// "If acknowledgements from all of 1 to f are held and full and, for a holder, the one of f + 1 is held and knows
+    /// all of 1 to f".
+    fn acks_suffice(&self) -> bool {
+        let everyone = self.group.everyone();
+        let backups = self.group.backups();
+        let complete = |id| self.ack_of(id).is_some_and(|ack| ack.is_complete(everyone));
+        let knows_backups = |ack: VoteSet| ack.known.includes(backups);
+        let second_suffices = self
+            .ack_of(self.group.second_backup())
+            .is_some_and(knows_backups);
+        backups.iter().all(complete) && (!self.group.is_backup(self.id) || second_suffices)
+    }
+
+    /// A message that may come from that sender to this controller.
+    pub fn receive(&mut self, kind: MessageKind, from: u8, votes: VoteSet) -> Answer {
+        match kind {
+            MessageKind::Vote => self.receive_vote(votes),
+            MessageKind::Ack => self.receive_ack(from, votes),
+            MessageKind::Help => self.receive_help(from),
+            MessageKind::Helped => self.receive_helped(from, votes),
+        }
+    }
+
+    /// "Vote arrives: at stage 0 or 1 it goes on the sheet; later it is passed over."
+    fn receive_vote(&mut self, vote: VoteSet) -> Answer {
+        if self.phase > 1 {
+            return Answer::passed_over();
+        }
+        self.votes = self.votes.join(vote);
+        Answer::taken()
+    }
+
+    /// "Acknowledgement arrives: kept, one per sender." "After a word or an outcome, more of either is passed over."
+    fn receive_ack(&mut self, from: u8, votes: VoteSet) -> Answer {
+        let open = self.phase < 3 || self.waiting;
+        if !open || self.ack_of(from).is_some() {
+            return Answer::passed_over();
+        }
+        self.keep_ack(from, votes);
+        Answer::taken().proposing(self.proposal_when_enough())
+    }
+
+    /// "Help call arrives: at stage 3 the help sheet is sent back, once per caller. Before stage 3 it is passed over."
+    fn receive_help(&mut self, caller: u8) -> Answer {
+        if self.phase < 3 || self.answered.contains(caller) {
+            return Answer::passed_over();
+        }
+        let receiver = Members::only(caller);
+        self.answered = self.answered.union(receiver);
+        Answer::taken().sending(MessageKind::Helped, receiver, self.help_votes)
+    }
+
+    fn receive_helped(&mut self, from: u8, votes: VoteSet) -> Answer {
+        if !self.waiting || self.helped_by.contains(from) {
+            return Answer::passed_over();
+        }
+        self.count_help_answer(from, votes);
+        Answer::taken().proposing(self.proposal_when_enough())
+    }
+
+    /// "Arbiter's word: becomes the outcome if there is none."
+    pub fn decide(&mut self, verdict: Verdict) -> Answer {
+        if self.phase != 3 {
+            return Answer::passed_over();
+        }
+        self.outcome.get_or_insert(verdict);
+        self.waiting = false;
+        Answer::taken()
+    }
+
+    /// "When the two counts add up to n − f or more (tested at the bell too), it puts a word: of the join of
+    /// acknowledgements if it holds any, else of the join of help answers."
+    fn proposal_when_enough(&mut self) -> Option<Verdict> {
+        let needed = u32::from(self.group.n - self.group.f);
+        if !self.waiting || self.cnt() + self.cnt_help() < needed {
+            return None;
+        }
+        self.waiting = false;
+        let joined = if self.cnt() >= 1 {
+            self.joined_acks()
+        } else {
+            self.helped_votes
+        };
+        Some(joined.verdict(self.group.everyone()))
+    }
+
+    /// "Acknowledgements and help answers are counted apart, one per sender."
+    fn cnt(&self) -> u32 {
+        self.acks.iter().flatten().count() as u32
+    }
+
+    fn cnt_help(&self) -> u32 {
+        self.helped_by.count()
+    }
+
+    fn ack_of(&self, id: u8) -> Option<VoteSet> {
+        self.acks[usize::from(id) - 1]
+    }
+
+    fn keep_ack(&mut self, from: u8, votes: VoteSet) {
+        self.acks[usize::from(from) - 1] = Some(votes);
+    }
+
+    fn joined_acks(&self) -> VoteSet {
+        let held = self.acks.iter().flatten();
+        held.fold(VoteSet::EMPTY, |joined, &ack| joined.join(ack))
+    }
+
+    fn count_help_answer(&mut self, from: u8, votes: VoteSet) {
+        self.helped_by = self.helped_by.union(Members::only(from));
+        self.helped_votes = self.helped_votes.join(votes);
+    }
+
+    fn send(&self, kind: MessageKind, votes: VoteSet) -> Answer {
+        let receivers = self.group.receivers(kind, self.id);
+        Answer::taken().sending(kind, receivers, votes)
+    }
+}

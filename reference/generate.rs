@@ -1,0 +1,18 @@
+//! Seeded input for the programs: record frames, controller commands and bench schedules.
+
+pub mod choices;
+pub mod commands;
+pub mod frames;
+pub mod orders;
+pub mod player;
+pub mod schedules;
+
+use std::io;
+
+/// The two numbers that every generating program takes: how many, and the seed.
+pub fn numbers_from_arguments() -> io::Result<[u64; 2]> {
+    let arguments: Vec<String> = std::env::args().skip(1).collect();
+    let numbers: Option<Vec<u64>> = arguments.iter().map(|text| text.parse().ok()).collect();
+    let pair = numbers.and_then(|numbers| numbers.try_into().ok());
+    pair.ok_or_else(|| io::Error::other("two numbers are wanted: how many, and the seed"))
+}

@@ -1,0 +1,16 @@
+//! Reference implementation of the order engine of document 01.
+
+pub mod bench;
+pub mod clean;
+pub mod command;
+pub mod controller;
+pub mod frame;
+pub mod generate;
+pub mod group;
+pub mod members;
+pub mod questions;
+pub mod records;
+pub mod rng;
+pub mod tally;
+pub mod text;
+pub mod vote_set;

@@ -1,0 +1,110 @@
+//! Compares a bench program with the reference: compare SCHEDULES COMMAND...
+//! SCHEDULES is a file of schedules, each after its length in four bytes; COMMAND runs the program under test.
+
+use reference::tally::Tally;
+use reference::text::bench_report;
+use std::io::{self, Write};
+use std::process::{Command, ExitCode, Stdio};
+use std::{env, fs, thread};
+
+fn main() -> ExitCode {
+    match compare() {
+        Ok(()) => ExitCode::SUCCESS,
+        Err(error) => {
+            eprintln!("compare: {error}");
+            ExitCode::FAILURE
+        }
+    }
+}
+
+fn compare() -> io::Result<()> {
+    let arguments: Vec<String> = env::args().skip(1).collect();
+    let [path, command @ ..] = &arguments[..] else {
+        return Err(io::Error::other("usage: compare SCHEDULES COMMAND..."));
+    };
+    let file = fs::read(path)?;
+    let mut tally = Tally::default();
+    let mut count = 0;
+    for schedule in split(&file)? {
+        compare_one(schedule, command)
+            .map_err(|error| io::Error::other(format!("schedule {count}: {error}")))?;
+        tally.add(schedule);
+        count += 1;
+    }
+    println!("{count} schedules, no difference");
+    let rows = tally.rows();
+    for (name, met) in &rows {
+        println!("{met:>9} {name}");
+    }
+    let unmet: Vec<&str> = rows
+        .iter()
+        .filter(|(_, met)| *met == 0)
+        .map(|(name, _)| name.as_str())
+        .collect();
+    if unmet.is_empty() {
+        Ok(())
+    } else {
+        Err(io::Error::other(format!("never met: {}", unmet.join(", "))))
+    }
+}
+
+/// The schedules of a file.
+fn split(file: &[u8]) -> io::Result<Vec<&[u8]>> {
+    let mut schedules = Vec::new();
+    let mut rest = file;
+    while !rest.is_empty() {
+        let cut = || io::Error::other("the file ends within a schedule");
+        let (length, after) = rest.split_first_chunk::<4>().ok_or_else(cut)?;
+        let length = u32::from_be_bytes(*length) as usize;
+        let (schedule, after) = after.split_at_checked(length).ok_or_else(cut)?;
+        schedules.push(schedule);
+        rest = after;
+    }
+    Ok(schedules)
+}
+
+fn compare_one(schedule: &[u8], command: &[String]) -> io::Result<()> {
+    let expected = bench_report(schedule);
+    let printed = run(command, schedule)?;
+    if printed == expected.as_bytes() {
+        return Ok(());
+    }
+    let printed = String::from_utf8_lossy(&printed);
+    let lines = expected.split('\n').zip(printed.split('\n'));
+    let same = lines.take_while(|(a, b)| a == b).count();
+    let line = |text: &str| match text.split('\n').nth(same) {
+        Some(line) => format!("{line:?}"),
+        None => "nothing".to_string(),
+    };
+    Err(io::Error::other(format!(
+        "line {}: expected {}, printed {}",
+        same + 1,
+        line(&expected),
+        line(&printed)
+    )))
+}
+
+/// What the program prints for the schedule on its standard input.
+fn run(command: &[String], schedule: &[u8]) -> io::Result<Vec<u8>> {
+    let [program, arguments @ ..] = command else {
+        return Err(io::Error::other("no program to compare with"));
+    };
+    let mut child = Command::new(program)
+        .args(arguments)
+        .stdin(Stdio::piped())
+        .stdout(Stdio::piped())
+        .spawn()?;
+    let mut input = child.stdin.take().expect("a pipe");
+    let output = thread::scope(|scope| {
+        // A program may stop reading early; what it prints is compared all the same.
+        scope.spawn(move || input.write_all(schedule).ok());
+        child.wait_with_output()
+    })?;
+    if !output.status.success() {
+        return Err(io::Error::other(format!(
+            "the program ended with {}",
+            output.status
+        )));
+    }
+    Ok(output.stdout)
+}

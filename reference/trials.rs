@@ -1,0 +1,16 @@
+//! Document 01's trials, the readings of its open places and the claims it makes, tried on the reference.
+
+#[path = "trials/claims.rs"]
+mod claims;
+#[path = "trials/controller.rs"]
+mod controller;
+#[path = "trials/listed.rs"]
+mod listed;
+#[path = "trials/questions.rs"]
+mod questions;
+#[path = "trials/readings.rs"]
+mod readings;
+#[path = "trials/records.rs"]
+mod records;
+#[path = "trials/support.rs"]
+mod support;

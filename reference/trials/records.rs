@@ -1,0 +1,195 @@
+//! Records read and written.
+
+use reference::group::Group;
+use reference::members::Members;
+use reference::records::checkpoint::Checkpoint;
+use reference::records::event::Event;
+use reference::records::message::{Message, MessageKind};
+use reference::vote_set::{Verdict, VoteSet};
+
+/// An acknowledgement of 1 to 3, in a group of 5 with 2 backups.
+const ACK_BYTES: [u8; 16] = [
+    0x4C, 0x4B, 2, 5, 2, 1, 3, 0, 0, 0, 1, 2, 0, 0b10011, 0, 0b10001,
+];
+const CARD_BYTES: [u8; 14] = [
+    0x4C, 0x53, 4, 5, 2, 1, 255, 255, 255, 255, 255, 255, 0xB1, 0xE0,
+];
+
+fn ack() -> Message {
+    Message {
+        kind: MessageKind::Ack,
+        group: Group { n: 5, f: 2 },
+        from: 1,
+        to: 3,
+        order: 258,
+        votes: VoteSet {
+            known: Members(0b10011),
+            willing: Members(0b10001),
+        },
+    }
+}
+
+fn card() -> Checkpoint {
+    Checkpoint {
+        id: 4,
+        group: Group { n: 5, f: 2 },
+        outcome: Some(Verdict::Stay),
+        order: u32::MAX,
+        position: -20_000,
+    }
+}
+
+/// The answer to the bytes with some of them changed.
+fn message_refusal(changes: &[(usize, u8)]) -> u8 {
+    let mut bytes = ACK_BYTES;
+    for &(at, byte) in changes {
+        bytes[at] = byte;
+    }
+    Message::read(&bytes).err().unwrap_or(0)
+}
+
+fn card_refusal(changes: &[(usize, u8)]) -> u8 {
+    let mut bytes = CARD_BYTES;
+    for &(at, byte) in changes {
+        bytes[at] = byte;
+    }
+    Checkpoint::read(&bytes).err().unwrap_or(0)
+}
+
+#[test]
+fn forms() {
+    assert_eq!(Message::read(&ACK_BYTES), Ok(ack()));
+    assert_eq!(Checkpoint::read(&CARD_BYTES), Ok(card()));
+    let mut buffer = [0xA5; 16];
+    assert_eq!(ack().write(&mut buffer), 0);
+    assert_eq!(buffer, ACK_BYTES);
+    assert_eq!(card().write(&mut buffer[..14]), 0);
+    assert_eq!(buffer[..14], CARD_BYTES);
+}
+
+#[test]
+fn messages_refused() {
+    assert_eq!(Message::read(&ACK_BYTES[..15]), Err(1));
+    assert_eq!(Message::read(&[]), Err(1));
+    // 2 before 3 before 4 before 7 before 8 before 9 before 10.
+    let order_0 = [(10, 0), (11, 0)];
+    assert_eq!(message_refusal(&[(1, 0x53), (2, 0)]), 2);
+    assert_eq!(message_refusal(&[(2, 5), (3, 17)]), 3);
+    assert_eq!(message_refusal(&[(7, 1), (3, 17)]), 3);
+    assert_eq!(message_refusal(&[(3, 17), (5, 0)]), 4);
+    assert_eq!(message_refusal(&[(4, 5), (5, 0)]), 4);
+    assert_eq!(message_refusal(&[(5, 6), order_0[0], order_0[1]]), 7);
+    assert_eq!(message_refusal(&[(6, 1), order_0[0], order_0[1]]), 7);
+    assert_eq!(message_refusal(&[order_0[0], order_0[1], (13, 0)]), 8);
+    // A bit above n, willing outside known, the sender unknown.
+    assert_eq!(message_refusal(&[(13, 0b110011), (5, 4)]), 9);
+    assert_eq!(message_refusal(&[(15, 0b10101), (5, 4)]), 9);
+    assert_eq!(message_refusal(&[(5, 4)]), 9);
+    assert_eq!(message_refusal(&[(5, 5)]), 10);
+    assert_eq!(message_refusal(&[(5, 2)]), 0);
+}
+
+#[test]
+fn votes_by_kind() {
+    // A vote of 1 knows just 1.
+    let vote = |known| message_refusal(&[(2, 1), (13, known), (15, 0)]);
+    assert_eq!([vote(1), vote(0), vote(2), vote(3)], [0, 9, 9, 9]);
+    // A help call of 4 to 3 knows nobody, its answer at least 4.
+    let help = |kind, known| message_refusal(&[(2, kind), (5, 4), (13, known), (15, 0)]);
+    assert_eq!([help(3, 0), help(3, 8), help(3, 1)], [0, 9, 9]);
+    assert_eq!(
+        [help(4, 8), help(4, 31), help(4, 0), help(4, 7)],
+        [0, 0, 9, 9]
+    );
+}
+
+#[test]
+fn cards_refused() {
+    assert_eq!(Checkpoint::read(&[0; 15]), Err(1));
+    assert_eq!(card_refusal(&[(1, 0x4B), (5, 3)]), 2);
+    assert_eq!(card_refusal(&[(5, 3), (3, 1)]), 3);
+    assert_eq!(card_refusal(&[(3, 1), (2, 0)]), 4);
+    let order_0 = [(6, 0), (7, 0), (8, 0), (9, 0)];
+    assert_eq!(card_refusal(&[&[(2, 6)], &order_0[..]].concat()), 7);
+    assert_eq!(card_refusal(&[&[(12, 0)], &order_0[..]].concat()), 8);
+    // −20,001
+    assert_eq!(card_refusal(&[(13, 0xDF)]), 11);
+}
+
+/// A bit above n is seen in all 32 that a set in memory has.
+#[test]
+fn writes_refused() {
+    let mut buffer = [0xA5; 16];
+    let wide = |known, willing| Message {
+        votes: VoteSet {
+            known: Members(known),
+            willing: Members(willing),
+        },
+        ..ack()
+    };
+    for (message, number) in [
+        (wide(0x1_0011, 0), 9),
+        (wide(0x8000_0001, 0x8000_0001), 9),
+        (wide(1, 0x1_0000), 9),
+        (Message { order: 0, ..ack() }, 8),
+        (
+            Message {
+                from: 5,
+                ..wide(0b10000, 0)
+            },
+            10,
+        ),
+    ] {
+        assert_eq!(message.write(&mut buffer), number);
+    }
+    let far = Checkpoint {
+        position: 20_001,
+        ..card()
+    };
+    assert_eq!(far.write(&mut buffer[..14]), 11);
+    assert_eq!(far.write(&mut buffer[..13]), 1);
+    assert_eq!(Event::Stop { id: 1 }.write(&mut buffer[..9]), 1);
+    assert_eq!(buffer, [0xA5; 16]);
+}
+
+/// Every event of one byte changed: the flags listed, the unused fields 0.
+#[test]
+fn events_refused() {
+    let read = |kind, a, b, c, value| {
+        let event = Event::read(&[0x4C, 0x45, kind, a, b, c, 0, 0, 0, value]);
+        event.err().unwrap_or(0)
+    };
+    // By kind: whether a, b, c and value are used.
+    let used = [
+        [true, true, false, false],
+        [false, false, false, true],
+        [true, true, false, true],
+        [true, true, true, false],
+        [true, false, false, false],
+        [true, true, false, false],
+        [true, false, false, false],
+        [true, false, false, false],
+        [true, false, false, false],
+    ];
+    for (kind, [a, b, c, value]) in (0..).zip(used) {
+        let listed = u8::from(kind == 3);
+        let answer = |is_used| if is_used { 0 } else { 3 };
+        assert_eq!(read(kind, 0, 0, listed, 0), 0);
+        assert_eq!(read(kind, 1, 0, listed, 0), answer(a));
+        assert_eq!(read(kind, 0, 1, listed, 0), answer(b));
+        assert_eq!(read(kind, 0, 0, 1, 0), answer(c));
+        assert_eq!(read(kind, 0, 0, listed, 1), answer(value));
+    }
+    assert_eq!(read(9, 0, 0, 0, 0), 3);
+    assert_eq!([read(2, 1, 2, 0, 0), read(5, 1, 2, 0, 0)], [3, 3]);
+    assert_eq!(
+        [
+            read(3, 1, 2, 0, 0),
+            read(3, 1, 2, 4, 0),
+            read(3, 1, 2, 5, 0)
+        ],
+        [3, 0, 3]
+    );
+    assert_eq!(Event::read(&[0x4C, 0x4B, 99, 0, 0, 0, 0, 0, 0, 0]), Err(2));
+    assert_eq!(Event::read(&[0x4C, 0x45, 4, 1, 0, 0, 0, 0, 0]), Err(1));
+}
