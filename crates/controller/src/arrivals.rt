@@ -1,7 +1,7 @@
 // What arrives: votes, acknowledgements, help calls and help answers.
-use crate::answers::passed;
-use crate::answers::quiet;
-use crate::waiting::settle;
+use answers::passed;
+use answers::quiet;
+use answers::settle;
 use model::Kind;
 use model::Outcome;
 use protocol::Answer;

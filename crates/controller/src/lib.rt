@@ -1,23 +1,20 @@
 // A controller as a step machine: a call goes in by value, an answer with the next controller comes out.
-mod answers;
 mod arrivals;
 mod calls;
-mod timeouts;
+mod lifecycle;
 mod voting;
-mod waiting;
 
-pub use answers::passed;
-pub use calls::decide;
 pub use calls::receive;
-pub use calls::renew;
-pub use calls::restore;
-pub use calls::save;
-pub use calls::stop;
-pub use calls::timeout;
 pub use calls::vote;
+pub use lifecycle::decide;
+pub use lifecycle::renew;
+pub use lifecycle::restore;
+pub use lifecycle::save;
+pub use lifecycle::stop;
 pub use state::fresh;
 pub use state::outcome;
 pub use state::phase;
 pub use state::runs;
 pub use state::stands_by;
 pub use state::stopped;
+pub use timeouts::timeout;

@@ -1,5 +1,5 @@
 // What an event does to the one controller that it concerns.
-mod answers;
+mod calls;
 mod posts;
 mod stations;
 mod turns;

@@ -1,5 +1,5 @@
 // A station after its controller's event.
-use crate::answers::member_of;
+use crate::calls::member_of;
 use crate::posts::sent_after;
 use controller::save;
 use model::Event;

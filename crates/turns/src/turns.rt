@@ -1,6 +1,6 @@
 // A controller's turn: what its event leaves.
 use crate::Turn;
-use crate::answers::answer_to;
+use crate::calls::answer_to;
 use crate::stations::station_to;
 use model::Event;
 use model::Outcome;

@@ -4,55 +4,42 @@ use borrow.Author.Needs.{needs}
 use Rattle.controller.proofs.calls.receive.Statement.{statement}
 use Rattle.controller.proofs.calls.receive.Tie as tie
 
-is-member-requires : tie.Need-is-member-requires
-is-member-requires c κs = search needs
+takes-part-requires : tie.Need-takes-part-requires
+takes-part-requires c κs = search needs
 
 passed-requires : tie.Need-passed-requires
 passed-requires c κs = search needs
 
 returns : tie.Need-returns
 unfolding receive
-returns c = simp (← c .before .before .is-member .ensures, not-true (c .before .before .is-member .result) (c .before .if1 .taken), c .passed .ensures)
+returns c = simp (← c .before .before .takes-part .ensures, not-true (c .before .before .takes-part .result) (c .before .if1 .taken), c .passed .ensures)
 
-runs-requires : tie.Need-runs-requires
-runs-requires c κs = search needs
+addressed-requires : tie.Need-addressed-requires
+addressed-requires c κs = search needs
 
 passed-requires-2 : tie.Need-passed-requires-2
 passed-requires-2 c κs = search needs
 
 returns-2 : tie.Need-returns-2
 unfolding receive
-returns-2 c = simp (← c .before .before .before .before .is-member .ensures, not-false (c .before .before .before .before .is-member .result) (c .before .before .before .if1 .left), ← c .before .before .runs .ensures, not-true (c .before .before .runs .result) (c .before .if2 .taken), c .passed2 .ensures)
-
-addressed-requires : tie.Need-addressed-requires
-addressed-requires c κs = search needs
-
-passed-requires-3 : tie.Need-passed-requires-3
-passed-requires-3 c κs = search needs
-
-returns-3 : tie.Need-returns-3
-unfolding receive
-returns-3 c = simp (← c .before .before .before .before .before .before .is-member .ensures, not-false (c .before .before .before .before .before .before .is-member .result) (c .before .before .before .before .before .if1 .left), ← c .before .before .before .before .runs .ensures, not-false (c .before .before .before .before .runs .result) (c .before .before .before .if2 .left), ← c .before .before .addressed .ensures, not-true (c .before .before .addressed .result) (c .before .if3 .taken), c .passed3 .ensures)
+returns-2 c = simp (← c .before .before .before .before .takes-part .ensures, not-false (c .before .before .before .before .takes-part .result) (c .before .before .before .if1 .left), ← c .before .before .addressed .ensures, not-true (c .before .before .addressed .result) (c .before .if2 .taken), c .passed2 .ensures)
 
 arrives-requires : tie.Need-arrives-requires
 arrives-requires c κs = search needs
 
-returns-4 : tie.Need-returns-4
+returns-3 : tie.Need-returns-3
 unfolding receive
-returns-4 c = simp (← c .before .before .before .before .before .before .before .is-member .ensures, not-false (c .before .before .before .before .before .before .before .is-member .result) (c .before .before .before .before .before .before .if1 .left), ← c .before .before .before .before .before .runs .ensures, not-false (c .before .before .before .before .before .runs .result) (c .before .before .before .before .if2 .left), ← c .before .before .before .addressed .ensures, not-false (c .before .before .before .addressed .result) (c .before .before .if3 .left), c .arrives .ensures)
+returns-3 c = simp (← c .before .before .before .before .before .takes-part .ensures, not-false (c .before .before .before .before .before .takes-part .result) (c .before .before .before .before .if1 .left), ← c .before .before .before .addressed .ensures, not-false (c .before .before .before .addressed .result) (c .before .before .if2 .left), c .arrives .ensures)
 
 pub receive-spec : {M : Type 1} → statement M
 receive-spec =
     tie.close
     (tie.spec
-    is-member-requires
+    takes-part-requires
     passed-requires
     returns
-    runs-requires
+    addressed-requires
     passed-requires-2
     returns-2
-    addressed-requires
-    passed-requires-3
-    returns-3
     arrives-requires
-    returns-4)
+    returns-3)

@@ -4,55 +4,42 @@ use borrow.Author.Needs.{needs}
 use Rattle.controller.proofs.calls.vote.Statement.{statement}
 use Rattle.controller.proofs.calls.vote.Tie as tie
 
-is-member-requires : tie.Need-is-member-requires
-is-member-requires c κs = search needs
+takes-part-requires : tie.Need-takes-part-requires
+takes-part-requires c κs = search needs
 
 passed-requires : tie.Need-passed-requires
 passed-requires c κs = search needs
 
 returns : tie.Need-returns
 unfolding vote
-returns c = simp (← c .before .before .is-member .ensures, not-true (c .before .before .is-member .result) (c .before .if1 .taken), c .passed .ensures)
+returns c = simp (← c .before .before .takes-part .ensures, not-true (c .before .before .takes-part .result) (c .before .if1 .taken), c .passed .ensures)
 
-runs-requires : tie.Need-runs-requires
-runs-requires c κs = search needs
+phase-requires : tie.Need-phase-requires
+phase-requires c κs = search needs
 
 passed-requires-2 : tie.Need-passed-requires-2
 passed-requires-2 c κs = search needs
 
 returns-2 : tie.Need-returns-2
 unfolding vote
-returns-2 c = simp (← c .before .before .before .before .is-member .ensures, not-false (c .before .before .before .before .is-member .result) (c .before .before .before .if1 .left), ← c .before .before .runs .ensures, not-true (c .before .before .runs .result) (c .before .if2 .taken), c .passed2 .ensures)
-
-phase-requires : tie.Need-phase-requires
-phase-requires c κs = search needs
-
-passed-requires-3 : tie.Need-passed-requires-3
-passed-requires-3 c κs = search needs
-
-returns-3 : tie.Need-returns-3
-unfolding vote
-returns-3 c = simp (← c .before .before .before .before .before .before .is-member .ensures, not-false (c .before .before .before .before .before .before .is-member .result) (c .before .before .before .before .before .if1 .left), ← c .before .before .before .before .runs .ensures, not-false (c .before .before .before .before .runs .result) (c .before .before .before .if2 .left), ← c .before .before .phase .ensures, ne-eqb _ _ (c .before .if3 .taken), c .passed3 .ensures)
+returns-2 c = simp (← c .before .before .before .before .takes-part .ensures, not-false (c .before .before .before .before .takes-part .result) (c .before .before .before .if1 .left), ← c .before .before .phase .ensures, ne-eqb _ _ (c .before .if2 .taken), c .passed2 .ensures)
 
 vote-rule-requires : tie.Need-vote-rule-requires
 vote-rule-requires c κs = search needs
 
-returns-4 : tie.Need-returns-4
+returns-3 : tie.Need-returns-3
 unfolding vote
-returns-4 c = simp (← c .before .before .before .before .before .before .is-member .ensures, not-false (c .before .before .before .before .before .before .is-member .result) (c .before .before .before .before .before .if1 .left), ← c .before .before .before .before .runs .ensures, not-false (c .before .before .before .before .runs .result) (c .before .before .before .if2 .left), ← c .before .before .phase .ensures, eq-eqb _ _ (c .before .if3 .left), c .vote-rule .ensures)
+returns-3 c = simp (← c .before .before .before .before .takes-part .ensures, not-false (c .before .before .before .before .takes-part .result) (c .before .before .before .if1 .left), ← c .before .before .phase .ensures, eq-eqb _ _ (c .before .if2 .left), c .vote-rule .ensures)
 
 pub vote-spec : {M : Type 1} → statement M
 vote-spec =
     tie.close
     (tie.spec
-    is-member-requires
+    takes-part-requires
     passed-requires
     returns
-    runs-requires
+    phase-requires
     passed-requires-2
     returns-2
-    phase-requires
-    passed-requires-3
-    returns-3
     vote-rule-requires
-    returns-4)
+    returns-3)

@@ -1,0 +1,29 @@
+use Rattle.protocol.specs.Calls.{stop}
+use borrow.Author.Needs.{needs}
+use Rattle.controller.proofs.lifecycle.stop.Statement.{statement}
+use Rattle.controller.proofs.lifecycle.stop.Tie as tie
+
+is-up-requires : tie.Need-is-up-requires
+is-up-requires c κs = search needs
+
+cleared-requires : tie.Need-cleared-requires
+cleared-requires c κs = search needs
+
+quiet-requires : tie.Need-quiet-requires
+quiet-requires c κs = search needs
+
+returns : tie.Need-returns
+unfolding stop
+returns c = simp (← c .before .before .before .is-up .ensures, c .before .before .if1 .taken, ← c .before .cleared .ensures, c .quiet .ensures)
+
+passed-requires : tie.Need-passed-requires
+passed-requires c κs = search needs
+
+returns-2 : tie.Need-returns-2
+unfolding stop
+returns-2 c = simp (← c .before .before .is-up .ensures, c .before .if1 .left, c .passed .ensures)
+
+pub stop-spec : {M : Type 1} → statement M
+stop-spec =
+    tie.close
+    (tie.spec is-up-requires cleared-requires quiet-requires returns passed-requires returns-2)

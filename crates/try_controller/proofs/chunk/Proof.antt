@@ -1,0 +1,63 @@
+use Prim.Native.Nat.{_≤_, _-_}
+use mathlib.Core.Path.{_≡_}
+use lib.ListN.{length}
+use borrow.Author.Needs.{needs}
+use Rattle.try_controller.proofs.chunk.Statement.{statement}
+use Rattle.try_controller.proofs.chunk.Tie as tie
+
+abbrev Inv-loop : tie.InvT-loop
+Inv-loop s out₀ next₀ at₀ out next at = (at ≤ length s) × (length out ≡ length out₀)
+
+abbrev μ-loop : tie.MeasureT-loop
+μ-loop s out₀ next₀ at₀ out next at = length s - at
+
+loop-holds : tie.Need-loop-holds Inv-loop μ-loop
+loop-holds c = search needs
+
+sub-loop : tie.Need-sub-loop Inv-loop μ-loop
+sub-loop c = search needs
+
+add-end : tie.Need-add-end Inv-loop μ-loop
+add-end c = search needs
+
+sub-command : tie.Need-sub-command Inv-loop μ-loop
+sub-command c = search needs
+
+part-command-start : tie.Need-part-command-start Inv-loop μ-loop
+part-command-start c = search needs
+
+part-command-end : tie.Need-part-command-end Inv-loop μ-loop
+part-command-end c = search needs
+
+command-requires : tie.Need-command-requires Inv-loop μ-loop
+command-requires c κs = search needs
+
+loop-less : tie.Need-loop-less Inv-loop μ-loop
+loop-less c = search needs
+
+loop-again : tie.Need-loop-again Inv-loop μ-loop
+loop-again c = search needs
+
+same-length : tie.Need-same-length Inv-loop μ-loop
+same-length c = search needs
+
+returns : tie.Need-returns Inv-loop μ-loop
+returns c = search needs
+
+pub chunk-spec : {M : Type 1} → statement M
+chunk-spec =
+    tie.close
+    (tie.spec
+    Inv-loop
+    μ-loop
+    loop-holds
+    sub-loop
+    add-end
+    sub-command
+    part-command-start
+    part-command-end
+    command-requires
+    loop-less
+    loop-again
+    same-length
+    returns)
