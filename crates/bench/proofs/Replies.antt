@@ -1,45 +1,17 @@
 -- The number that is printed tells whether an event was accepted.
-use Prim.Native.Nat.{ℕ, zero, suc, _≤_}
+use Prim.Native.Nat.{ℕ, _≤_}
 use mathlib.Core.Path.{_≡_, refl, sym, _∙_}
-use mathlib.Core.Bool.{Bool, true, false, not, _&&_, false≢true}
-use mathlib.Core.List.{List, [], _∷_}
-use native.Mathlib.Omega.{arith}
-use lib.Dec.{eqb, leb, ltb}
-use Rattle.votes.specs.Tests.{inl, inr, split, and-l, and-r, leb-le}
+use mathlib.Core.Bool.{true, false, not, _&&_, false≢true}
+use lib.Dec.{eqb, leb}
+use Rattle.votes.specs.Tests.{and-l, and-r, leb-le}
 use Rattle.model.specs.Ranges.{member}
+use Rattle.model.specs.QuestionLaws.{AllYes, all-yes, numbered, reply-accepted}
 use Rattle.questions.specs.Events.{ofOne, subject}
 use Rattle.model.specs.declared.Event.{Event}
 use Rattle.model.specs.declared.Event.the-variants.{Lock, Order, Cast, Deliver, Timeout, Decide, Stop, Save, Restore}
 use Rattle.protocol.specs.declared.Bench.{Bench}
-use Rattle.protocol.specs.Questions.{Reply, accepted, refused, number, isAccepted, Question, unless, firstNo, questions, reply}
+use Rattle.protocol.specs.Questions.{Reply, accepted, refused, number, isAccepted, questions, reply}
 use Rattle.protocol.specs.Steps.{perform, step}
-
--- each question is answered "yes"
-abbrev pub AllYes : List Question → Type 0
-AllYes [] = Unit
-AllYes (q ∷ qs) = (q .yes ≡ true) × AllYes qs
-
--- no question has the number 0, which means accepted
-abbrev numbered : List Question → Bool
-numbered [] = true
-numbered (q ∷ qs) = ltb 0 (q .number) && numbered qs
-
-not-zero : (q : ℕ) → ltb 0 q ≡ true → q ≡ 0 → ⊥
-not-zero zero t e = let z : _≡_ {A = ℕ} 0 1 = cc in omega arith
-not-zero (suc q) t e = omega arith
-
-all-yes : (qs : List Question) → numbered qs ≡ true → number (firstNo qs) ≡ 0 → AllYes qs
-unfolding firstNo unless
-all-yes [] n e = tt
-all-yes (q ∷ qs) n e = elim (split (q .yes)) [
-  | inl y ↦ (y, all-yes qs (and-r (ltb 0 (q .number)) (numbered qs) n) (rw y at e))
-  | inr y ↦ absurd (not-zero (q .number) (and-l (ltb 0 (q .number)) (numbered qs) n) (rw y at e))
-]
-
-yes-all : (qs : List Question) → AllYes qs → firstNo qs ≡ accepted
-unfolding firstNo unless
-yes-all [] a = refl
-yes-all (q ∷ qs) a = rw (a .0) (yes-all qs (a .1))
 
 all-numbered : (b : Bench) (e : Event) → numbered (questions b e) ≡ true
 all-numbered b (Lock n f) = refl
@@ -54,11 +26,11 @@ all-numbered b (Restore i) = refl
 
 pub zero-yes : (b : Bench) (e : Event) → number (reply b e) ≡ 0 → AllYes (questions b e)
 unfolding reply
-zero-yes b e z = all-yes (questions b e) (all-numbered b e) z
+zero-yes b e z = all-yes (questions b e) (reply-accepted (questions b e) (number (reply b e)) (all-numbered b e) refl z)
 
 pub step-zero : (b : Bench) (e : Event) → number (reply b e) ≡ 0 → step b e ≡ perform b e
 unfolding step reply
-step-zero b e z = rw (yes-all (questions b e) (zero-yes b e z))
+step-zero b e z = rw (reply-accepted (questions b e) (number (reply b e)) (all-numbered b e) refl z)
 
 not-accepted : (r : Reply) → (number r ≡ 0 → ⊥) → isAccepted r ≡ false
 not-accepted accepted n = absurd (n refl)

@@ -1,7 +1,6 @@
 // A controller's answer to its event.
 use answers::passed;
 use controller::decide;
-
 use controller::receive;
 use controller::restore;
 use controller::stop;
