@@ -15,12 +15,13 @@ use Rattle.model.specs.declared.Event.the-variants.{Lock, Order, Cast, Deliver,
 use Rattle.wire.specs.Bytes.{byte, number2, number4, bytes2, bytes4, AllBytes}
 use Rattle.wire.specs.Codes.{isKind, kindOf, isFlag, flagOf, flagNumber, unused}
 use Rattle.wire.specs.Marks.{eventMark, eventLength}
-use Rattle.wire.specs.Events.{fieldsIn, fieldsOf, recordOf, eventBytes, rows, rowOf, rowFor, eventQuestions, answer, readEvent}
+use Rattle.wire.specs.RoundTrip.{EventRoundTrip}
+use Rattle.wire.specs.Events.{fieldsIn, fieldsOf, recordOf, eventBytes, rows, rowOf, rowFor, eventQuestions, returned, readEvent}
 use Rattle.wire.specs.declared.Fields.{Fields}
 use Rattle.wire.specs.declared.ReadEvent.{ReadEvent}
 use Rattle.wire.specs.declared.ReadEvent.the-variants.{Read, Refused}
-use Rattle.wire.proofs.ByteLaws.{four, of-two, of-four, places, spread}
-use Rattle.wire.proofs.CodeLaws.{kind-listed, kind-of-number, number-of-kind, flag-listed, flag-of-number, number-of-flag}
+use Rattle.wire.specs.ByteLaws.{four, of-two, of-four, places, spread}
+use Rattle.wire.specs.CodeLaws.{kind-listed, kind-of-number, number-of-kind, flag-listed, flag-of-number, number-of-flag}
 use Rattle.wire.proofs.Rows.{no-row}
 
 -- every event is in the table
@@ -115,7 +116,7 @@ same-fields (suc (suc (suc (suc (suc (suc (suc (suc (suc k))))))))) a b c v t =
     absurd (unlisted (fields (suc (suc (suc (suc (suc (suc (suc (suc (suc k))))))))) a b c v) (omega arith) t)
 
 -- a record was read only where each question was answered "yes"
-read-yes : (r : Reply) (x e : Event) → answer r x ≡ Read e → (r ≡ accepted) × (x ≡ e)
+pub read-yes : (r : Reply) (x e : Event) → returned r x ≡ Read e → (r ≡ accepted) × (x ≡ e)
 read-yes accepted x e q = (refl, cc)
 read-yes (refused k) x e q = let z : _≡_ {A = ℕ} 0 1 = cc in absurd (omega arith)
 
@@ -141,3 +142,6 @@ event-written-back s e all q =
     ap (λ (e : Event). recordOf (fieldsOf e)) (sym (r .1))
     ∙ (ap recordOf (same-fields (x .kind) (x .a) (x .b) (x .c) (x .value) (yes .1 .1 .0))
     ∙ same-bytes s all (eqb-eq (length s) eventLength (yes .0)) (eqb-eq (number2 s 0) eventMark (yes .1 .0)))
+
+pub round-trip : EventRoundTrip
+round-trip = record { reads-back = event-read-back; writes-back = event-written-back }

@@ -76,12 +76,17 @@ abbrev pub eventQuestions : List ℕ → List Question
 eventQuestions s = ask 1 (eqb (length s) eventLength) ∷ ask 2 (eqb (number2 s 0) eventMark) ∷ ask 3 (rowFor (fieldsIn s) .listed) ∷ []
 
 -- "A refused read returns the number and no record"
-abbrev pub answer : Reply → Event → ReadEvent
-answer accepted e = Read e
-answer (refused q) e = Refused q
+abbrev pub returned : Reply → Event → ReadEvent
+returned accepted e = Read e
+returned (refused q) e = Refused q
 
 unfoldable pub readEvent : List ℕ → ReadEvent
-readEvent s = answer (firstNo (eventQuestions s)) (rowFor (fieldsIn s) .event)
+readEvent s = returned (firstNo (eventQuestions s)) (rowFor (fieldsIn s) .event)
+
+-- document 01's number for the answer: 0 for a record
+abbrev pub answerOf : ReadEvent → ℕ
+answerOf (Read e) = 0
+answerOf (Refused q) = q
 
 -- writing asks 1 of the buffer
 unfoldable pub eventReply : List ℕ → Event → Reply
@@ -89,3 +94,10 @@ eventReply out e = firstNo (ask 1 (eqb (length out) eventLength) ∷ [])
 
 unfoldable pub writeEvent : List ℕ → Event → List ℕ
 writeEvent out e = written (eventReply out e) (eventBytes e) out
+
+-- reading a record and writing it into a buffer: the questions of reading, then 1 of the buffer
+unfoldable pub copyReply : List ℕ → List ℕ → Reply
+copyReply s out = firstNo (eventQuestions s ++ (ask 1 (eqb (length out) eventLength) ∷ []))
+
+unfoldable pub copyEvent : List ℕ → List ℕ → List ℕ
+copyEvent s out = written (copyReply s out) s out

@@ -4,13 +4,13 @@ use model::Outcome;
 ghost use mathlib.Core.Path.{_≡_};
 ghost use Rattle.wire.specs.Codes.{isKind, kindOf, isOutcome, outcomeOf, isFlag, flagOf, flagNumber};
 
-pub(crate) fn is_kind(x: u8) -> bool
+pub fn is_kind(x: u8) -> bool
     ensures { λ r. ⌜ r ≡ isKind x ⌝ }
 {
     1 <= x && x <= 4
 }
 
-pub(crate) fn kind_of(x: u8) -> Kind
+pub fn kind_of(x: u8) -> Kind
     ensures { λ r. ⌜ r ≡ kindOf x ⌝ }
 {
     if x == 1 {
@@ -25,13 +25,13 @@ pub(crate) fn kind_of(x: u8) -> Kind
     Kind::Helped
 }
 
-pub(crate) fn is_outcome(x: u8) -> bool
+pub fn is_outcome(x: u8) -> bool
     ensures { λ r. ⌜ r ≡ isOutcome x ⌝ }
 {
     x <= 2
 }
 
-pub(crate) fn outcome_of(x: u8) -> Outcome
+pub fn outcome_of(x: u8) -> Outcome
     ensures { λ r. ⌜ r ≡ outcomeOf x ⌝ }
 {
     if x == 0 {
@@ -43,19 +43,19 @@ pub(crate) fn outcome_of(x: u8) -> Outcome
     Outcome::Move
 }
 
-pub(crate) fn is_flag(x: u8) -> bool
+pub fn is_flag(x: u8) -> bool
     ensures { λ r. ⌜ r ≡ isFlag x ⌝ }
 {
     x <= 1
 }
 
-pub(crate) fn flag_of(x: u8) -> bool
+pub fn flag_of(x: u8) -> bool
     ensures { λ r. ⌜ r ≡ flagOf x ⌝ }
 {
     x == 1
 }
 
-pub(crate) fn flag_number(flag: bool) -> u8
+pub fn flag_number(flag: bool) -> u8
     ensures { λ r. ⌜ r ≡ flagNumber flag ⌝ }
 {
     if flag { 1 } else { 0 }

@@ -13,12 +13,11 @@ use model::Event;
 use model::kind_number;
 ghost use mathlib.Core.Path.{_≡_};
 ghost use mathlib.Core.Bool.{_&&_};
-ghost use mathlib.Core.List.{[], _∷_};
 ghost use lib.ListN.{length};
-ghost use Rattle.model.specs.Questions.{ask, firstNo, number};
+ghost use Rattle.model.specs.Questions.{number};
 ghost use Rattle.wire.specs.Codes.{isKind, isFlag, unused};
 ghost use Rattle.wire.specs.Marks.{eventLength};
-ghost use Rattle.wire.specs.Events.{fieldsIn, fieldsOf, eventBytes, rowFor, answer, readEvent, eventReply, writeEvent};
+ghost use Rattle.wire.specs.Events.{fieldsIn, fieldsOf, eventBytes, rowFor, readEvent, answerOf, eventReply, writeEvent, copyReply, copyEvent};
 
 // The fields as they stand on the record.
 fn fields_in(s: &[u8]) -> Fields
@@ -74,40 +73,41 @@ fn other_listed(b: u8, c: u8, value: u32) -> bool
     b == 0 && lock_listed(c, value)
 }
 
-// The event, if question 3 is answered "yes".
-fn checked(is_listed: bool, e: Event) -> ReadEvent
-    ensures { λ r. ⌜ r ≡ answer (firstNo (ask 3 «is_listed» ∷ [])) e ⌝ }
-{
-    if is_listed {
-        return ReadEvent::Read(e);
-    }
-    ReadEvent::Refused(3)
-}
-
-fn event_of(x: Fields) -> ReadEvent
-    ensures { λ r. ⌜ r ≡ answer (firstNo (ask 3 (rowFor x .listed) ∷ [])) (rowFor x .event) ⌝ }
+// Question 3: is the kind a listed value, and do the other fields suit it?
+fn listed(x: Fields) -> bool
+    ensures { λ r. ⌜ r ≡ rowFor x .listed ⌝ }
 {
     let kind = x.kind;
     match kind {
-        0 => checked(lock_listed(x.c, x.value), Event::Lock(x.a, x.b)),
-        1 => checked(order_listed(x.a, x.b, x.c), Event::Order(x.value)),
-        2 => checked(
-            vote_listed(x.b, x.c),
-            Event::Cast(x.a, flag_of(x.b), x.value),
-        ),
-        3 => checked(
-            delivery_listed(x.c, x.value),
-            Event::Deliver(x.a, x.b, kind_of(x.c)),
-        ),
-        4 => checked(other_listed(x.b, x.c, x.value), Event::Timeout(x.a)),
-        5 => checked(
-            decision_listed(x.b, x.c, x.value),
-            Event::Decide(x.a, flag_of(x.b)),
-        ),
-        6 => checked(other_listed(x.b, x.c, x.value), Event::Stop(x.a)),
-        7 => checked(other_listed(x.b, x.c, x.value), Event::Save(x.a)),
-        8 => checked(other_listed(x.b, x.c, x.value), Event::Restore(x.a)),
-        _ => ReadEvent::Refused(3),
+        0 => lock_listed(x.c, x.value),
+        1 => order_listed(x.a, x.b, x.c),
+        2 => vote_listed(x.b, x.c),
+        3 => delivery_listed(x.c, x.value),
+        4 => other_listed(x.b, x.c, x.value),
+        5 => decision_listed(x.b, x.c, x.value),
+        6 => other_listed(x.b, x.c, x.value),
+        7 => other_listed(x.b, x.c, x.value),
+        8 => other_listed(x.b, x.c, x.value),
+        _ => false,
+    }
+}
+
+// The event that the fields stand for.
+fn event_of(x: Fields) -> Event
+    ensures { λ r. ⌜ r ≡ rowFor x .event ⌝ }
+{
+    let kind = x.kind;
+    match kind {
+        0 => Event::Lock(x.a, x.b),
+        1 => Event::Order(x.value),
+        2 => Event::Cast(x.a, flag_of(x.b), x.value),
+        3 => Event::Deliver(x.a, x.b, kind_of(x.c)),
+        4 => Event::Timeout(x.a),
+        5 => Event::Decide(x.a, flag_of(x.b)),
+        6 => Event::Stop(x.a),
+        7 => Event::Save(x.a),
+        8 => Event::Restore(x.a),
+        _ => Event::Lock(0, 0),
     }
 }
 
@@ -120,7 +120,12 @@ pub fn read_event(s: &[u8]) -> ReadEvent
     if number2(s[0], s[1]) != Event::MARK {
         return ReadEvent::Refused(2);
     }
-    event_of(fields_in(s))
+    let x = fields_in(s);
+    if !listed(x) {
+        return ReadEvent::Refused(3);
+    }
+    let e = event_of(x);
+    ReadEvent::Read(e)
 }
 
 fn made(kind: u8, a: u8, b: u8, c: u8, value: u32) -> Fields
@@ -180,4 +185,25 @@ pub fn write_event(out: &mut [u8], e: Event) -> u8
     let record = event_bytes(e);
     bytes::copy(&record, out);
     0
+}
+
+// Document 01's number for a reader's answer: 0 for a record.
+pub fn answer_of(read: ReadEvent) -> u8
+    ensures { λ r. ⌜ r ≡ answerOf read ⌝ }
+{
+    match read {
+        ReadEvent::Read(_) => 0,
+        ReadEvent::Refused(q) => q,
+    }
+}
+
+// Reads a record and writes it into a buffer, where it has the bytes that it had.
+pub fn copy_event(s: &[u8], out: &mut [u8]) -> u8
+    ensures { λ r. ⌜ (r ≡ number (copyReply (now (s .entry)) (now (out .entry)))) × (now (out .exit) ≡ copyEvent (now (s .entry)) (now (out .entry))) ⌝ }
+{
+    let read = read_event(s);
+    let ReadEvent::Read(e) = read else {
+        return answer_of(read);
+    };
+    write_event(out, e)
 }

@@ -1,21 +1,25 @@
-// The records of document 01 as bytes: readers and writers of telegrams, cards and events.
-use model::Checkpoint;
+// The records of document 01 as bytes: what all records share, and the reader and writer of events.
 use model::Event;
-use model::Message;
 
-mod checkpoint;
 mod codes;
 mod event;
-mod message;
 mod number;
 
-pub use checkpoint::read_checkpoint;
-pub use checkpoint::write_checkpoint;
+pub use codes::flag_number;
+pub use codes::flag_of;
+pub use codes::is_flag;
+pub use codes::is_kind;
+pub use codes::is_outcome;
+pub use codes::kind_of;
+pub use codes::outcome_of;
+pub use event::answer_of;
+pub use event::copy_event;
 pub use event::fields_of;
 pub use event::read_event;
 pub use event::write_event;
-pub use message::read_message;
-pub use message::write_message;
+pub use number::low;
+pub use number::number2;
+pub use number::number4;
 
 // What stands in an event record after its mark.
 pub struct Fields {
@@ -29,15 +33,5 @@ pub struct Fields {
 // A record, or the number of the first question that was answered "no".
 pub enum ReadEvent {
     Read(Event),
-    Refused(u8),
-}
-
-pub enum ReadCheckpoint {
-    Read(Checkpoint),
-    Refused(u8),
-}
-
-pub enum ReadMessage {
-    Read(Message),
     Refused(u8),
 }

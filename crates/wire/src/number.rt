@@ -8,20 +8,20 @@ fn wide(x: u8) -> u32
     x as u32
 }
 
-pub(crate) fn number2(a: u8, b: u8) -> u32
+pub fn number2(a: u8, b: u8) -> u32
     ensures { λ r. ⌜ r ≡ a * 256 + b ⌝ }
 {
     wide(a) * 256 + wide(b)
 }
 
-pub(crate) fn number4(a: u8, b: u8, c: u8, d: u8) -> u32
+pub fn number4(a: u8, b: u8, c: u8, d: u8) -> u32
     ensures { λ r. ⌜ r ≡ (a * 256 + b) * 65536 + (c * 256 + d) ⌝ }
 {
     number2(a, b) * 65536 + number2(c, d)
 }
 
 // The lowest byte.
-pub(crate) fn low(v: u32) -> u8
+pub fn low(v: u32) -> u8
     ensures { λ r. ⌜ r ≡ v % 256 ⌝ }
 {
     (v % 256) as u8

@@ -1,7 +1,7 @@
 use borrow.Author.Tests.{eq-eqb, ne-eqb}
 use borrow.Author.Needs.{needs}
 use mathlib.Core.Path.{refl}
-use Rattle.wire.proofs.Copied.{filled}
+use Rattle.wire.specs.ByteLaws.{filled}
 use Rattle.wire.specs.Events.{eventBytes, eventReply, writeEvent}
 use Rattle.model.specs.Questions.{firstNo, unless}
 use Rattle.wire.proofs.event.write_event.Statement.{statement}
