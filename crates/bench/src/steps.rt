@@ -13,7 +13,6 @@ use questions::order_question;
 use questions::question;
 use questions::source;
 use questions::subject;
-use questions::view_of;
 use turns::turn_of;
 ghost use mathlib.Core.Path.{_≡_};
 ghost use mathlib.Core.Bool.{true};
@@ -59,8 +58,7 @@ fn one_question(b: Bench, e: Event) -> u8
     let c = own.controller;
     let condition = c.condition;
     let card = own.card;
-    let v = view_of(m, e, condition, card, from.sent);
-    question(v, e)
+    question(m, e, condition, card, from.sent)
 }
 
 // The bench after the turn of the one controller that an event concerns.

@@ -10,25 +10,8 @@ use protocol::Sent;
 ghost use mathlib.Core.Path.{_≡_};
 ghost use Rattle.protocol.specs.Benches.{ofKind};
 ghost use Rattle.protocol.specs.Questions.{isCard};
-ghost use Rattle.questions.specs.Events.{ofOne, subject, source, receiversIn};
+ghost use Rattle.questions.specs.Events.{subject, source, receiversIn};
 ghost use Rattle.questions.specs.Views.{viewOf};
-
-// Is it the event of one controller? Lock and order are not.
-pub fn of_one(e: Event) -> bool
-    ensures { λ r. ⌜ r ≡ ofOne e ⌝ }
-{
-    match e {
-        Event::Lock(_, _) => false,
-        Event::Order(_) => false,
-        Event::Cast(_, _, _) => true,
-        Event::Deliver(_, _, _) => true,
-        Event::Timeout(_) => true,
-        Event::Decide(_, _) => true,
-        Event::Stop(_) => true,
-        Event::Save(_) => true,
-        Event::Restore(_) => true,
-    }
-}
 
 // The controller that an event may change; 0 where it is the whole bench.
 pub fn subject(e: Event) -> u8
@@ -116,8 +99,8 @@ fn is_card(card: Saved) -> bool
     }
 }
 
-// What the questions of an event look at: `condition` and `card` are its subject's, `from` is what its source has sent.
-pub fn view_of(m: Common, e: Event, condition: Condition, card: Saved, from: Sent) -> View
+// What the questions of an event look at.
+pub(crate) fn view_of(m: Common, e: Event, condition: Condition, card: Saved, from: Sent) -> View
     ensures { λ r. ⌜ r ≡ viewOf m e condition card from ⌝ }
 {
     let receivers = receivers_in(e, from);

@@ -6,10 +6,8 @@ mod tests;
 mod whole;
 
 pub use events::of_kind;
-pub use events::of_one;
 pub use events::source;
 pub use events::subject;
-pub use events::view_of;
 use model::Outcome;
 pub use one::question;
 use protocol::Condition;

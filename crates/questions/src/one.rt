@@ -1,5 +1,7 @@
 // The questions of the events of one controller, in document 01's sequence.
+use crate::Common;
 use crate::View;
+use crate::events::view_of;
 use crate::table::ask;
 use crate::tests::apart;
 use crate::tests::awaits_decision;
@@ -11,13 +13,16 @@ use model::Kind;
 use model::member;
 use model::reachable;
 use model::route;
+use protocol::Condition;
+use protocol::Saved;
+use protocol::Sent;
 use state::is_running;
 use state::is_stopped;
 use state::phase_in;
 use votes::has;
 ghost use mathlib.Core.Path.{_≡_};
 ghost use Rattle.protocol.specs.Questions.{number, firstNo};
-ghost use Rattle.questions.specs.Views.{castQuestions, deliverQuestions, timeoutQuestions, decideQuestions, presentQuestions, restoreQuestions, viewQuestions};
+ghost use Rattle.questions.specs.Views.{castQuestions, deliverQuestions, timeoutQuestions, decideQuestions, presentQuestions, restoreQuestions, viewOf, viewQuestions};
 
 fn cast_question(v: View, id: u8, target: u32) -> u8
     ensures { λ r. ⌜ r ≡ number (firstNo (castQuestions v id target)) ⌝ }
@@ -96,8 +101,7 @@ fn restore_question(v: View, id: u8) -> u8
     ask(5, v.common.locked, ask(7, member(v.common.n, id), state))
 }
 
-// The number of the first "no" to an event of one controller, or 0. Lock and order have their own functions.
-pub fn question(v: View, e: Event) -> u8
+fn view_question(v: View, e: Event) -> u8
     ensures { λ r. ⌜ r ≡ number (firstNo (viewQuestions v e)) ⌝ }
 {
     match e {
@@ -111,4 +115,12 @@ pub fn question(v: View, e: Event) -> u8
         Event::Save(id) => present_question(v, id),
         Event::Restore(id) => restore_question(v, id),
     }
+}
+
+// The number of the first "no" to an event of one controller, or 0: `condition` and `card` are its subject's, `sent` is what its source has
+// sent. Lock and order have their own functions.
+pub fn question(m: Common, e: Event, condition: Condition, card: Saved, sent: Sent) -> u8
+    ensures { λ r. ⌜ r ≡ number (firstNo (viewQuestions (viewOf m e condition card sent) e)) ⌝ }
+{
+    view_question(view_of(m, e, condition, card, sent), e)
 }
