@@ -20,7 +20,7 @@ ghost use Rattle.votes.specs.VoteSets.{empty};
 ghost use Rattle.protocol.specs.Benches.{fresh};
 ghost use Rattle.protocol.specs.Controllers.{advance, aim, await, cleared, conclude, freeze, moves, propose, unsent};
 
-fn unsent() -> Outgoing
+pub fn unsent() -> Outgoing
     ensures { λ r. ⌜ r ≡ unsent ⌝ }
 {
     Outgoing {

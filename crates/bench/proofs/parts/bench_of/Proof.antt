@@ -1,0 +1,14 @@
+use Rattle.protocol.specs.Benches.{benchOf}
+use borrow.Author.Needs.{needs}
+use Rattle.bench.proofs.parts.bench_of.Statement.{statement}
+use Rattle.bench.proofs.parts.bench_of.Tie as tie
+
+fresh-station-requires : tie.Need-fresh-station-requires
+fresh-station-requires c κs = search needs
+
+returns : tie.Need-returns
+unfolding benchOf
+returns c = simp (c .fresh-station .ensures)
+
+pub bench-of-spec : {M : Type 1} → statement M
+bench-of-spec = tie.close (tie.spec fresh-station-requires returns)
