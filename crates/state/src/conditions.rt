@@ -5,7 +5,7 @@ use protocol::Progress;
 ghost use mathlib.Core.Path.{_≡_};
 ghost use Rattle.protocol.specs.Controllers.{isRunning, isStandby, isStopped, phaseIn, outcomeIn, inPhase, orElse, noting};
 
-pub(crate) fn is_running(condition: Condition) -> bool
+pub fn is_running(condition: Condition) -> bool
     ensures { λ r. ⌜ r ≡ isRunning condition ⌝ }
 {
     match condition {
@@ -15,7 +15,7 @@ pub(crate) fn is_running(condition: Condition) -> bool
     }
 }
 
-pub(crate) fn is_standby(condition: Condition) -> bool
+pub fn is_standby(condition: Condition) -> bool
     ensures { λ r. ⌜ r ≡ isStandby condition ⌝ }
 {
     match condition {
@@ -25,7 +25,7 @@ pub(crate) fn is_standby(condition: Condition) -> bool
     }
 }
 
-pub(crate) fn is_stopped(condition: Condition) -> bool
+pub fn is_stopped(condition: Condition) -> bool
     ensures { λ r. ⌜ r ≡ isStopped condition ⌝ }
 {
     match condition {
@@ -35,7 +35,7 @@ pub(crate) fn is_stopped(condition: Condition) -> bool
     }
 }
 
-pub(crate) fn phase_in(condition: Condition) -> u8
+pub fn phase_in(condition: Condition) -> u8
     ensures { λ r. ⌜ r ≡ phaseIn condition ⌝ }
 {
     match condition {
