@@ -117,7 +117,7 @@ module _ (n f : ℕ) where
           no-s (subst (λ (x : ℕ). Second n f x l) k (subst (Second n f i) (sym (same-tail e (Timeout i) l earlier p)) s))
       rung b no-s ns i earlier (y ∷ later) p s = ns i earlier later (same-tail e y l _ p) s
 
-  votes-more : (l earlier later : List Event) (e : Event) → l ≡ later ++ (e ∷ earlier) → VotesIn n f earlier → VotesIn n f l
+  pub votes-more : (l earlier later : List Event) (e : Event) → l ≡ later ++ (e ∷ earlier) → VotesIn n f earlier → VotesIn n f l
   votes-more l earlier later e p v = subst (VotesIn n f) (sym p) (record {
     votes = λ k a b. let x : Voted n f earlier k = v .votes k a b in record { willing = x .willing; target = x .target; entry = in-later _ e later earlier (x .entry) };
     sent = λ i j a b c d r. in-later _ e later earlier (v .sent i j a b c d r);
@@ -174,7 +174,7 @@ module _ (n f : ℕ) where
   second-log es i (inl h) = inl h
   second-log es i (inr t) = inr (in-log es (Timeout i) tt t)
 
-  log-second : (es : List Event) (i : ℕ) → Second n f i (logAt es) → SecondBell n f es i
+  pub log-second : (es : List Event) (i : ℕ) → Second n f i (logAt es) → SecondBell n f es i
   log-second es i (inl h) = inl h
   log-second es i (inr m) = inr (in-order es (Timeout i) m)
 

@@ -24,3 +24,10 @@ pub mod Bound
 pub mod Start
 pub mod Numbers
 pub mod Theorem
+pub mod CleanMoments
+pub mod CleanLoops
+pub mod CleanSchedule
+pub mod CleanAble
+pub mod CleanReached
+pub mod CleanRun
+pub mod CleanExists

@@ -134,7 +134,7 @@ start (Save i ∷ es) = waits (Save i) es tt (start es)
 start (Restore i ∷ es) = waits (Restore i) es tt (start es)
 
 -- the stations of a bench on which nothing has happened
-all-of-copies : {A : Type 0} (P : A → Type 0) (d a : A) → P d → P a → (m k : ℕ) → P (nth d (replicate m a) k)
+pub all-of-copies : {A : Type 0} (P : A → Type 0) (d a : A) → P d → P a → (m k : ℕ) → P (nth d (replicate m a) k)
 unfolding nth
 all-of-copies P d a x y m zero = x
 all-of-copies P d a x y zero (suc k) = x

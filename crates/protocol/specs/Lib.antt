@@ -6,3 +6,4 @@ pub mod Questions
 pub mod Steps
 pub mod Display
 pub mod Claim
+pub mod NotHollow

@@ -1,5 +1,6 @@
 // The state of the controllers and of the bench. The rules over it stand in specs/, and so does the claim about them.
 ghost use Rattle.protocol.specs.Claim.{Demand3};
+ghost use Rattle.protocol.specs.NotHollow.{NotHollow};
 use model::Checkpoint;
 use model::Outcome;
 use votes::VoteSet;
@@ -114,4 +115,9 @@ pub struct Bench {
 // Demand 3 of the buyer, as a contract: it holds of the definitions over these types, for every list of events.
 pub fn demand_3()
     ensures { λ _. ⌜ Demand3 ⌝ }
+{}
+
+// It is not hollow: for every lock and each of its controllers there are lists with a clean order, and the claim gives their outcomes.
+pub fn clean_orders_exist()
+    ensures { λ _. ⌜ NotHollow ⌝ }
 {}

@@ -1,0 +1,5 @@
+mod Writing
+mod Digits
+mod Stations
+mod Sums
+mod Fitting

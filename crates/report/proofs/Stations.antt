@@ -1,0 +1,31 @@
+-- Beyond the last of the bench's stations stands one that has just begun, and has sent nothing.
+use Prim.Native.Nat.{ℕ, suc, _≤_}
+use mathlib.Core.List.{List, []}
+use mathlib.Core.Path.{_≡_, refl, sym, _∙_, ap}
+use lib.ListN.{length, List·getD-eq-default}
+use Rattle.votes.specs.VoteSets.{nth}
+use Rattle.model.specs.declared.Kind.{Kind}
+use Rattle.model.specs.declared.Kind.the-variants.{Vote, Ack, Help, Helped}
+use Rattle.protocol.specs.declared.Station.{Station}
+use Rattle.protocol.specs.Benches.{fresh, freshStation, unsentAll, ofKind}
+use Rattle.report.specs.Shown.{shownOf}
+use Rattle.model.specs.declared.Outcome.the-variants.{None}
+
+nothing-sent : (kind : Kind) → 0 ≡ (ofKind kind (freshStation [] .sent)) .to
+unfolding freshStation unsentAll
+nothing-sent Vote = refl
+nothing-sent Ack = refl
+nothing-sent Help = refl
+nothing-sent Helped = refl
+
+module _ (l : List Station) (i : ℕ) (h : length l ≤ i) where
+  past : nth (freshStation []) l (suc i) ≡ freshStation []
+  unfolding nth
+  past = List·getD-eq-default l (freshStation []) h
+
+  pub shown-past : record { stage = 0; outcome = None; position = 0 } ≡ shownOf (nth (freshStation []) l (suc i))
+  unfolding freshStation fresh
+  shown-past = ap shownOf (sym past)
+
+  pub sent-past : (kind : Kind) → 0 ≡ (ofKind kind ((nth (freshStation []) l (suc i)) .sent)) .to
+  sent-past kind = nothing-sent kind ∙ ap (λ (s : Station). (ofKind kind (s .sent)) .to) (sym past)

@@ -1,0 +1,29 @@
+-- `report::lines::put_answer` meets its contract.
+use native.Mathlib.Omega.{arith}
+use Rattle.report.proofs.Writing.{put-then, put-length}
+use Rattle.report.proofs.lines.put_answer.Statement.{statement}
+use Rattle.report.proofs.lines.put_answer.Tie as tie
+
+put-number-requires : tie.Need-put-number-requires
+put-number-requires c κs = omega arith
+
+put-field-requires : tie.Need-put-field-requires
+put-field-requires c κs = omega arith
+
+put-byte-requires : tie.Need-put-byte-requires
+put-byte-requires c κs = omega arith
+
+returns : tie.Need-returns
+returns c =
+    let third = c .before .before in
+    let second = third .before .before .before .before in
+    let first = second .before .before .before .before in
+    put-then (first .put-number .ensures) (put-then (second .put-field .ensures) (third .put-byte .ensures))
+
+same-length : tie.Need-same-length
+same-length c = put-length (returns c)
+
+pub put-answer-spec : {M : Type 1} → statement M
+put-answer-spec =
+    tie.close
+    (tie.spec put-number-requires put-field-requires put-byte-requires same-length returns)

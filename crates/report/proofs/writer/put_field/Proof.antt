@@ -1,0 +1,24 @@
+-- `report::writer::put_field` meets its contract.
+use native.Mathlib.Omega.{arith}
+use borrow.Author.Needs.{needs}
+use Rattle.report.proofs.Writing.{put-then}
+use Rattle.report.proofs.writer.put_field.Statement.{statement}
+use Rattle.report.proofs.writer.put_field.Tie as tie
+
+put-byte-requires : tie.Need-put-byte-requires
+put-byte-requires c κs = omega arith
+
+put-number-requires : tie.Need-put-number-requires
+put-number-requires c κs = omega arith
+
+same-length : tie.Need-same-length
+same-length c = search needs
+
+returns : tie.Need-returns
+returns c =
+    let second = c .before .before in
+    let first = second .before .before .before .before in
+    put-then (first .put-byte .ensures) (second .put-number .ensures)
+
+pub put-field-spec : {M : Type 1} → statement M
+put-field-spec = tie.close (tie.spec put-byte-requires put-number-requires same-length returns)
