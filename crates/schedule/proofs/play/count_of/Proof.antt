@@ -3,14 +3,10 @@ use mathlib.Core.Path.{refl}
 use borrow.Author.Needs.{needs}
 use Rattle.schedule.proofs.play.count_of.Statement.{statement}
 use Rattle.schedule.proofs.play.count_of.Tie as tie
-use Rattle.schedule.proofs.play.count_of.Reads as reads
-use Rattle.schedule.proofs.play.count_of.Lts as lts
 
--- src/play.rt:19:6
 add-result : tie.Need-add-result
 add-result c = search needs
 
--- src/play.rt:16:1
 returns : tie.Need-returns
 unfolding count
 returns c = refl

@@ -1,33 +1,22 @@
 use borrow.Author.Needs.{needs}
 use Rattle.schedule.proofs.play.is_local.Statement.{statement}
 use Rattle.schedule.proofs.play.is_local.Tie as tie
-use Rattle.schedule.proofs.play.is_local.Reads as reads
-use Rattle.schedule.proofs.play.is_local.Lts as lts
-use Rattle.model.proofs.member.Reads as member-reads
-use Rattle.questions.proofs.source.Reads as source-reads
-use Rattle.questions.proofs.subject.Reads as subject-reads
 
--- src/play.rt:36:19
 subject-requires : tie.Need-subject-requires
 subject-requires c κs = search needs
 
--- src/play.rt:36:8
 member-requires : tie.Need-member-requires
 member-requires c κs = search needs
 
--- src/play.rt:37:27
 source-requires : tie.Need-source-requires
 source-requires c κs = search needs
 
--- src/play.rt:37:9
 member-requires-2 : tie.Need-member-requires-2
 member-requires-2 c κs = search needs
 
--- src/play.rt:37:9
 returns : tie.Need-returns
 returns c = simp (← c .before .before .before .before .subject .ensures, ← c .before .before .before .member .ensures, c .before .before .if1 .taken, ← c .before .source .ensures, c .member2 .ensures)
 
--- src/play.rt:33:1
 returns-2 : tie.Need-returns-2
 returns-2 c = simp (← c .before .before .subject .ensures, ← c .before .member .ensures, c .if1 .left)
 

@@ -1,40 +1,29 @@
-use mathlib.Core.Path.{_≡_, sym, ap, _∙_}
+use mathlib.Core.Path.{sym, ap, _∙_}
 use native.Mathlib.Omega.{arith}
 use Rattle.wire.specs.Events.{readEvent}
 use Rattle.schedule.proofs.Pieces.{part-is-piece, no-piece, nothing-read}
 use borrow.Author.Needs.{needs}
 use Rattle.schedule.proofs.records.record_at.Statement.{statement}
 use Rattle.schedule.proofs.records.record_at.Tie as tie
-use Rattle.schedule.proofs.records.record_at.Reads as reads
-use Rattle.schedule.proofs.records.record_at.Lts as lts
-use Rattle.schedule.proofs.records.end_of.Reads as end-of-reads
-use Rattle.wire.proofs.read_event.Reads as read-event-reads
 
--- src/records.rt:28:9
 returns : tie.Need-returns
 returns c = sym (ap readEvent (no-piece _ _ (omega arith)) ∙ nothing-read)
 
--- src/records.rt:30:9
 end-of-requires : tie.Need-end-of-requires
 end-of-requires c κs = search needs
 
--- src/records.rt:31:16
 sub-read-event : tie.Need-sub-read-event
 sub-read-event c = search needs
 
--- src/records.rt:31:16
 part-read-event-start : tie.Need-part-read-event-start
 part-read-event-start c = search needs
 
--- src/records.rt:31:16
 part-read-event-end : tie.Need-part-read-event-end
 part-read-event-end c = search needs
 
--- src/records.rt:31:5
 read-event-requires : tie.Need-read-event-requires
 read-event-requires c κs = search needs
 
--- src/records.rt:24:1
 returns-2 : tie.Need-returns-2
 returns-2 c = c .read-event .ensures ∙ ap readEvent (part-is-piece _ _ _ (c .before .before .end-of .ensures .0))
 
