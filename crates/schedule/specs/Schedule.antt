@@ -3,14 +3,11 @@ use Prim.Native.Nat.{ℕ, zero, suc, _+_, _*_, _/_}
 use mathlib.Core.List.{List, [], _∷_, _++_}
 use lib.ListN.{length, take, drop}
 use Rattle.model.specs.declared.Event.{Event}
+unfoldable pub use Rattle.reader.specs.Pieces.{pieceAt}
 use Rattle.wire.specs.Marks.{eventLength}
 use Rattle.wire.specs.Events.{readEvent}
 use Rattle.wire.specs.declared.ReadEvent.{ReadEvent}
 use Rattle.wire.specs.declared.ReadEvent.the-variants.{Read, Refused}
-
--- the ten bytes from a place on, or what is left of them ("a short last piece")
-unfoldable pub pieceAt : List ℕ → ℕ → List ℕ
-pieceAt s at = take eventLength (drop at s)
 
 -- record k, and how many there are
 abbrev pub piece : List ℕ → ℕ → List ℕ

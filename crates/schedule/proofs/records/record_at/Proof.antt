@@ -1,40 +1,38 @@
-use mathlib.Core.Path.{sym, ap, _∙_}
+use mathlib.Core.Path.{_≡_, sym, ap, _∙_}
 use native.Mathlib.Omega.{arith}
 use Rattle.wire.specs.Events.{readEvent}
-use Rattle.schedule.proofs.Pieces.{part-is-piece, no-piece, nothing-read}
+use Rattle.reader.specs.PieceLaws.{no-piece, nothing-read, front-is-piece}
 use borrow.Author.Needs.{needs}
 use Rattle.schedule.proofs.records.record_at.Statement.{statement}
 use Rattle.schedule.proofs.records.record_at.Tie as tie
+use Rattle.schedule.proofs.records.record_at.Reads as reads
+use Rattle.schedule.proofs.records.record_at.Lts as lts
+use Rattle.reader.proofs.first.Reads as first-reads
 
+-- src/records.rt:12:9
 returns : tie.Need-returns
 returns c = sym (ap readEvent (no-piece _ _ (omega arith)) ∙ nothing-read)
 
-end-of-requires : tie.Need-end-of-requires
-end-of-requires c κs = search needs
+-- src/records.rt:14:11
+sub-first : tie.Need-sub-first
+sub-first c = search needs
 
-sub-read-event : tie.Need-sub-read-event
-sub-read-event c = search needs
+-- src/records.rt:14:11
+part-first-start : tie.Need-part-first-start
+part-first-start c = search needs
 
-part-read-event-start : tie.Need-part-read-event-start
-part-read-event-start c = search needs
+-- src/records.rt:14:11
+part-first-end : tie.Need-part-first-end
+part-first-end c = search needs
 
-part-read-event-end : tie.Need-part-read-event-end
-part-read-event-end c = search needs
+-- src/records.rt:14:5
+first-requires : tie.Need-first-requires
+first-requires c κs = search needs
 
-read-event-requires : tie.Need-read-event-requires
-read-event-requires c κs = search needs
-
+-- src/records.rt:8:1
 returns-2 : tie.Need-returns-2
-returns-2 c = c .read-event .ensures ∙ ap readEvent (part-is-piece _ _ _ (c .before .before .end-of .ensures .0))
+returns-2 c = c .first .ensures ∙ ap readEvent (front-is-piece _ _ (omega arith))
 
 pub record-at-spec : {M : Type 1} → statement M
 record-at-spec =
-    tie.close
-    (tie.spec
-    returns
-    end-of-requires
-    sub-read-event
-    part-read-event-start
-    part-read-event-end
-    read-event-requires
-    returns-2)
+    tie.close (tie.spec returns sub-first part-first-start part-first-end first-requires returns-2)

@@ -9,7 +9,7 @@ use lib.Seq.{take-all}
 use Rattle.model.specs.Questions.{firstNo, unless}
 use Rattle.wire.specs.Events.{readEvent}
 use Rattle.wire.specs.declared.ReadEvent.the-variants.{Refused}
-use Rattle.schedule.specs.Schedule.{pieceAt}
+use Rattle.reader.specs.Pieces.{pieceAt}
 
 pub part-is-piece : (s : List ℕ) (at to : ℕ) → to ≡ min (at + 10) (length s) → take (to - at) (drop at s) ≡ pieceAt s at
 unfolding pieceAt
@@ -27,3 +27,8 @@ no-piece s at h = rw (drop-of-length-le s h)
 pub nothing-read : readEvent [] ≡ Refused 1
 unfolding readEvent firstNo unless
 nothing-read = refl
+
+-- the front of what is left from a place on is the piece at that place
+pub front-is-piece : (s : List ℕ) (at : ℕ) → at ≤ length s → pieceAt (take (length s - at) (drop at s)) 0 ≡ pieceAt s at
+unfolding pieceAt
+front-is-piece s at h = rw (take-all (length s - at) (drop at s) (simp length-drop (omega arith)))
