@@ -44,7 +44,7 @@ unfolding eventsTo
 more-played s k b next r e p q = rw add-one (rw (q, p, e) (sym (run-more newBench (eventsTo s k) (readEvent (piece s k)))))
 
 -- the answers so far, one for each record
-length-answers : (s : List ℕ) (k : ℕ) → length (answersTo s k) ≡ k
+pub length-answers : (s : List ℕ) (k : ℕ) → length (answersTo s k) ≡ k
 unfolding answersTo
 length-answers s zero = refl
 length-answers s (suc k) = simp (length-append, length-answers s k) (omega arith)
