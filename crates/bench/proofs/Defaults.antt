@@ -4,7 +4,7 @@ use mathlib.Core.Path.{_≡_, refl}
 use mathlib.Core.List.{List, [], _∷_}
 use native.Mathlib.Omega.{arith}
 use lib.ListN.{length, getD}
-use Rattle.votes.specs.VoteSets.{nth}
+use Rattle.ground.specs.Lists.{nth}
 
 -- what the two defaults have in common, the two readings have
 getD-alike : {A B : Type 0} (g : A → B) (d d′ : A) → g d ≡ g d′ → (l : List A) (k : ℕ) → g (getD l k d) ≡ g (getD l k d′)

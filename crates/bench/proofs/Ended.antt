@@ -6,9 +6,8 @@ use mathlib.Core.List.{List, []}
 use native.Mathlib.Omega.{arith}
 use native.Mathlib.Numerals.{add-one}
 use lib.ListN.{length, getD}
-use Rattle.votes.specs.Quantify.{allTo}
-use Rattle.votes.specs.VoteSets.{nth}
-use Rattle.votes.specs.ListLaws.{nth-past}
+use Rattle.ground.specs.Quantify.{allTo}
+use Rattle.ground.specs.Lists.{nth, nth-past}
 use Rattle.protocol.specs.declared.Station.{Station}
 use Rattle.protocol.specs.Benches.{freshStation, fresh}
 use Rattle.protocol.specs.Questions.{ended}

@@ -8,9 +8,9 @@ use native.Mathlib.Omega.{arith}
 use lib.Dec.{eqb, leb, ltb}
 use lib.ListN.{length}
 use lib.Seq.{set-out}
-use Rattle.votes.specs.Tests.{and-l, and-r, leb-le}
-use Rattle.votes.specs.VoteSets.{put}
-use Rattle.votes.specs.ListLaws.{nth-past}
+use borrow.Author.Tests.{leb-true}
+use Rattle.ground.specs.Tests.{and-l, and-r}
+use Rattle.ground.specs.Lists.{put, nth-past}
 use Rattle.model.specs.Ranges.{sizes, member}
 use Rattle.model.specs.declared.Outcome.the-variants.{None}
 use Rattle.model.specs.declared.Event.{Event}
@@ -39,11 +39,11 @@ never false h = refl
 -- the number of no lock's controller
 few : (n f : ℕ) → sizes n f ≡ true → n ≤ 16
 unfolding sizes
-few n f e = leb-le n 16 (and-r (leb 2 n) (leb n 16) (and-l (leb 2 n && leb n 16) (leb 1 f) (and-l (leb 2 n && leb n 16 && leb 1 f) (ltb f n) e)))
+few n f e = leb-true n 16 (and-r (leb 2 n) (leb n 16) (and-l (leb 2 n && leb n 16) (leb 1 f) (and-l (leb 2 n && leb n 16 && leb 1 f) (ltb f n) e)))
 
 within : (n k : ℕ) → member n k ≡ true → k ≤ n
 unfolding member
-within n k e = leb-le k n (and-r (leb 1 k) (leb k n) e)
+within n k e = leb-true k n (and-r (leb 1 k) (leb k n) e)
 
 no-member : (me : Member) → 16 < me .id → isMember me ≡ false
 unfolding isMember

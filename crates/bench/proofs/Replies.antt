@@ -3,7 +3,8 @@ use Prim.Native.Nat.{ℕ, _≤_}
 use mathlib.Core.Path.{_≡_, refl, sym, _∙_}
 use mathlib.Core.Bool.{true, false, not, _&&_, false≢true}
 use lib.Dec.{eqb, leb}
-use Rattle.votes.specs.Tests.{and-l, and-r, leb-le}
+use borrow.Author.Tests.{leb-true}
+use Rattle.ground.specs.Tests.{and-l, and-r}
 use Rattle.model.specs.Ranges.{member}
 use Rattle.model.specs.QuestionLaws.{AllYes, all-yes, numbered, reply-accepted}
 use Rattle.questions.specs.Events.{ofOne, subject}
@@ -43,7 +44,7 @@ step-other b e n = rw (not-accepted (reply b e) n)
 -- question 7: an accepted event of one controller has a number from 1 on
 first : (n k : ℕ) → member n k ≡ true → 1 ≤ k
 unfolding member
-first n k e = leb-le 1 k (and-l (leb 1 k) (leb k n) e)
+first n k e = leb-true 1 k (and-l (leb 1 k) (leb k n) e)
 
 pub numbered-from-1 : (b : Bench) (e : Event) → ofOne e ≡ true → number (reply b e) ≡ 0 → 1 ≤ subject e
 numbered-from-1 b (Lock n f) o z = absurd (false≢true o)

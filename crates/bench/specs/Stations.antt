@@ -3,7 +3,8 @@ use Prim.Native.Nat.{ℕ}
 use mathlib.Core.Bool.{Bool}
 use mathlib.Core.List.{List, []}
 use lib.ListN.{replicate}
-use Rattle.votes.specs.VoteSets.{nth, empty}
+use Rattle.ground.specs.Lists.{nth}
+use Rattle.votes.specs.VoteSets.{empty}
 use Rattle.protocol.specs.declared.Station.{Station}
 use Rattle.protocol.specs.declared.Bench.{Bench}
 use Rattle.protocol.specs.Benches.{freshStation}

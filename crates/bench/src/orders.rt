@@ -11,7 +11,7 @@ use state::runs;
 ghost use mathlib.Core.Path.{_≡_};
 ghost use mathlib.Core.Bool.{_&&_};
 ghost use mathlib.Core.List.{map};
-ghost use Rattle.votes.specs.Quantify.{allTo};
+ghost use Rattle.ground.specs.Quantify.{allTo};
 ghost use Rattle.protocol.specs.Questions.{ended};
 ghost use Rattle.protocol.specs.Steps.{renewed, opened};
 ghost use Rattle.bench.specs.Stations.{endedAt};

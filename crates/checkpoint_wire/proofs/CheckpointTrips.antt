@@ -6,7 +6,7 @@ use mathlib.Core.List.{List, [], _∷_, _++_}
 use native.Mathlib.Omega.{arith}
 use lib.Dec.{eqb}
 use lib.ListN.{length}
-use Rattle.votes.specs.Tests.{eqb-eq}
+use borrow.Author.Tests.{eqb-true}
 use Rattle.model.specs.Questions.{Reply, accepted, refused, number, firstNo}
 use Rattle.model.specs.QuestionLaws.{AllYes, all-yes, yes-all}
 use Rattle.model.specs.declared.Checkpoint.{Checkpoint}
@@ -75,7 +75,7 @@ checkpoint-written-back s p all q =
     let r : (firstNo (checkpointQuestions s) ≡ accepted) × (checkpointIn s ≡ p) = read-yes (firstNo (checkpointQuestions s)) (checkpointIn s) p q in
     let yes : AllYes (checkpointQuestions s) = all-yes (checkpointQuestions s) (r .0) in
     ap checkpointBytes (sym (r .1))
-    ∙ same-bytes s all (eqb-eq (length s) checkpointLength (yes .0)) (eqb-eq (number2 s 0) checkpointMark (yes .1 .0)) (yes .1 .1 .0)
+    ∙ same-bytes s all (eqb-true (length s) checkpointLength (yes .0)) (eqb-true (number2 s 0) checkpointMark (yes .1 .0)) (yes .1 .1 .0)
 
 -- the number of what a reader returns
 number-of : (r : Reply) (x : Checkpoint) → answerOf (returned r x) ≡ number r

@@ -2,6 +2,8 @@
 use answers::passed;
 use answers::quiet;
 use answers::settle;
+use ground::has;
+use ground::insert;
 use model::Kind;
 use model::Outcome;
 use protocol::Answer;
@@ -13,8 +15,6 @@ use state::keep_helped;
 use state::learn;
 use state::phase;
 use votes::VoteSet;
-use votes::has;
-use votes::insert;
 ghost use mathlib.Core.Path.{_≡_};
 ghost use mathlib.Core.Bool.{_||_};
 ghost use lib.Dec.{leb};

@@ -4,12 +4,12 @@ use mathlib.Core.Path.{_≡_, refl, sym, _∙_, ap}
 use mathlib.Core.Bool.{true, _&&_}
 use mathlib.Core.List.{List, [], _∷_, _++_}
 use native.Mathlib.Omega.{arith}
-use borrow.Author.Tests.{ltb-true}
+use borrow.Author.Tests.{ltb-true, eqb-true, leb-true}
 use lib.Dec.{eqb, leb, ltb}
 use lib.ListN.{length}
 use lib.Pow.{pow-mono}
-use Rattle.votes.specs.Mask.{noneAbove}
-use Rattle.votes.specs.Tests.{and-l, and-r, and-i, eqb-eq, leb-le}
+use Rattle.ground.specs.Mask.{noneAbove}
+use Rattle.ground.specs.Tests.{and-l, and-r, and-i}
 use Rattle.model.specs.Numbers.{kindNumber}
 use Rattle.model.specs.Questions.{Reply, accepted, refused, number, firstNo}
 use Rattle.model.specs.QuestionLaws.{AllYes, all-yes, yes-all}
@@ -28,7 +28,7 @@ use Rattle.wire.specs.CodeLaws.{kind-listed, kind-of-number, number-of-kind}
 limited : (n f : ℕ) → sizes n f ≡ true → n ≤ limit
 unfolding sizes
 limited n f t =
-    leb-le n limit (and-r (leb 2 n) (leb n limit) (and-l (leb 2 n && leb n limit) (leb 1 f) (and-l (leb 2 n && leb n limit && leb 1 f) (ltb f n) t)))
+    leb-true n limit (and-r (leb 2 n) (leb n limit) (and-l (leb 2 n && leb n limit) (leb 1 f) (and-l (leb 2 n && leb n limit && leb 1 f) (ltb f n) t)))
 
 two-bytes : (n k : ℕ) → n ≤ limit → noneAbove n k ≡ true → k < 65536
 unfolding noneAbove
@@ -110,9 +110,9 @@ message-written-back s m all q =
     let r : (firstNo (messageQuestions s) ≡ accepted) × (messageIn s ≡ m) = read-yes (firstNo (messageQuestions s)) (messageIn s) m q in
     let each : AllYes (messageQuestions s) = all-yes (messageQuestions s) (r .0) in
     ap messageBytes (sym (r .1))
-    ∙ same-bytes s all (eqb-eq (length s) messageLength (each .0)) (eqb-eq (number2 s 0) messageMark (each .1 .0))
+    ∙ same-bytes s all (eqb-true (length s) messageLength (each .0)) (eqb-true (number2 s 0) messageMark (each .1 .0))
     (and-l (isKind (byte s 2)) (unused (byte s 7)) (each .1 .1 .0))
-    (eqb-eq (byte s 7) 0 (and-r (isKind (byte s 2)) (unused (byte s 7)) (each .1 .1 .0)))
+    (eqb-true (byte s 7) 0 (and-r (isKind (byte s 2)) (unused (byte s 7)) (each .1 .1 .0)))
 
 -- the number of what a reader returns
 number-of : (r : Reply) (x : Message) → answerOf (returned r x) ≡ number r

@@ -4,7 +4,7 @@ use mathlib.Core.Bool.{Bool, not, _&&_}
 use mathlib.Core.List.{List, [], _∷_, _++_}
 use lib.Dec.{eqb, leb}
 use lib.ListN.{length}
-use Rattle.votes.specs.Mask.{has, insert, noneAbove, within}
+use Rattle.ground.specs.Mask.{has, insert, noneAbove, within}
 use Rattle.model.specs.Numbers.{kindNumber}
 use Rattle.model.specs.Questions.{Reply, accepted, refused, Question, ask, firstNo}
 use Rattle.model.specs.Ranges.{sizes, member}

@@ -23,7 +23,7 @@ fn bits_in_range(m: Message) -> bool
     ensures { λ r. ⌜ r ≡ bitsInRange m ⌝ }
 {
     let set = m.votes;
-    votes::none_above(set.known, m.n) && votes::none_above(set.willing, m.n)
+    ground::none_above(set.known, m.n) && ground::none_above(set.willing, m.n)
 }
 
 // Question 9: whom a sheet of that kind knows.
@@ -31,10 +31,10 @@ fn knows_for_kind(kind: Kind, from: u8, known: u32) -> bool
     ensures { λ r. ⌜ r ≡ knowsForKind kind from known ⌝ }
 {
     match kind {
-        Kind::Vote => known == votes::insert(0, from),
-        Kind::Ack => votes::has(known, from),
+        Kind::Vote => known == ground::insert(0, from),
+        Kind::Ack => ground::has(known, from),
         Kind::Help => known == 0,
-        Kind::Helped => votes::has(known, from),
+        Kind::Helped => ground::has(known, from),
     }
 }
 
@@ -46,7 +46,7 @@ fn suits(m: Message) -> bool
         return false;
     }
     let set = m.votes;
-    if !votes::within(set.willing, set.known) {
+    if !ground::within(set.willing, set.known) {
         return false;
     }
     let kind = m.kind;

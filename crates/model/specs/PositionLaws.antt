@@ -3,9 +3,10 @@ use Prim.Native.Nat.{ℕ, _-_, _^_, _≤_, _<_}
 use mathlib.Core.Path.{_≡_, refl}
 use mathlib.Core.Bool.{Bool, true, false, _||_}
 use native.Mathlib.Omega.{arith}
-use borrow.Author.Tests.{ltb-true, ltb-false, lt-ltb, lt-leb, le-leb}
+use borrow.Author.Tests.{ltb-true, ltb-false, lt-ltb, lt-leb, le-leb, leb-true}
 use lib.Dec.{leb, ltb}
-use Rattle.votes.specs.Tests.{inl, inr, split, same-test, leb-le}
+use mathlib.Core.Logic.{inl, inr}
+use Rattle.ground.specs.Tests.{split, same-test}
 use Rattle.model.specs.Ranges.{reachable}
 use Rattle.model.specs.Positions.{millimetres, inRange}
 
@@ -13,7 +14,7 @@ use Rattle.model.specs.Positions.{millimetres, inRange}
 low-end : (p : ℕ) → 2 ^ 31 ≤ p → p < 2 ^ 32 → leb 4294947296 p ≡ ltb (2 ^ 32 - 1 - p) 20000
 low-end p l h =
     same-test (leb 4294947296 p) (ltb (2 ^ 32 - 1 - p) 20000)
-    (λ t. let e : 4294947296 ≤ p = leb-le 4294947296 p t in lt-ltb (2 ^ 32 - 1 - p) 20000 (omega arith))
+    (λ t. let e : 4294947296 ≤ p = leb-true 4294947296 p t in lt-ltb (2 ^ 32 - 1 - p) 20000 (omega arith))
     (λ t. let e : 2 ^ 32 - 1 - p < 20000 = ltb-true (2 ^ 32 - 1 - p) 20000 t in le-leb 4294947296 p (omega arith))
 
 or-no : (b : Bool) → (b || false) ≡ b

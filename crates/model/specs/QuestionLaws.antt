@@ -5,7 +5,8 @@ use mathlib.Core.Bool.{Bool, true, _&&_}
 use mathlib.Core.List.{List, [], _∷_, _++_}
 use native.Mathlib.Omega.{arith}
 use lib.Dec.{ltb}
-use Rattle.votes.specs.Tests.{inl, inr, split, and-l, and-r}
+use mathlib.Core.Logic.{inl, inr}
+use Rattle.ground.specs.Tests.{split, and-l, and-r}
 use Rattle.model.specs.Questions.{Reply, accepted, refused, number, Question, unless, firstNo}
 
 -- each question is answered "yes"

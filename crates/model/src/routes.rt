@@ -4,7 +4,7 @@ use crate::ranges::is_backup;
 use crate::ranges::is_second_backup;
 ghost use mathlib.Core.Path.{_≡_};
 ghost use mathlib.Core.Bool.{cond};
-ghost use Rattle.votes.specs.Mask.{insert};
+ghost use Rattle.ground.specs.Mask.{insert};
 ghost use Rattle.model.specs.Routes.{voteRoute, ackRoute, helpRoute, route, recipients};
 
 fn vote_route(f: u8, from: u8, to: u8) -> bool
@@ -57,7 +57,7 @@ fn with_recipient(found: u32, f: u8, kind: Kind, from: u8, k: u8) -> u32
     ensures { λ r. ⌜ r ≡ cond (route f kind from k) (insert found k) found ⌝ }
 {
     if route(f, kind, from, k) {
-        return votes::insert(found, k);
+        return ground::insert(found, k);
     }
     found
 }

@@ -5,13 +5,14 @@ use mathlib.Core.List.{List}
 use native.Mathlib.Omega.{arith}
 use lib.Dec.{leb}
 use lib.ListN.{length}
-use Rattle.votes.specs.Tests.{by-cond, leb-le}
+use borrow.Author.Tests.{leb-true}
+use Rattle.ground.specs.Tests.{by-cond}
 use Rattle.output.specs.Output.{printedLength}
 
 module _ (text out : List ℕ) where
   fits : printedLength text out ≤ length out
   unfolding printedLength
-  fits = by-cond (λ (n : ℕ). n ≤ length out) (leb (length text) (length out)) (length text) 0 (λ h. leb-le _ _ h) (λ _. omega arith)
+  fits = by-cond (λ (n : ℕ). n ≤ length out) (leb (length text) (length out)) (length text) 0 (λ h. leb-true _ _ h) (λ _. omega arith)
 
   pub within-buffer : (r : ℕ) (after : List ℕ) → r ≡ printedLength text out → length after ≡ length out → r ≤ length after
   within-buffer r after e l = omega (arith, fits)

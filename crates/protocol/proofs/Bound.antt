@@ -6,11 +6,13 @@ use native.Mathlib.Omega.{arith}
 use native.Mathlib.Decide.{decLe, ℕ-discrete}
 use native.Mathlib.Nat.{mul-comm, suc-mul}
 use lib.Dec.{eqb, leb}
-use Rattle.votes.specs.Tests.{inl, inr, split, and-l, and-r, or-e, leb-le, eqb-eq, eqb-same}
-use Rattle.votes.specs.Quantify.{countTo, count-le}
-use Rattle.votes.specs.Mask.{has}
-use Rattle.votes.specs.Update.{upd, upd-other}
-use Rattle.votes.specs.Sizes.{count-new, count-mono}
+use mathlib.Core.Logic.{inl, inr}
+use borrow.Author.Tests.{leb-true, eqb-true}
+use Rattle.ground.specs.Tests.{split, and-l, and-r, or-e, eqb-same}
+use Rattle.ground.specs.Quantify.{countTo, count-le}
+use Rattle.ground.specs.Mask.{has}
+use Rattle.ground.specs.Update.{upd, upd-other}
+use Rattle.ground.specs.Sizes.{count-new, count-mono}
 use Rattle.model.specs.Routes.{voteRoute, ackRoute}
 use Rattle.model.specs.declared.Kind.the-variants.{Vote, Ack}
 use Rattle.protocol.specs.declared.Bench.{Bench}
@@ -33,7 +35,7 @@ count-other : (m k i : ℕ) (p : ℕ → Bool) → 1 ≤ i → i ≤ m → i ≤
 count-other m k i p a b c e h =
     let s : countTo m (upd p i true) ≡ suc (countTo m p) = count-new m p i a b e in
     let t : countTo m (upd p i true) ≤ k = count-below m k (upd p i true) (λ j x. elim (split (eqb j i)) [
-      | inl q ↦ rw (eqb-eq j i q) c
+      | inl q ↦ rw (eqb-true j i q) c
       | inr q ↦ h j (sym (upd-other p i true j q) ∙ x)
     ]) in omega arith
 
@@ -49,22 +51,22 @@ module _ (n f : ℕ) where
   vote-low : (i j : ℕ) → voteRoute f i j ≡ true → j ≤ suc f
   unfolding voteRoute
   vote-low i j e = elim (or-e (leb j f) (leb i f && eqb j (suc f)) (and-r (not (eqb i j)) _ e)) [
-    | inl q ↦ let h : j ≤ f = leb-le j f q in omega arith
-    | inr q ↦ let h : j ≡ suc f = eqb-eq j (suc f) (and-r (leb i f) _ q) in omega arith
+    | inl q ↦ let h : j ≤ f = leb-true j f q in omega arith
+    | inr q ↦ let h : j ≡ suc f = eqb-true j (suc f) (and-r (leb i f) _ q) in omega arith
   ]
 
   vote-high : (i j : ℕ) → f < i → voteRoute f i j ≡ true → j ≤ f
   unfolding voteRoute
   vote-high i j l e = elim (or-e (leb j f) (leb i f && eqb j (suc f)) (and-r (not (eqb i j)) _ e)) [
-    | inl q ↦ leb-le j f q
-    | inr q ↦ let h : i ≤ f = leb-le i f (and-l (leb i f) _ q) in absurd (omega arith)
+    | inl q ↦ leb-true j f q
+    | inr q ↦ let h : i ≤ f = leb-true i f (and-l (leb i f) _ q) in absurd (omega arith)
   ]
 
   ack-high : (i j : ℕ) → f < i → ackRoute f i j ≡ true → (i ≡ suc f) × (j ≤ f)
   unfolding ackRoute
   ack-high i j l e = elim (or-e (leb i f) (eqb i (suc f) && leb j f) (and-r (not (eqb i j)) _ e)) [
-    | inl q ↦ let h : i ≤ f = leb-le i f q in absurd (omega arith)
-    | inr q ↦ (eqb-eq i (suc f) (and-l (eqb i (suc f)) _ q), leb-le j f (and-r (eqb i (suc f)) _ q))
+    | inl q ↦ let h : i ≤ f = leb-true i f q in absurd (omega arith)
+    | inr q ↦ (eqb-true i (suc f) (and-l (eqb i (suc f)) _ q), leb-true j f (and-r (eqb i (suc f)) _ q))
   ]
 
   votes-one : (i : ℕ) → 1 ≤ i → i ≤ n → countTo n (voteRoute f i) ≤ f

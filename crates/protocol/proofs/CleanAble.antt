@@ -6,11 +6,13 @@ use mathlib.Core.Bool.{Bool, true, false, not, cond, _&&_, _||_, false≢true}
 use native.Mathlib.Omega.{arith}
 use lib.Dec.{eqb, leb}
 use lib.Bits.{bitOr}
-use Rattle.votes.specs.Tests.{inl, inr, no-both, split, by-cond, and-l, and-r, or-e, or-r, leb-le, le-leb, eqb-eq, eq-eqb}
-use Rattle.votes.specs.Mask.{has}
-use Rattle.votes.specs.MaskLaws.{has-or}
-use Rattle.votes.specs.Collect.{collect-at}
-use Rattle.votes.specs.Update.{upd-same, upd-other}
+use mathlib.Core.Logic.{inl, inr}
+use borrow.Author.Tests.{leb-true, le-leb, eqb-true, eq-eqb}
+use Rattle.ground.specs.Tests.{no-both, split, by-cond, and-l, and-r, or-e, or-r}
+use Rattle.ground.specs.Mask.{has}
+use Rattle.ground.specs.MaskLaws.{has-or}
+use Rattle.ground.specs.Collect.{collect-at}
+use Rattle.ground.specs.Update.{upd-same, upd-other}
 use Rattle.votes.specs.declared.VoteSet.{VoteSet}
 use Rattle.model.specs.Ranges.{limit, member, reachable}
 use Rattle.model.specs.Routes.{voteRoute, ackRoute, helpRoute, route, recipients}
@@ -56,8 +58,8 @@ not-self f Helped i j r = and-l _ _ r
 ack-from : (f i j : ℕ) → ackRoute f i j ≡ true → i ≤ suc f
 unfolding ackRoute
 ack-from f i j r = elim (or-e (leb i f) _ (and-r (not (eqb i j)) _ r)) [
-  | inl q ↦ let h : i ≤ f = leb-le i f q in omega arith
-  | inr q ↦ let h : i ≡ suc f = eqb-eq i (suc f) (and-l _ _ q) in omega arith
+  | inl q ↦ let h : i ≤ f = leb-true i f q in omega arith
+  | inr q ↦ let h : i ≡ suc f = eqb-true i (suc f) (and-l _ _ q) in omega arith
 ]
 
 module _ (n f : ℕ) where
@@ -118,7 +120,7 @@ module _ (n f : ℕ) where
   commit-going v p p′ i a g same h = record {
     opened = g .opened;
     able = λ k lo hi. elim (split (eqb k i)) [
-      | inl e ↦ rw (eqb-eq k i e, upd-same (v .ctl) i (a .controller), upd-same (v .world .sent) i (sentAfter (v .world .sent i) a)) h
+      | inl e ↦ rw (eqb-true k i e, upd-same (v .ctl) i (a .controller), upd-same (v .world .sent) i (sentAfter (v .world .sent i) a)) h
       | inr e ↦ rw (upd-other (v .ctl) i (a .controller) k e, upd-other (v .world .sent) i (sentAfter (v .world .sent i) a) k e, same k (λ q. no-both _ (eq-eqb k i q) e)) (g .able k lo hi)
     ];
   }

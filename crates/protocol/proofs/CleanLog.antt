@@ -5,8 +5,10 @@ use mathlib.Core.Bool.{Bool, true, false, not, _&&_, _||_, cond}
 use mathlib.Core.List.{List, [], _∷_}
 use native.Mathlib.Omega.{arith}
 use lib.Dec.{leb}
-use Rattle.votes.specs.Tests.{_⊎_, inl, inr, no-both, split, and-i, or-r, leb-le}
-use Rattle.votes.specs.Quantify.{allTo, all-of}
+use mathlib.Core.Logic.{_⊎_, inl, inr}
+use borrow.Author.Tests.{leb-true}
+use Rattle.ground.specs.Tests.{refuted, no-both, split, and-i, or-r}
+use Rattle.ground.specs.Quantify.{allTo, all-of}
 use Rattle.votes.specs.VoteSets.{knows, complete, unanimous}
 use Rattle.votes.specs.VoteLaws.{knows-in-all, knows-complete}
 use Rattle.model.specs.Routes.{voteRoute, ackRoute}
@@ -21,7 +23,7 @@ use Rattle.protocol.specs.Controllers.{runs, phase, outcome, hasAck, ack
 use Rattle.protocol.specs.Rules.{verdict, ackJoin, backupsComplete, secondKnows, decides, frozen, laidDown, secondTimeout}
 use Rattle.protocol.proofs.View.{View, accepts, stepV}
 use Rattle.protocol.proofs.Invariant.{willBy, ackOn, OkSheet, AllWilling, HeldAck, Inv}
-use Rattle.protocol.proofs.TrueSheets.{not-true, move-all, all-move}
+use Rattle.protocol.proofs.TrueSheets.{move-all, all-move}
 use Rattle.protocol.proofs.Settle.{acks-true}
 
 abbrev pub In : Event → List Event → Type 0
@@ -111,7 +113,7 @@ module _ (n f : ℕ) where
         (all-of f (λ j. hasAck c j && complete n (ackOf c j)) (λ j a h. and-i (hasAck c j) (complete n (ackOf c j)) (held j a h) (rw (fact j (held j a h) .copy) (knows-complete n (ackOn (L j)) (whole j a h)))))
         (elim (split (leb i f)) [
           | inr e ↦ rw e
-          | inl e ↦ let s : (hasAck c (suc f) ≡ true) × ((k : ℕ) → 1 ≤ k → k ≤ f → knows (ackOn (L (suc f))) k ≡ true) = second (leb-le i f e) in
+          | inl e ↦ let s : (hasAck c (suc f) ≡ true) × ((k : ℕ) → 1 ≤ k → k ≤ f → knows (ackOn (L (suc f))) k ≡ true) = second (leb-true i f e) in
               or-r (not (leb i f)) _ (and-i (hasAck c (suc f)) (complete f (ackOf c (suc f))) (s .0) (rw (fact (suc f) (s .0) .copy) (knows-complete f (ackOn (L (suc f))) (s .1))))
         ])
 
@@ -133,4 +135,4 @@ module _ (n f : ℕ) where
     decides-move w = concludes ∙ ap wordOf (all-move L n f (ackJoin n c) join-ok w (knows-complete n (ackJoin n c) join-known))
 
     pub decides-stay : (k : ℕ) → 1 ≤ k → k ≤ n → willBy k (L k) ≡ false → outcome ((secondTimeout n f i c) .controller) ≡ wordOf false
-    decides-stay k x y e = concludes ∙ ap wordOf (not-true (unanimous n (ackJoin n c)) (λ m. no-both (willBy k (L k)) (move-all L n f (ackJoin n c) join-ok m k x y .1) e))
+    decides-stay k x y e = concludes ∙ ap wordOf (refuted (unanimous n (ackJoin n c)) (λ m. no-both (willBy k (L k)) (move-all L n f (ackJoin n c) join-ok m k x y .1) e))

@@ -5,7 +5,8 @@ use mathlib.Core.Bool.{Bool, true, cond}
 use mathlib.Core.List.{List, [], _∷_}
 use native.Mathlib.Omega.{arith}
 use native.Mathlib.Decide.{ℕ-discrete}
-use Rattle.votes.specs.Tests.{inl, inr, no-both, by-cond}
+use mathlib.Core.Logic.{inl, inr}
+use Rattle.ground.specs.Tests.{no-both, by-cond}
 use Rattle.model.specs.Routes.{route}
 use Rattle.model.specs.declared.Kind.{Kind}
 use Rattle.model.specs.declared.Event.{Event}

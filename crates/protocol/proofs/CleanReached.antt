@@ -5,7 +5,7 @@ use mathlib.Core.Bool.{Bool, true, false≢true}
 use mathlib.Core.List.{List, [], _∷_, _++_}
 use native.Mathlib.Omega.{arith}
 use lib.ListN.{replicate}
-use Rattle.votes.specs.Tests.{by-cond}
+use Rattle.ground.specs.Tests.{by-cond}
 use Rattle.votes.specs.VoteSets.{empty}
 use Rattle.model.specs.Ranges.{sizes}
 use Rattle.model.specs.declared.Kind.{Kind}

@@ -4,8 +4,8 @@ use mathlib.Core.Path.{_≡_, refl, sym, _∙_}
 use mathlib.Core.Bool.{Bool, true, false, cond}
 use native.Mathlib.Omega.{arith}
 use lib.Dec.{leb}
-use borrow.Author.Tests.{lt-leb}
-use Rattle.votes.specs.Tests.{same-test, leb-le, le-leb}
+use borrow.Author.Tests.{lt-leb, leb-true, le-leb}
+use Rattle.ground.specs.Tests.{same-test}
 use Rattle.model.specs.Ranges.{sizes}
 use Rattle.model.specs.declared.Kind.the-variants.{Vote, Ack}
 use Rattle.model.specs.declared.Event.the-variants.{Timeout}
@@ -27,7 +27,7 @@ high-is : (m k : ℕ) (x y : ℕ → ℕ) → m < k → upTo m x y k ≡ y k
 high-is m k x y h = rw (lt-leb k m h)
 
 one-up : (m k : ℕ) (x y : ℕ → ℕ) → (k ≡ suc m → ⊥) → upTo (suc m) x y k ≡ upTo m x y k
-one-up m k x y d = rw (same-test (leb k (suc m)) (leb k m) (λ e. le-leb k m (let h : k ≤ suc m = leb-le k (suc m) e in omega arith)) (λ e. le-leb k (suc m) (let h : k ≤ m = leb-le k m e in omega arith)))
+one-up m k x y d = rw (same-test (leb k (suc m)) (leb k m) (λ e. le-leb k m (let h : k ≤ suc m = leb-true k (suc m) e in omega arith)) (λ e. le-leb k (suc m) (let h : k ≤ m = leb-true k m e in omega arith)))
 
 module _ (n f : ℕ) (sized : sizes n f ≡ true) where
   abbrev casting : ℕ → ℕ → ℕ

@@ -3,8 +3,10 @@ use Prim.Native.Nat.{ℕ}
 use mathlib.Core.Path.{_≡_, refl}
 use mathlib.Core.Bool.{Bool, true, false, _||_, cond, false≢true}
 use lib.Dec.{eqb}
-use Rattle.votes.specs.Tests.{inl, inr, split, eqb-eq, or-e, or-l}
-use Rattle.votes.specs.Update.{upd, upd-same, upd-other, upd-all}
+use mathlib.Core.Logic.{inl, inr}
+use borrow.Author.Tests.{eqb-true}
+use Rattle.ground.specs.Tests.{split, or-e, or-l}
+use Rattle.ground.specs.Update.{upd, upd-same, upd-other, upd-all}
 use Rattle.model.specs.Numbers.{isMove, isStay}
 use Rattle.protocol.specs.declared.Controller.{Controller}
 use Rattle.protocol.specs.declared.Answer.{Answer}
@@ -24,7 +26,7 @@ grows-upd L i l g = upd-all (λ k x. Grown k (L k) x) L i l g (λ k. grown-refl 
 -- two functions changed at one place
 pub upd-all₂ : {A B : Type 0} (P : ℕ → A → B → Type 0) (f : ℕ → A) (g : ℕ → B) (i : ℕ) (a : A) (b : B) → P i a b → ((k : ℕ) → P k (f k) (g k)) → (k : ℕ) → P k (upd f i a k) (upd g i b k)
 upd-all₂ P f g i a b here there k = elim (split (eqb k i)) [
-  | inl e ↦ rw (eqb-eq k i e, upd-same f i a, upd-same g i b) here
+  | inl e ↦ rw (eqb-true k i e, upd-same f i a, upd-same g i b) here
   | inr e ↦ rw (upd-other f i a k e, upd-other g i b k e) (there k)
 ]
 

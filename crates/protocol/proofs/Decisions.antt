@@ -4,11 +4,12 @@ use mathlib.Core.Path.{_≡_, refl, sym, _∙_, ap}
 use mathlib.Core.Bool.{Bool, true, false, cond, true≢false, false≢true}
 use native.Mathlib.Omega.{arith}
 use lib.ListN.{length}
-use Rattle.votes.specs.Tests.{inr, no-both, by-cond}
-use Rattle.votes.specs.Quantify.{countTo}
-use Rattle.votes.specs.Mask.{has}
-use Rattle.votes.specs.MaskLaws.{has-none}
-use Rattle.votes.specs.Update.{upd-all}
+use mathlib.Core.Logic.{inr}
+use Rattle.ground.specs.Tests.{no-both, by-cond}
+use Rattle.ground.specs.Quantify.{countTo}
+use Rattle.ground.specs.Mask.{has}
+use Rattle.ground.specs.MaskLaws.{has-none}
+use Rattle.ground.specs.Update.{upd-all}
 use Rattle.votes.specs.VoteSets.{empty}
 use Rattle.model.specs.Numbers.{wordOf}
 use Rattle.model.specs.declared.Checkpoint.{Checkpoint}

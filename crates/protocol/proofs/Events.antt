@@ -6,12 +6,14 @@ use native.Mathlib.Omega.{arith}
 use lib.Bits.{bitOr}
 use lib.Dec.{leb, eqb}
 use lib.ListN.{length}
-use Rattle.votes.specs.Tests.{inl, inr, no-both, split, by-cond, and-l, and-r, or-e, or-l, or-r, not-t, leb-le, le-leb, eqb-eq, eqb-same}
-use Rattle.votes.specs.Quantify.{countTo}
-use Rattle.votes.specs.Mask.{has, insert}
-use Rattle.votes.specs.MaskLaws.{has-none, has-or, insert-own}
-use Rattle.votes.specs.Collect.{has-collect}
-use Rattle.votes.specs.Update.{upd, upd-same}
+use mathlib.Core.Logic.{inl, inr}
+use borrow.Author.Tests.{not-true, leb-true, le-leb, eqb-true}
+use Rattle.ground.specs.Tests.{no-both, split, by-cond, and-l, and-r, or-e, or-l, or-r, eqb-same}
+use Rattle.ground.specs.Quantify.{countTo}
+use Rattle.ground.specs.Mask.{has, insert}
+use Rattle.ground.specs.MaskLaws.{has-none, has-or, insert-own}
+use Rattle.ground.specs.Collect.{has-collect}
+use Rattle.ground.specs.Update.{upd, upd-same}
 use Rattle.votes.specs.VoteSets.{knows, single}
 use Rattle.votes.specs.VoteLaws.{single-knows, single-wills, join-knows}
 use Rattle.votes.specs.declared.VoteSet.{VoteSet}
@@ -104,7 +106,7 @@ module _ (n f : ℕ) (small : n ≤ limit) (b : View) (inv : Inv n f b) (i : ℕ
 
   given : (x : Checkpoint) → (x .order ≡ b .order → (v : Bool) → x .outcome ≡ wordOf v → OutEv n f L (b .world .decision) v)
       → (v : Bool) → cond (eqb (x .order) (b .order)) (x .outcome) None ≡ wordOf v → OutEv n f L (b .world .decision) v
-  given x h v = by-cond (λ (o : Outcome). o ≡ wordOf v → OutEv n f L (b .world .decision) v) (eqb (x .order) (b .order)) (x .outcome) None (λ e. h (eqb-eq _ _ e) v) (λ e. none-word v)
+  given x h v = by-cond (λ (o : Outcome). o ≡ wordOf v → OutEv n f L (b .world .decision) v) (eqb (x .order) (b .order)) (x .outcome) None (λ e. h (eqb-true _ _ e) v) (λ e. none-word v)
 
   from-card : (s : Saved) → (cardOrder s ≡ b .order → (v : Bool) → cardOutcome s ≡ wordOf v → OutEv n f L (b .world .decision) v) → Fits n f b i (restoreFrom (memberV n f b i) s c)
   unfolding restoreFrom restore
@@ -118,7 +120,7 @@ module _ (n f : ℕ) (small : n ≤ limit) (b : View) (inv : Inv n f b) (i : ℕ
   pub vote-in-fits : (j : ℕ) → Fits n f b i (voteArrives ((L j) .vote .votes) c)
   unfolding voteArrives learn
   vote-in-fits j = by-cond (Fits n f b i) (leb (phase c) 1) _ _
-      (λ e. let h : phase c ≤ 1 = leb-le (phase c) 1 e in let o : Own n f i c l = inv .owns i in let k : CtlOk n f L (b .world .decision) i c = inv .ctls i in quiet-fits n f b inv i _
+      (λ e. let h : phase c ≤ 1 = leb-true (phase c) 1 e in let o : Own n f i c l = inv .owns i in let k : CtlOk n f L (b .world .decision) i c = inv .ctls i in quiet-fits n f b inv i _
       (record {
         fresh0 = o .fresh0;
         fresh1 = o .fresh1;
@@ -144,15 +146,15 @@ module _ (n f : ℕ) (small : n ≤ limit) (b : View) (inv : Inv n f b) (i : ℕ
   unfolding ackArrives
   ack-in-fits f<n lo hi j a h v = by-cond (Fits n f b i) (not (hasAck c j) && (leb (phase c) 2 || c .waiting)) _ _
       (λ e. settle-fits n f f<n b inv i _ (quiet-fits n f b inv i _
-      (own-ack-kept n f small i c l j (ackOn (L j)) a h (not-t (hasAck c j) (and-l (not (hasAck c j)) _ e)) (inv .owns i))
+      (own-ack-kept n f small i c l j (ackOn (L j)) a h (not-true (hasAck c j) (and-l (not (hasAck c j)) _ e)) (inv .owns i))
       (ctl-ack-kept n f small L (b .world .decision) i c j (ackOn (L j)) a h (let q : n ≤ length (c .acks) = inv .owns i .room lo hi in omega arith)
       (record { acked = inv .lines j .ack-to i v .0; copy = refl; backup = backup (inv .lines j .ack-to i v .1) }) (inv .ctls i))))
       (λ e. passed-fits n f b inv i)
     where
       backup : ackRoute f j i ≡ true → f < i → j ≤ f
       backup r h = unfold ackRoute in elim (or-e (leb j f) (eqb j (suc f) && leb i f) (and-r (not (eqb j i)) _ r)) [
-        | inl q ↦ leb-le j f q
-        | inr q ↦ let z : i ≤ f = leb-le i f (and-r (eqb j (suc f)) (leb i f) q) in absurd (omega arith)
+        | inl q ↦ leb-true j f q
+        | inr q ↦ let z : i ≤ f = leb-true i f (and-r (eqb j (suc f)) (leb i f) q) in absurd (omega arith)
       ]
 
   -- a help answer arrives
@@ -160,13 +162,13 @@ module _ (n f : ℕ) (small : n ≤ limit) (b : View) (inv : Inv n f b) (i : ℕ
   unfolding helpedArrives
   helped-in-fits f<n j a h far v = by-cond (Fits n f b i) (not (hasHelped c j) && c .waiting) _ _
       (λ e. let y : fixedBy j (L j) ≡ true = inv .lines j .helped-to i v in settle-fits n f f<n b inv i _ (quiet-fits n f b inv i _
-      (own-help-kept n f small i c l j (helpOn (L j)) a h (late (and-r (not (hasHelped c j)) (c .waiting) e)) (not-t (hasHelped c j) (and-l (not (hasHelped c j)) (c .waiting) e)) (inv .owns i))
+      (own-help-kept n f small i c l j (helpOn (L j)) a h (late (and-r (not (hasHelped c j)) (c .waiting) e)) (not-true (hasHelped c j) (and-l (not (hasHelped c j)) (c .waiting) e)) (inv .owns i))
       (ctl-help-kept n f small L (b .world .decision) i c j a h y far (inv .lines j .help-ok y) (inv .ctls i))))
       (λ e. passed-fits n f b inv i)
     where
       late : c .waiting ≡ true → 3 ≤ phase c
       late w = elim (split (leb (phase c) 2)) [
-        | inl e ↦ absurd (no-both (c .waiting) w (inv .owns i .idle (leb-le (phase c) 2 e)))
+        | inl e ↦ absurd (no-both (c .waiting) w (inv .owns i .idle (leb-true (phase c) 2 e)))
         | inr e ↦ above (phase c) e
       ]
         where
@@ -240,7 +242,7 @@ module _ (n f : ℕ) (small : n ≤ limit) (b : View) (inv : Inv n f b) (i : ℕ
   pub help-in-fits : (j : ℕ) → Fits n f b i (helpArrives j c)
   unfolding helpArrives
   help-in-fits j = by-cond (Fits n f b i) (eqb (phase c) 3 && not (has (c .help .to) j)) (answering j) (passed c)
-      (λ e. answering-fits j (eqb-eq (phase c) 3 (and-l (eqb (phase c) 3) _ e))) (λ e. passed-fits n f b inv i)
+      (λ e. answering-fits j (eqb-true (phase c) 3 (and-l (eqb (phase c) 3) _ e))) (λ e. passed-fits n f b inv i)
 
   -- the own vote
   module _ (w : Bool) (t : ℕ) (lo : 1 ≤ i) (hi : i ≤ n) (r : runs c ≡ true) (st : phase c ≡ 0) where
@@ -270,7 +272,7 @@ module _ (n f : ℕ) (small : n ≤ limit) (b : View) (inv : Inv n f b) (i : ℕ
           ack-to = z .ack-to;
           helped-to = z .helped-to;
           vote-within = λ k e. single-knows i w k lo (omega arith) ∙ and-r w (eqb k i) (sym (single-wills i w k lo (omega arith)) ∙ e);
-          vote-only = λ k e. eqb-eq k i (sym (single-knows i w k lo (omega arith)) ∙ e);
+          vote-only = λ k e. eqb-true k i (sym (single-knows i w k lo (omega arith)) ∙ e);
         }
 
     pub vote-fits : Fits n f b i (voteRule n f i w t c)
@@ -334,7 +336,7 @@ module _ (n f : ℕ) (small : n ≤ limit) (b : View) (inv : Inv n f b) (i : ℕ
 
     first-own : Own n f i c₁ l
     unfolding countOwn
-    first-own = by-cond (λ (x : Controller). Own n f i x l) (isBackup f i && not (hasAck c i)) (keepAck c i (c .votes)) c (λ e. own-ack-kept n f small i c l i (c .votes) lo hi (not-t (hasAck c i) (and-r (isBackup f i) _ e)) (inv .owns i)) (λ e. inv .owns i)
+    first-own = by-cond (λ (x : Controller). Own n f i x l) (isBackup f i && not (hasAck c i)) (keepAck c i (c .votes)) c (λ e. own-ack-kept n f small i c l i (c .votes) lo hi (not-true (hasAck c i) (and-r (isBackup f i) _ e)) (inv .owns i)) (λ e. inv .owns i)
 
     first-ack : i ≤ f → hasAck c₁ i ≡ true
     unfolding countOwn keepAck
@@ -361,7 +363,7 @@ module _ (n f : ℕ) (small : n ≤ limit) (b : View) (inv : Inv n f b) (i : ℕ
     first-ctl : CtlOk n f (upd L i la) (b .world .decision) i c₁
     unfolding countOwn
     first-ctl = by-cond (λ (x : Controller). CtlOk n f (upd L i la) (b .world .decision) i x) (isBackup f i && not (hasAck c i)) (keepAck c i (c .votes)) c
-        (λ e. ctl-ack-kept n f small (upd L i la) (b .world .decision) i c i (c .votes) lo hi (let q : n ≤ length (c .acks) = inv .owns i .room lo hi in omega arith) (first-held (leb-le i f (and-l (isBackup f i) _ e))) first-old) (λ e. first-old)
+        (λ e. ctl-ack-kept n f small (upd L i la) (b .world .decision) i c i (c .votes) lo hi (let q : n ≤ length (c .acks) = inv .owns i .room lo hi in omega arith) (first-held (leb-true i f (and-l (isBackup f i) _ e))) first-old) (λ e. first-old)
 
     pub first-fits : Fits n f b i (firstTimeout n f i c)
     unfolding firstTimeout sentAfter advance

@@ -4,7 +4,8 @@ use mathlib.Core.Path.{_≡_, refl, sym, _∙_}
 use mathlib.Core.Bool.{Bool, true, false}
 use native.Mathlib.Omega.{arith}
 use native.Mathlib.Decide.{decLe}
-use Rattle.votes.specs.Tests.{_⊎_, inl, inr, no-both}
+use mathlib.Core.Logic.{_⊎_, inl, inr}
+use Rattle.ground.specs.Tests.{no-both}
 use Rattle.votes.specs.VoteSets.{knows, wills, unanimous}
 use Rattle.votes.specs.VoteLaws.{unanimous-known}
 use Rattle.model.specs.declared.Outcome.the-variants.{Stay, Move}

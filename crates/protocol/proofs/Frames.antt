@@ -3,8 +3,9 @@ use Prim.Native.Nat.{ℕ}
 use mathlib.Core.Path.{_≡_, refl, sym, _∙_, ap}
 use mathlib.Core.Bool.{Bool, true, false, not, _&&_, _||_, true≢false, false≢true}
 use lib.Dec.{leb, eqb, ltb}
-use Rattle.votes.specs.Tests.{_⊎_, inl, inr, by-cond, and-l, and-r}
-use Rattle.votes.specs.Mask.{has, insert}
+use mathlib.Core.Logic.{_⊎_, inl, inr}
+use Rattle.ground.specs.Tests.{by-cond, and-l, and-r}
+use Rattle.ground.specs.Mask.{has, insert}
 use Rattle.votes.specs.VoteSets.{unanimous}
 use Rattle.votes.specs.declared.VoteSet.{VoteSet}
 use Rattle.model.specs.Ranges.{isBackup}

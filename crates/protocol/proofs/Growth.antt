@@ -2,7 +2,7 @@
 use Prim.Native.Nat.{ℕ, suc}
 use mathlib.Core.Path.{_≡_, sym, _∙_}
 use mathlib.Core.Bool.{Bool, true, false}
-use Rattle.votes.specs.Tests.{inl, inr}
+use mathlib.Core.Logic.{inl, inr}
 use Rattle.votes.specs.VoteSets.{knows}
 use Rattle.votes.specs.declared.VoteSet.{VoteSet}
 use Rattle.model.specs.Numbers.{wordOf}

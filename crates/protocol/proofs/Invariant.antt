@@ -3,9 +3,9 @@ use Prim.Native.Nat.{ℕ, suc, _≤_, _<_}
 use mathlib.Core.Path.{_≡_}
 use mathlib.Core.Bool.{Bool, true, false, cond}
 use lib.ListN.{length}
-use Rattle.votes.specs.Tests.{_⊎_}
-use Rattle.votes.specs.Quantify.{countTo}
-use Rattle.votes.specs.Mask.{has}
+use mathlib.Core.Logic.{_⊎_}
+use Rattle.ground.specs.Quantify.{countTo}
+use Rattle.ground.specs.Mask.{has}
 use Rattle.votes.specs.VoteSets.{knows, wills, unanimous}
 use Rattle.votes.specs.declared.VoteSet.{VoteSet}
 use Rattle.model.specs.Numbers.{wordOf}

@@ -4,14 +4,15 @@ use mathlib.Core.Path.{_≡_, sym, _∙_, ap}
 use mathlib.Core.Bool.{true, false}
 use native.Mathlib.Omega.{arith}
 use lib.ListN.{length}
-use Rattle.votes.specs.Tests.{or-l, or-r, ltb-yes}
-use Rattle.votes.specs.Quantify.{countTo, count-le}
-use Rattle.votes.specs.Mask.{has}
-use Rattle.votes.specs.MaskLaws.{has-insert, insert-is, insert-keeps}
-use Rattle.votes.specs.Update.{upd-all}
-use Rattle.votes.specs.Sizes.{insert-size}
-use Rattle.votes.specs.ListLaws.{nth-put, length-put}
-use Rattle.votes.specs.VoteSets.{empty, wills, join, nth}
+use borrow.Author.Tests.{lt-ltb}
+use Rattle.ground.specs.Tests.{or-l, or-r}
+use Rattle.ground.specs.Quantify.{countTo, count-le}
+use Rattle.ground.specs.Mask.{has}
+use Rattle.ground.specs.MaskLaws.{has-insert, insert-is, insert-keeps}
+use Rattle.ground.specs.Update.{upd-all}
+use Rattle.ground.specs.Sizes.{insert-size}
+use Rattle.ground.specs.Lists.{nth-put, length-put, nth}
+use Rattle.votes.specs.VoteSets.{empty, wills, join}
 use Rattle.votes.specs.VoteLaws.{join-wills}
 use Rattle.votes.specs.declared.VoteSet.{VoteSet}
 use Rattle.model.specs.Ranges.{limit}
@@ -25,7 +26,7 @@ use Rattle.protocol.proofs.Commit.{upd-all₂}
 
 -- a byte counts the senders of a lock
 bumped : (n k m : ℕ) → n ≤ limit → k ≡ countTo n (has m) → bump k ≡ suc k
-bumped n k m s e = let h : countTo n (has m) ≤ n = count-le n (has m) in rw (ltb-yes k 255 (omega arith))
+bumped n k m s e = let h : countTo n (has m) ≤ n = count-le n (has m) in rw (lt-ltb k 255 (omega arith))
 
 module _ (n f : ℕ) (small : n ≤ limit) where
   pub own-ack-kept : (i : ℕ) (c : Controller) (l : Sent) (j : ℕ) (s : VoteSet) → 1 ≤ j → j ≤ n → hasAck c j ≡ false → Own n f i c l → Own n f i (keepAck c j s) l

@@ -3,9 +3,11 @@ use Prim.Native.Nat.{ℕ, suc, _≤_}
 use mathlib.Core.Path.{_≡_, refl, sym, _∙_}
 use mathlib.Core.Bool.{Bool, true, false, not, _&&_, _||_, cond, false≢true}
 use lib.Dec.{leb, eqb, ltb}
-use Rattle.votes.specs.Tests.{_⊎_, inl, inr, no-both, by-cond, and-l, and-r, or-l, leb-le, eqb-eq}
-use Rattle.votes.specs.MaskLaws.{insert-keeps}
-use Rattle.votes.specs.Mask.{has, insert}
+use mathlib.Core.Logic.{_⊎_, inl, inr}
+use borrow.Author.Tests.{leb-true, eqb-true}
+use Rattle.ground.specs.Tests.{no-both, by-cond, and-l, and-r, or-l}
+use Rattle.ground.specs.MaskLaws.{insert-keeps}
+use Rattle.ground.specs.Mask.{has, insert}
 use Rattle.votes.specs.VoteSets.{knows, single}
 use Rattle.votes.specs.VoteLaws.{join-knows}
 use Rattle.votes.specs.declared.VoteSet.{VoteSet}
@@ -172,11 +174,11 @@ module _ (n f : ℕ) where
   unfolding performV accepts firstNo member timeoutRule
   perform-tame s b (Lock a c) g q = absurd g
   perform-tame s b (Order o) g q = absurd g
-  perform-tame s b (Cast i w t) g q = commit-tame _ b i _ (vote-live s i w t _ _ (search (ask-l, ask-r, and-l, and-r) depth 14) (eqb-eq _ _ (search (ask-l, ask-r, and-l, and-r) depth 14)))
-  perform-tame s b (Deliver i j k) g q = commit-tame _ b j _ (arrives-live s _ k i j _ _ _ (leb-le _ _ (search (ask-l, ask-r, and-l, and-r) depth 14)) (leb-le _ _ (search (ask-l, ask-r, and-l, and-r) depth 14)))
+  perform-tame s b (Cast i w t) g q = commit-tame _ b i _ (vote-live s i w t _ _ (search (ask-l, ask-r, and-l, and-r) depth 14) (eqb-true _ _ (search (ask-l, ask-r, and-l, and-r) depth 14)))
+  perform-tame s b (Deliver i j k) g q = commit-tame _ b j _ (arrives-live s _ k i j _ _ _ (leb-true _ _ (search (ask-l, ask-r, and-l, and-r) depth 14)) (leb-true _ _ (search (ask-l, ask-r, and-l, and-r) depth 14)))
   perform-tame s b (Timeout i) g q = commit-tame (Timeout i) b i _ (by-cond (Acts (Timeout i) i (b .ctl i) (b .world .sent i)) (eqb (phase (b .ctl i)) 1) _ _
-      (λ e. first-live s i _ _ (leb-le _ _ (search (ask-l, ask-r, and-l, and-r) depth 14)) (leb-le _ _ (search (ask-l, ask-r, and-l, and-r) depth 14)) (search (ask-l, ask-r, and-l, and-r) depth 14) (eqb-eq _ _ e))
-      (λ e. second-live i _ _ (search (ask-l, ask-r, and-l, and-r) depth 14) (eqb-eq _ _ (second (eqb (phase (b .ctl i)) 1) _ e (search (ask-l, ask-r, and-l, and-r) depth 14)))))
+      (λ e. first-live s i _ _ (leb-true _ _ (search (ask-l, ask-r, and-l, and-r) depth 14)) (leb-true _ _ (search (ask-l, ask-r, and-l, and-r) depth 14)) (search (ask-l, ask-r, and-l, and-r) depth 14) (eqb-true _ _ e))
+      (λ e. second-live i _ _ (search (ask-l, ask-r, and-l, and-r) depth 14) (eqb-true _ _ (second (eqb (phase (b .ctl i)) 1) _ e (search (ask-l, ask-r, and-l, and-r) depth 14)))))
   perform-tame s b (Decide i w) g q = decide-tame b i w
   perform-tame s b (Stop i) g q = absurd g
   perform-tame s b (Save i) g q = save-tame b i

@@ -4,7 +4,8 @@ use mathlib.Core.Path.{_≡_, refl, sym, _∙_, ap, subst}
 use mathlib.Core.Bool.{Bool, true, false, not, _||_, cond, true≢false, false≢true}
 use mathlib.Core.List.{List, [], _∷_, _++_}
 use native.Mathlib.Omega.{arith}
-use Rattle.votes.specs.Tests.{_⊎_, inl, inr, no-both, split, by-cond}
+use mathlib.Core.Logic.{_⊎_, inl, inr}
+use Rattle.ground.specs.Tests.{no-both, split, by-cond}
 use Rattle.model.specs.Ranges.{sizes}
 use Rattle.model.specs.declared.Event.{Event}
 use Rattle.model.specs.declared.Event.the-variants.{Lock, Order, Cast, Deliver, Timeout, Decide, Stop, Save, Restore}

@@ -5,12 +5,14 @@ use mathlib.Core.Bool.{Bool, true, not, false≢true}
 use mathlib.Core.List.{List, [], _∷_, _++_}
 use native.Mathlib.Omega.{arith}
 use lib.Dec.{eqb}
-use Rattle.votes.specs.Tests.{_⊎_, inl, inr, no-both, split, by-cond, and-l, and-r, leb-le, eqb-eq}
-use Rattle.votes.specs.MaskLaws.{has-none}
-use Rattle.votes.specs.Mask.{has, width}
+use mathlib.Core.Logic.{_⊎_, inl, inr}
+use borrow.Author.Tests.{leb-true, eqb-true}
+use Rattle.ground.specs.Tests.{no-both, split, by-cond, and-l, and-r}
+use Rattle.ground.specs.MaskLaws.{has-none}
+use Rattle.ground.specs.Mask.{has, width}
 use Rattle.votes.specs.VoteSets.{wills, single}
 use Rattle.votes.specs.VoteLaws.{single-wills}
-use Rattle.votes.specs.Update.{upd, upd-all, upd-same, upd-other}
+use Rattle.ground.specs.Update.{upd, upd-all, upd-same, upd-other}
 use Rattle.model.specs.Ranges.{limit, member}
 use Rattle.model.specs.Numbers.{wordOf, isNone}
 use Rattle.model.specs.declared.Event.{Event}
@@ -61,7 +63,7 @@ module _ (n f : ℕ) where
     voted = λ k x. (
       refl,
       cast w q k (elim (split (eqb k i)) [
-        | inl e ↦ inl (eqb-eq k i e, willing w (sym (ap (λ (l : Sent). willBy i l) (upd-same (b .world .sent) i _)) ∙ (rw (eqb-eq k i e) at x) .1))
+        | inl e ↦ inl (eqb-true k i e, willing w (sym (ap (λ (l : Sent). willBy i l) (upd-same (b .world .sent) i _)) ∙ (rw (eqb-true k i e) at x) .1))
         | inr e ↦ inr (rw (upd-other (b .world .sent) i _ k e) at x)
       ]),
     );
@@ -95,7 +97,7 @@ module _ (n f : ℕ) where
 
   later : (b : View) (o : ℕ) → accepts n f b (Order o) ≡ true → b .order < o
   unfolding accepts firstNo
-  later b o q = leb-le _ _ (search (ask-l, ask-r, and-l, and-r) depth 14)
+  later b o q = leb-true _ _ (search (ask-l, ask-r, and-l, and-r) depth 14)
 
   record Ran (b : View) (i : ℕ) : Type 0 where
     lo : 1 ≤ i
@@ -104,7 +106,7 @@ module _ (n f : ℕ) where
 
   vote-ran : (b : View) (i : ℕ) (w : Bool) (t : ℕ) → accepts n f b (Cast i w t) ≡ true → Ran b i
   unfolding accepts firstNo member
-  vote-ran b i w t q = record { lo = leb-le _ _ (search (ask-l, ask-r, and-l, and-r) depth 14); hi = leb-le _ _ (search (ask-l, ask-r, and-l, and-r) depth 14); runs = (search (ask-l, ask-r, and-l, and-r) depth 14) }
+  vote-ran b i w t q = record { lo = leb-true _ _ (search (ask-l, ask-r, and-l, and-r) depth 14); hi = leb-true _ _ (search (ask-l, ask-r, and-l, and-r) depth 14); runs = (search (ask-l, ask-r, and-l, and-r) depth 14) }
 
   timeout-ran : (b : View) (i : ℕ) → accepts n f b (Timeout i) ≡ true → runs (b .ctl i) ≡ true
   unfolding accepts firstNo

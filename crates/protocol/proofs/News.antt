@@ -4,10 +4,12 @@ use mathlib.Core.Path.{_≡_, refl, sym, _∙_}
 use mathlib.Core.Bool.{Bool, true, false, not, _&&_, _||_, cond, false≢true}
 use native.Mathlib.Omega.{arith}
 use lib.Dec.{leb, eqb, ltb}
-use Rattle.votes.specs.Tests.{_⊎_, inl, inr, split, by-cond, and-l, and-r, or-r, or-e, leb-le, le-leb, eqb-eq, eqb-same}
-use Rattle.votes.specs.MaskLaws.{insert-own}
-use Rattle.votes.specs.Mask.{width, has}
-use Rattle.votes.specs.Update.{upd-same}
+use mathlib.Core.Logic.{_⊎_, inl, inr}
+use borrow.Author.Tests.{leb-true, le-leb, eqb-true}
+use Rattle.ground.specs.Tests.{split, by-cond, and-l, and-r, or-r, or-e, eqb-same}
+use Rattle.ground.specs.MaskLaws.{insert-own}
+use Rattle.ground.specs.Mask.{width, has}
+use Rattle.ground.specs.Update.{upd-same}
 use Rattle.votes.specs.VoteSets.{knows}
 use Rattle.votes.specs.VoteLaws.{single-knows, single-wills, join-knows}
 use Rattle.votes.specs.declared.VoteSet.{VoteSet}
@@ -151,21 +153,21 @@ module _ (n f : ℕ) where
   perform-new s b (Lock a c) inv q = tt
   perform-new s b (Order o) inv q = tt
   perform-new s b (Cast i w t) inv q =
-      let lo : 1 ≤ i = leb-le _ _ (search (ask-l, ask-r, and-l, and-r) depth 14) in let hi : i ≤ n = leb-le _ _ (search (ask-l, ask-r, and-l, and-r) depth 14) in
+      let lo : 1 ≤ i = leb-true _ _ (search (ask-l, ask-r, and-l, and-r) depth 14) in let hi : i ≤ n = leb-true _ _ (search (ask-l, ask-r, and-l, and-r) depth 14) in
       record { cast = told-after b i w t lo (omega arith) .0; will = told-after b i w t lo (omega arith) .1; ran = (search (ask-l, ask-r, and-l, and-r) depth 14); begun = begun-after b i w t }
   perform-new s b (Deliver i j Vote) inv q =
       let sent : has ((b .world .sent i) .vote .to) j ≡ true = (search (ask-l, ask-r, and-l, and-r) depth 14) in
       record { ran = (search (ask-l, ask-r, and-l, and-r) depth 14); route = inv .lines i .vote-to j sent .1; known = known-after b i j _ (inv .lines i .vote-to j sent .0) }
   perform-new s b (Deliver i j Ack) inv q =
       let sent : has ((b .world .sent i) .ack .to) j ≡ true = (search (ask-l, ask-r, and-l, and-r) depth 14) in
-      let lo : 1 ≤ i = leb-le _ _ (search (ask-l, ask-r, and-l, and-r) depth 14) in let hi : i ≤ n = leb-le _ _ (search (ask-l, ask-r, and-l, and-r) depth 14) in
+      let lo : 1 ≤ i = leb-true _ _ (search (ask-l, ask-r, and-l, and-r) depth 14) in let hi : i ≤ n = leb-true _ _ (search (ask-l, ask-r, and-l, and-r) depth 14) in
       record { acked = inv .lines i .ack-to j sent .0; held = held-after b i j _ lo (omega arith) }
   perform-new s b (Deliver i j Help) inv q = tt
   perform-new s b (Deliver i j Helped) inv q = tt
   perform-new s b (Timeout i) inv q = record {
     ran = (search (ask-l, ask-r, and-l, and-r) depth 14);
-    at = record { lo = leb-le _ _ (search (ask-l, ask-r, and-l, and-r) depth 14); hi = leb-le _ _ (search (ask-l, ask-r, and-l, and-r) depth 14) };
-    at-phase = elim (or-e (eqb (phase (b .ctl i)) 1) (eqb (phase (b .ctl i)) 2) (search (ask-l, ask-r, and-l, and-r) depth 14)) [ inl e ↦ inl (eqb-eq _ _ e) | inr e ↦ inr (eqb-eq _ _ e) ];
+    at = record { lo = leb-true _ _ (search (ask-l, ask-r, and-l, and-r) depth 14); hi = leb-true _ _ (search (ask-l, ask-r, and-l, and-r) depth 14) };
+    at-phase = elim (or-e (eqb (phase (b .ctl i)) 1) (eqb (phase (b .ctl i)) 2) (search (ask-l, ask-r, and-l, and-r) depth 14)) [ inl e ↦ inl (eqb-true _ _ e) | inr e ↦ inr (eqb-true _ _ e) ];
     after = elim (split (eqb (phase (b .ctl i)) 1)) [
       | inl e ↦ rw e (omega (arith, rung-after b i _ 2 (first-rings i (b .ctl i))))
       | inr e ↦ rw e (omega (arith, rung-after b i _ 3 (second-rings i (b .ctl i))))

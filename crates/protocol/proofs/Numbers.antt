@@ -4,7 +4,9 @@ use mathlib.Core.Path.{_≡_, refl, _∙_}
 use mathlib.Core.Bool.{true, false, false≢true}
 use mathlib.Core.List.{List, [], _∷_}
 use native.Mathlib.Omega.{arith}
-use Rattle.votes.specs.Tests.{inl, inr, no-both, split, by-cond, or-e, leb-le}
+use mathlib.Core.Logic.{inl, inr}
+use borrow.Author.Tests.{leb-true}
+use Rattle.ground.specs.Tests.{no-both, split, by-cond, or-e}
 use Rattle.model.specs.declared.Event.{Event}
 use Rattle.model.specs.declared.Event.the-variants.{Lock, Order, Cast, Deliver, Timeout, Decide, Stop, Save, Restore}
 use Rattle.protocol.specs.declared.Bench.{Bench}
@@ -22,7 +24,7 @@ record Goes (b : Bench) (e : Event) (b′ : Bench) : Type 0 where
 
 order-later : (b : Bench) (o : ℕ) → isAccepted (reply b (Order o)) ≡ true → b .order < o
 unfolding reply firstNo
-order-later b o q = leb-le _ _ (search (ask-l, ask-r) depth 14)
+order-later b o q = leb-true _ _ (search (ask-l, ask-r) depth 14)
 
 perform-goes : (b : Bench) (e : Event) → b .locked ≡ true → isAccepted (reply b e) ≡ true → Goes b e (perform b e)
 unfolding perform opened decidedAs withStation commit

@@ -5,7 +5,9 @@ use mathlib.Core.Bool.{Bool, true, false, not, _||_, cond, true≢false, false�
 use mathlib.Core.List.{List, [], _∷_}
 use native.Mathlib.Omega.{arith}
 use lib.Dec.{eqb}
-use Rattle.votes.specs.Tests.{_⊎_, inl, inr, split, and-l, and-r, leb-le, eqb-eq}
+use mathlib.Core.Logic.{_⊎_, inl, inr}
+use borrow.Author.Tests.{leb-true, eqb-true}
+use Rattle.ground.specs.Tests.{split, and-l, and-r}
 use Rattle.model.specs.Ranges.{limit, member}
 use Rattle.model.specs.Routes.{route, helpRoute}
 use Rattle.model.specs.Numbers.{wordOf}
@@ -86,20 +88,20 @@ module _ (n f : ℕ) (f<n : f < n) (1≤f : 1 ≤ f) (small : n ≤ limit) where
 
   -- a running controller takes the arbiter's word at stage 3
   at-three : (b : View) (i : ℕ) → (standsBy (b .ctl i) || eqb (phase (b .ctl i)) 3) ≡ true → runs (b .ctl i) ≡ true → 3 ≤ phase (b .ctl i)
-  at-three b i e r = let h : phase (b .ctl i) ≡ 3 = eqb-eq _ _ (second (standsBy (b .ctl i)) _ (not-both ((b .ctl i) .condition) r) e) in omega arith
+  at-three b i e r = let h : phase (b .ctl i) ≡ 3 = eqb-true _ _ (second (standsBy (b .ctl i)) _ (not-both ((b .ctl i) .condition) r) e) in omega arith
 
   pub perform-next : (b : View) (e : Event) → Inv n f b → accepts n f b e ≡ true → Next b (performV n f b e)
   unfolding accepts firstNo performV member route helpRoute arrives timeoutRule
   perform-next b (Lock a c) inv q = absurd (false≢true (ask-l _ _ _ q))
-  perform-next b (Order o) inv q = opened-next b o (leb-le _ _ (search (ask-l, ask-r, and-l, and-r) depth 14)) inv
-  perform-next b (Cast i w t) inv q = commit-next b i _ inv (vote-fits n f small b inv i w t (leb-le _ _ (search (ask-l, ask-r, and-l, and-r) depth 14)) (leb-le _ _ (search (ask-l, ask-r, and-l, and-r) depth 14)) (search (ask-l, ask-r, and-l, and-r) depth 14) (eqb-eq _ _ (search (ask-l, ask-r, and-l, and-r) depth 14)))
+  perform-next b (Order o) inv q = opened-next b o (leb-true _ _ (search (ask-l, ask-r, and-l, and-r) depth 14)) inv
+  perform-next b (Cast i w t) inv q = commit-next b i _ inv (vote-fits n f small b inv i w t (leb-true _ _ (search (ask-l, ask-r, and-l, and-r) depth 14)) (leb-true _ _ (search (ask-l, ask-r, and-l, and-r) depth 14)) (search (ask-l, ask-r, and-l, and-r) depth 14) (eqb-true _ _ (search (ask-l, ask-r, and-l, and-r) depth 14)))
   perform-next b (Deliver i j Vote) inv q = commit-next b j _ inv (vote-in-fits n f small b inv j i)
-  perform-next b (Deliver i j Ack) inv q = commit-next b j _ inv (ack-in-fits n f small b inv j f<n (leb-le _ _ (search (ask-l, ask-r, and-l, and-r) depth 14)) (leb-le _ _ (search (ask-l, ask-r, and-l, and-r) depth 14)) i (leb-le _ _ (search (ask-l, ask-r, and-l, and-r) depth 14)) (leb-le _ _ (search (ask-l, ask-r, and-l, and-r) depth 14)) (search (ask-l, ask-r, and-l, and-r) depth 14))
+  perform-next b (Deliver i j Ack) inv q = commit-next b j _ inv (ack-in-fits n f small b inv j f<n (leb-true _ _ (search (ask-l, ask-r, and-l, and-r) depth 14)) (leb-true _ _ (search (ask-l, ask-r, and-l, and-r) depth 14)) i (leb-true _ _ (search (ask-l, ask-r, and-l, and-r) depth 14)) (leb-true _ _ (search (ask-l, ask-r, and-l, and-r) depth 14)) (search (ask-l, ask-r, and-l, and-r) depth 14))
   perform-next b (Deliver i j Help) inv q = commit-next b j _ inv (help-in-fits n f small b inv j i)
-  perform-next b (Deliver i j Helped) inv q = commit-next b j _ inv (helped-in-fits n f small b inv j f<n i (leb-le _ _ (search (ask-l, ask-r, and-l, and-r) depth 14)) (leb-le _ _ (search (ask-l, ask-r, and-l, and-r) depth 14)) (leb-le _ _ (search (ask-l, ask-r, and-l, and-r) depth 14)) (search (ask-l, ask-r, and-l, and-r) depth 14))
+  perform-next b (Deliver i j Helped) inv q = commit-next b j _ inv (helped-in-fits n f small b inv j f<n i (leb-true _ _ (search (ask-l, ask-r, and-l, and-r) depth 14)) (leb-true _ _ (search (ask-l, ask-r, and-l, and-r) depth 14)) (leb-true _ _ (search (ask-l, ask-r, and-l, and-r) depth 14)) (search (ask-l, ask-r, and-l, and-r) depth 14))
   perform-next b (Timeout i) inv q = elim (split (eqb (phase (b .ctl i)) 1)) [
-    | inl e ↦ rw e (commit-next b i _ inv (first-fits n f small b inv i (leb-le _ _ (search (ask-l, ask-r, and-l, and-r) depth 14)) (leb-le _ _ (search (ask-l, ask-r, and-l, and-r) depth 14)) (search (ask-l, ask-r, and-l, and-r) depth 14) (eqb-eq _ _ e)))
-    | inr e ↦ rw e (commit-next b i _ inv (second-fits n f f<n 1≤f small b inv i (leb-le _ _ (search (ask-l, ask-r, and-l, and-r) depth 14)) (leb-le _ _ (search (ask-l, ask-r, and-l, and-r) depth 14)) (search (ask-l, ask-r, and-l, and-r) depth 14) (eqb-eq _ _ (second (eqb (phase (b .ctl i)) 1) _ e (search (ask-l, ask-r, and-l, and-r) depth 14)))))
+    | inl e ↦ rw e (commit-next b i _ inv (first-fits n f small b inv i (leb-true _ _ (search (ask-l, ask-r, and-l, and-r) depth 14)) (leb-true _ _ (search (ask-l, ask-r, and-l, and-r) depth 14)) (search (ask-l, ask-r, and-l, and-r) depth 14) (eqb-true _ _ e)))
+    | inr e ↦ rw e (commit-next b i _ inv (second-fits n f f<n 1≤f small b inv i (leb-true _ _ (search (ask-l, ask-r, and-l, and-r) depth 14)) (leb-true _ _ (search (ask-l, ask-r, and-l, and-r) depth 14)) (search (ask-l, ask-r, and-l, and-r) depth 14) (eqb-true _ _ (second (eqb (phase (b .ctl i)) 1) _ e (search (ask-l, ask-r, and-l, and-r) depth 14)))))
   ]
   perform-next b (Decide i w) inv q = decide-next b i w inv (at-three b i (search (ask-l, ask-r, and-l, and-r) depth 14)) (sym (proposed-is n f b w) ∙ (search (ask-l, ask-r, and-l, and-r) depth 14)) (search (ask-l, ask-r, and-l, and-r) depth 14)
   perform-next b (Stop i) inv q = commit-next b i _ inv (stop-fits n f small b inv i)

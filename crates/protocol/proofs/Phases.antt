@@ -6,9 +6,11 @@ use mathlib.Core.List.{List, [], _∷_}
 use native.Mathlib.Omega.{arith}
 use native.Mathlib.Decide.{decLe, ℕ-discrete}
 use lib.Dec.{leb, eqb}
-use Rattle.votes.specs.Tests.{_⊎_, inl, inr, no-both, split, and-r, and-i, or-l, or-r, or-e, leb-le, le-leb, eqb-eq, eqb-same, eqb-no}
-use Rattle.votes.specs.MaskLaws.{has-none}
-use Rattle.votes.specs.Update.{upd-same}
+use mathlib.Core.Logic.{_⊎_, inl, inr}
+use borrow.Author.Tests.{leb-true, le-leb, eqb-true, ne-eqb}
+use Rattle.ground.specs.Tests.{refuted, no-both, split, and-r, and-i, or-l, or-r, or-e, eqb-same}
+use Rattle.ground.specs.MaskLaws.{has-none}
+use Rattle.ground.specs.Update.{upd-same}
 use Rattle.votes.specs.VoteSets.{knows}
 use Rattle.model.specs.Ranges.{limit}
 use Rattle.model.specs.Routes.{voteRoute, ackRoute}
@@ -22,7 +24,6 @@ use Rattle.protocol.specs.Benches.{unsentAll}
 use Rattle.protocol.specs.Questions.{firstNo}
 use Rattle.protocol.proofs.View.{View, newWorld, commitV, chosen, openedV, savedV, accepts, timeoutRule, performV, stepV, runV, ask-l}
 use Rattle.protocol.proofs.Invariant.{votedBy, willBy, ackOn, ackedBy, Grows, Inv}
-use Rattle.protocol.proofs.TrueSheets.{not-true}
 use Rattle.protocol.proofs.Decisions.{Blank, renew-blank}
 use Rattle.protocol.proofs.Orders.{step-next, perform-next, next-inv, run-inv}
 use Rattle.protocol.proofs.CleanLog.{NotTimeout, In, Voted, VotesIn, AcksIn, Second, CleanStep, Clean, entered, pushV, logV, decides-move, decides-stay}
@@ -33,25 +34,25 @@ module _ (n f : ℕ) where
   route-low : (i j : ℕ) → voteRoute f i j ≡ true → j ≤ suc f
   unfolding voteRoute
   route-low i j e = elim (or-e (leb j f) (leb i f && eqb j (suc f)) (and-r (not (eqb i j)) _ e)) [
-    | inl q ↦ let h : j ≤ f = leb-le j f q in omega arith
-    | inr q ↦ let h : j ≡ suc f = eqb-eq j (suc f) (and-r (leb i f) _ q) in omega arith
+    | inl q ↦ let h : j ≤ f = leb-true j f q in omega arith
+    | inr q ↦ let h : j ≡ suc f = eqb-true j (suc f) (and-r (leb i f) _ q) in omega arith
   ]
 
   vote-route : (i j : ℕ) → (i ≡ j → ⊥) → j ≤ f → voteRoute f i j ≡ true
   unfolding voteRoute
-  vote-route i j d h = rw (eqb-no i j d) (or-l (leb j f) _ (le-leb j f h))
+  vote-route i j d h = rw (ne-eqb i j d) (or-l (leb j f) _ (le-leb j f h))
 
   vote-route₂ : (i : ℕ) → i ≤ f → voteRoute f i (suc f) ≡ true
   unfolding voteRoute
-  vote-route₂ i h = rw (eqb-no i (suc f) (λ e. omega arith)) (or-r (leb (suc f) f) _ (and-i (leb i f) (eqb (suc f) (suc f)) (le-leb i f h) (eqb-same (suc f))))
+  vote-route₂ i h = rw (ne-eqb i (suc f) (λ e. omega arith)) (or-r (leb (suc f) f) _ (and-i (leb i f) (eqb (suc f) (suc f)) (le-leb i f h) (eqb-same (suc f))))
 
   ack-route : (i j : ℕ) → (i ≡ j → ⊥) → i ≤ f → ackRoute f i j ≡ true
   unfolding ackRoute
-  ack-route i j d h = rw (eqb-no i j d) (or-l (leb i f) _ (le-leb i f h))
+  ack-route i j d h = rw (ne-eqb i j d) (or-l (leb i f) _ (le-leb i f h))
 
   ack-route₂ : (j : ℕ) → j ≤ f → ackRoute f (suc f) j ≡ true
   unfolding ackRoute
-  ack-route₂ j h = rw (eqb-no (suc f) j (λ e. omega arith)) (or-r (leb (suc f) f) _ (and-i (eqb (suc f) (suc f)) (leb j f) (eqb-same (suc f)) (le-leb j f h)))
+  ack-route₂ j h = rw (ne-eqb (suc f) j (λ e. omega arith)) (or-r (leb (suc f) f) _ (and-i (eqb (suc f) (suc f)) (leb j f) (eqb-same (suc f)) (le-leb j f h)))
 
   -- before any timeout
   record PhaseA (b : View) (log : List Event) : Type 0 where
@@ -80,7 +81,7 @@ module _ (n f : ℕ) where
   A-phase e j s s′ nb (voted w t q z p) = (
     λ h. omega (arith, cond-bounds (leb j (suc f))),
     λ h k. let p′ : s′ ≡ 1 = (rw (le-leb j (suc f) h) at p) in omega arith,
-    λ h k l. let p′ : s′ ≡ 2 = (rw (not-true (leb j (suc f)) (λ x. let y : j ≤ suc f = leb-le j (suc f) x in omega arith)) at p) in omega arith,
+    λ h k l. let p′ : s′ ≡ 2 = (rw (refuted (leb j (suc f)) (λ x. let y : j ≤ suc f = leb-true j (suc f) x in omega arith)) at p) in omega arith,
   )
 
   A-step : (b b′ : View) (e : Event) (log : List Event) → NotTimeout e → PhaseA b log → Tame n f e b b′ → New n f e b b′ → PhaseA b′ (e ∷ log)
@@ -96,7 +97,7 @@ module _ (n f : ℕ) where
       | inl q ↦ let v : NewVoteTo n f b b′ i j = subst (λ z. New n f z b b′) (sym q) nw in (t j .running ∙ v .ran, v .known (a .low₁ j (v .ran) (route-low i j (v .route))))
       | inr m ↦ let p : (runs (b .ctl j) ≡ true) × (knows ((b .ctl j) .votes) i ≡ true) = a .sheets i j m in (t j .running ∙ p .0, t j .votes (p .0) i (p .1))
     ];
-    blank = λ j. not-true _ (λ h. elim (t j .acked h) [ inl p ↦ no-both _ (p .0) (a .blank j) | inr p ↦ subst NotTimeout (p .0) nb ]);
+    blank = λ j. refuted _ (λ h. elim (t j .acked h) [ inl p ↦ no-both _ (p .0) (a .blank j) | inr p ↦ subst NotTimeout (p .0) nb ]);
     noacks = λ i j x. elim x [
       | inl q ↦ let v : NewAckTo n f b b′ i j = subst (λ z. New n f z b b′) (sym q) nw in no-both _ (v .acked) (a .blank i)
       | inr m ↦ a .noacks i j m
@@ -353,7 +354,7 @@ module _ (n f : ℕ) where
         timeout-outcome v e = rw (upd-same (b .ctl) i _, not-first) e
           where
             not-first : eqb (phase (b .ctl i)) 1 ≡ false
-            not-first = eqb-no (phase (b .ctl i)) 1 (λ z. omega (arith, at2))
+            not-first = ne-eqb (phase (b .ctl i)) 1 (λ z. omega (arith, at2))
 
         moves-all : ((k : ℕ) (w : Bool) (t : ℕ) → 1 ≤ k → k ≤ n → In (Cast k w t) log → w ≡ true) → outcome ((performV n f b (Timeout i)) .ctl i) ≡ wordOf true
         moves-all h = timeout-outcome true (decides-move n f f<n 1≤f b inv i (nw .ran) at2 held whole secondary (λ k x y.

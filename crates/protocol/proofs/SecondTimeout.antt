@@ -6,11 +6,13 @@ use native.Mathlib.Omega.{arith}
 use native.Mathlib.Decide.{decLe, ℕ-discrete}
 use lib.Bits.{bitOr}
 use lib.Dec.{leb, ltb}
-use Rattle.votes.specs.Tests.{inl, inr, no-both, by-cond, and-l, and-r, or-l, leb-le, le-leb}
-use Rattle.votes.specs.Quantify.{Found, allTo, all-at, countTo}
-use Rattle.votes.specs.Mask.{has}
-use Rattle.votes.specs.MaskLaws.{has-none}
-use Rattle.votes.specs.Update.{upd, upd-same}
+use mathlib.Core.Logic.{inl, inr}
+use borrow.Author.Tests.{leb-true, le-leb}
+use Rattle.ground.specs.Tests.{no-both, by-cond, and-l, and-r, or-l}
+use Rattle.ground.specs.Quantify.{Found, allTo, all-at, countTo}
+use Rattle.ground.specs.Mask.{has}
+use Rattle.ground.specs.MaskLaws.{has-none}
+use Rattle.ground.specs.Update.{upd, upd-same}
 use Rattle.votes.specs.VoteSets.{empty, knows, complete, unanimous}
 use Rattle.votes.specs.VoteLaws.{join-knows, join-unanimous-r, knows-in-all, complete-knows}
 use Rattle.votes.specs.declared.VoteSet.{VoteSet}
@@ -248,7 +250,7 @@ module _ (n f : ℕ) (f<n : f < n) (1≤f : 1 ≤ f) (small : n ≤ limit) (b : 
       stays q = elim (decLe i f) [
         | yes h ↦ let o : hasAck c i ≡ true = inv .owns i .own-ack (omega arith) h in
             ack-stay n f L (inv .lines) i c i low h high o (inv .ctls i .acks-ok i o) q
-        | no h ↦ let x : 1 ≤ c .cnt .0 = leb-le 1 (c .cnt .0) e in
+        | no h ↦ let x : 1 ≤ c .cnt .0 = leb-true 1 (c .cnt .0) e in
             let y : c .cnt .0 ≡ countTo n (has (c .«acks_from»)) = inv .owns i .ack-count in
             let r : Found n (has (c .«acks_from»)) = count-some n (has (c .«acks_from»)) (omega arith) in
             let t : HeldAck n f L i (ackOf c (r .at)) (r .at) = inv .ctls i .acks-ok (r .at) (r .holds) in

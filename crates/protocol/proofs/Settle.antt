@@ -4,10 +4,12 @@ use mathlib.Core.Path.{_≡_, refl, sym}
 use mathlib.Core.Bool.{Bool, true, false, not, _&&_, false≢true}
 use native.Mathlib.Omega.{arith}
 use lib.Dec.{leb, ltb}
-use Rattle.votes.specs.Tests.{inl, inr, no-both, split, by-cond, and-l, and-r, and-i, not-t, leb-le, le-leb}
-use Rattle.votes.specs.Quantify.{Found, countTo, count-all}
-use Rattle.votes.specs.Mask.{has}
-use Rattle.votes.specs.Update.{upd}
+use mathlib.Core.Logic.{inl, inr}
+use borrow.Author.Tests.{not-true, leb-true, le-leb}
+use Rattle.ground.specs.Tests.{refuted, no-both, split, by-cond, and-l, and-r, and-i}
+use Rattle.ground.specs.Quantify.{Found, countTo, count-all}
+use Rattle.ground.specs.Mask.{has}
+use Rattle.ground.specs.Update.{upd}
 use Rattle.votes.specs.VoteSets.{knows, wills, joinAll, unanimous}
 use Rattle.votes.specs.VoteLaws.{all-unanimous}
 use Rattle.model.specs.Numbers.{wordOf, isMove, isStay}
@@ -20,7 +22,7 @@ use Rattle.protocol.specs.Rules.{verdict, ackJoin, enough, gathered, pro
 use Rattle.protocol.specs.Benches.{sentAfter}
 use Rattle.protocol.proofs.View.{View}
 use Rattle.protocol.proofs.Invariant.{ackOn, helpOn, OkSheet, SentOk, AllWilling, StayEv, Own, HeldAck, HeldHelp, CtlOk, Inv}
-use Rattle.protocol.proofs.TrueSheets.{not-true, all-ok, move-all, stay-lacks}
+use Rattle.protocol.proofs.TrueSheets.{all-ok, move-all, stay-lacks}
 use Rattle.protocol.proofs.Commit.{Fits, lines-after}
 
 -- a count above 0 has a member
@@ -50,7 +52,7 @@ module _ (n f : ℕ) (L : ℕ → Sent) (ok : (k : ℕ) → SentOk f L k (L k)) 
     low = a;
     high = b;
     acked = h .acked;
-    stays = not-true (unanimous n (ackOn (L j))) (λ m. no-both (unanimous n (joinAll n (c .«acks_from») (c .acks))) (all-unanimous n (c .«acks_from») (c .acks) n j a b′ e (rw (h .copy) m)) s);
+    stays = refuted (unanimous n (ackOn (L j))) (λ m. no-both (unanimous n (joinAll n (c .«acks_from») (c .acks))) (all-unanimous n (c .«acks_from») (c .acks) n j a b′ e (rw (h .copy) m)) s);
   })
 
   -- Stay put over all help answers
@@ -62,11 +64,11 @@ module _ (n f : ℕ) (L : ℕ → Sent) (ok : (k : ℕ) → SentOk f L k (L k)) 
         low = r .low;
         high = r .high;
         helped = λ j a b. h j (every j a b) .helped;
-        lacks = λ j a b. not-true (wills (helpOn (L j)) (r .at)) (λ e.
+        lacks = λ j a b. refuted (wills (helpOn (L j)) (r .at)) (λ e.
             let w : wills (c .helped) (r .at) ≡ true = h j (every j a b) .covers (r .at) e in
             no-both (knows (c .helped) (r .at) && wills (c .helped) (r .at))
             (and-i (knows (c .helped) (r .at)) (wills (c .helped) (r .at)) (o .within (r .at) w) w)
-            (not-t (knows (c .helped) (r .at) && wills (c .helped) (r .at)) (r .holds)));
+            (not-true (knows (c .helped) (r .at) && wills (c .helped) (r .at)) (r .holds)));
       })
 
 -- a word put is one of the two
@@ -115,7 +117,7 @@ module _ (n f : ℕ) (f<n : f < n) (L : ℕ → Sent) (ok : (k : ℕ) → SentOk
   settled-stay : f < i → n ≤ c .cnt .0 + c .«cnt_help» .0 + f → unanimous n (gathered n c) ≡ false → StayEv n f L
   unfolding gathered
   settled-stay a q e = elim (split (ltb 0 (c .cnt .0))) [
-    | inl h ↦ let x : 1 ≤ c .cnt .0 = leb-le 1 (c .cnt .0) h in
+    | inl h ↦ let x : 1 ≤ c .cnt .0 = leb-true 1 (c .cnt .0) h in
         let y : c .cnt .0 ≡ countTo n (has (c .«acks_from»)) = w .ack-count in
         let r : Found n (has (c .«acks_from»)) = count-some n (has (c .«acks_from»)) (omega arith) in
         let t : HeldAck n f L i (ackOf c (r .at)) (r .at) = o .acks-ok (r .at) (r .holds) in
@@ -141,7 +143,7 @@ module _ (n f : ℕ) (f<n : f < n) (b : View) (inv : Inv n f b) (i : ℕ) where
         move-ok = λ p. settled-move n f f<n L′ ok (b .world .decision) i c (sentAfter (b .world .sent i) a) (t .own-ok) (t .ctl-ok) (move-put n (unanimous n (gathered n c)) p);
         stay-ok = λ p. settled-stay n f f<n L′ ok (b .world .decision) i c (sentAfter (b .world .sent i) a) (t .own-ok) (t .ctl-ok)
             (t .own-ok .waiter (and-l (c .waiting) (leb n (c .cnt .0 + c .«cnt_help» .0 + f)) e))
-            (leb-le n (c .cnt .0 + c .«cnt_help» .0 + f) (and-r (c .waiting) (leb n (c .cnt .0 + c .«cnt_help» .0 + f)) e))
+            (leb-true n (c .cnt .0 + c .«cnt_help» .0 + f) (and-r (c .waiting) (leb n (c .cnt .0 + c .«cnt_help» .0 + f)) e))
             (stay-put n (unanimous n (gathered n c)) p);
       })
       (λ e. t)

@@ -7,10 +7,11 @@ use mathlib.Core.List.{List, [], _∷_, map}
 use native.Mathlib.Omega.{arith}
 use lib.ListN.{length, length-map}
 use lib.Dec.{eqb, leb}
-use Rattle.votes.specs.Tests.{inl, inr, split, by-cond, and-l, and-r, leb-le, eqb-eq, eqb-same}
-use Rattle.votes.specs.Update.{upd, fun-ext}
-use Rattle.votes.specs.ListLaws.{nth-put, length-put, map-at}
-use Rattle.votes.specs.VoteSets.{nth, put}
+use mathlib.Core.Logic.{inl, inr}
+use borrow.Author.Tests.{leb-true, eqb-true}
+use Rattle.ground.specs.Tests.{split, by-cond, and-l, and-r, eqb-same}
+use Rattle.ground.specs.Update.{upd, fun-ext}
+use Rattle.ground.specs.Lists.{nth-put, length-put, map-at, nth, put}
 use Rattle.model.specs.Ranges.{limit, sizes, member}
 use Rattle.model.specs.Routes.{route}
 use Rattle.model.specs.Numbers.{wordOf, isMove, isStay}
@@ -48,7 +49,7 @@ part g F i a = fun-ext (λ k. g (upd F i a k)) (upd (λ k. g (F k)) i (g a)) (λ
 
 upd-id : {A : Type 0} (F : ℕ → A) (i : ℕ) → upd F i (F i) ≡ F
 unfolding upd
-upd-id F i = fun-ext (upd F i (F i)) F (λ k. elim (split (eqb k i)) [ inl e ↦ rw (e, eqb-eq k i e) | inr e ↦ rw e ])
+upd-id F i = fun-ext (upd F i (F i)) F (λ k. elim (split (eqb k i)) [ inl e ↦ rw (e, eqb-true k i e) | inr e ↦ rw e ])
 
 module _ (b : Bench) (i : ℕ) (lo : 1 ≤ i) (hi : i ≤ length (b .stations)) where
   -- a part of the stations after one is changed
@@ -156,7 +157,7 @@ pub record Ranges (n f : ℕ) : Type 0 where
 
 pub ranges : (n f : ℕ) → sizes n f ≡ true → Ranges n f
 unfolding sizes
-ranges n f e = record { low = leb-le _ _ (search (and-l, and-r)); high = leb-le _ _ (search (and-l, and-r)); small = leb-le _ _ (search (and-l, and-r)) }
+ranges n f e = record { low = leb-true _ _ (search (and-l, and-r)); high = leb-true _ _ (search (and-l, and-r)); small = leb-true _ _ (search (and-l, and-r)) }
 
 module _ (b : Bench) (ok : Sound b) where
   abbrev n : ℕ
@@ -167,11 +168,11 @@ module _ (b : Bench) (ok : Sound b) where
 
   lows : (i : ℕ) → member n i ≡ true → 1 ≤ i
   unfolding member
-  lows i e = leb-le 1 i (and-l (leb 1 i) (leb i n) e)
+  lows i e = leb-true 1 i (and-l (leb 1 i) (leb i n) e)
 
   place : (i : ℕ) → member n i ≡ true → i ≤ length (b .stations)
   unfolding member
-  place i e = let p : length (b .stations) ≡ 16 = ok .size in let q : n ≤ limit = ranges n f (ok .sized) .small in let h : i ≤ n = leb-le i n (and-r (leb 1 i) (leb i n) e) in omega arith
+  place i e = let p : length (b .stations) ≡ 16 = ok .size in let q : n ≤ limit = ranges n f (ok .sized) .small in let h : i ≤ n = leb-true i n (and-r (leb 1 i) (leb i n) e) in omega arith
 
   commits : (i : ℕ) (a a′ : Answer) → member n i ≡ true → a ≡ a′ → view (commit b i a) ≡ commitV (view b) i a′
   commits i a a′ m e = view-commit b i (lows i m) (place i m) a ∙ ap (commitV (view b) i) e

@@ -5,10 +5,12 @@ use mathlib.Core.Bool.{Bool, true, false}
 use mathlib.Core.List.{List, [], _∷_, _++_}
 use native.Mathlib.Omega.{arith}
 use lib.ListN.{length, replicate}
-use Rattle.votes.specs.Tests.{_⊎_, inl, inr, split, by-cond}
-use Rattle.votes.specs.Mask.{has}
-use Rattle.votes.specs.MaskLaws.{has-none}
-use Rattle.votes.specs.VoteSets.{empty, nth}
+use mathlib.Core.Logic.{_⊎_, inl, inr}
+use Rattle.ground.specs.Tests.{split, by-cond}
+use Rattle.ground.specs.Mask.{has}
+use Rattle.ground.specs.MaskLaws.{has-none}
+use Rattle.ground.specs.Lists.{nth}
+use Rattle.votes.specs.VoteSets.{empty}
 use Rattle.votes.specs.declared.VoteSet.{VoteSet}
 use Rattle.model.specs.Ranges.{limit, sizes}
 use Rattle.model.specs.declared.Outcome.the-variants.{None}

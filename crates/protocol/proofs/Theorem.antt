@@ -4,7 +4,9 @@ use mathlib.Core.Path.{_≡_, refl, sym, _∙_, ap, subst}
 use mathlib.Core.Bool.{Bool, true, false, cond, true≢false, false≢true}
 use mathlib.Core.List.{List, [], _∷_, _++_}
 use native.Mathlib.Omega.{arith}
-use Rattle.votes.specs.Tests.{inl, inr, no-both, and-l, and-r, leb-le}
+use mathlib.Core.Logic.{inl, inr}
+use borrow.Author.Tests.{leb-true}
+use Rattle.ground.specs.Tests.{no-both, and-l, and-r}
 use Rattle.model.specs.Ranges.{member}
 use Rattle.model.specs.Numbers.{isNone, wordOf}
 use Rattle.model.specs.declared.Kind.the-variants.{Vote, Ack}
@@ -206,7 +208,7 @@ record Asked (n f : ℕ) (log : List Event) (i : ℕ) : Type 0 where
 
 in-range : (b : Bench) (k : ℕ) (w : Bool) (t : ℕ) → isAccepted (reply b (Cast k w t)) ≡ true → (1 ≤ k) × (k ≤ b .n)
 unfolding reply firstNo member
-in-range b k w t q = (leb-le _ _ (search (ask-l, ask-r, and-l, and-r) depth 14), leb-le _ _ (search (ask-l, ask-r, and-l, and-r) depth 14))
+in-range b k w t q = (leb-true _ _ (search (ask-l, ask-r, and-l, and-r) depth 14), leb-true _ _ (search (ask-l, ask-r, and-l, and-r) depth 14))
 
 module _ (es : List Event) (o : Opened es) (i : ℕ) (a : Accepted es (Timeout i)) (sec₀ : SecondBell ((after es) .n) ((after es) .f) es i) (cl₀ : Clean ((after es) .n) ((after es) .f) (es ++ (Timeout i ∷ []))) where
   vb : View

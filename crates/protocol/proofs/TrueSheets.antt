@@ -4,27 +4,18 @@ use mathlib.Core.Path.{_≡_, refl, sym, _∙_}
 use mathlib.Core.Bool.{Bool, true, false, not, _&&_, true≢false}
 use mathlib.Core.List.{List}
 use native.Mathlib.Omega.{arith}
-use Rattle.votes.specs.Tests.{_⊎_, inl, inr, no-both, split, and-l, and-r, and-i, or-e, or-l, or-r, not-t, same-test}
-use Rattle.votes.specs.Quantify.{Found, allTo}
-use Rattle.votes.specs.Mask.{has}
-use Rattle.votes.specs.MaskLaws.{has-none}
-use Rattle.votes.specs.VoteSets.{empty, knows, wills, join, joinAll, complete, unanimous, nth}
+use mathlib.Core.Logic.{_⊎_, inl, inr}
+use borrow.Author.Tests.{not-true}
+use Rattle.ground.specs.Tests.{no-both, split, and-l, and-r, and-i, or-e, or-l, or-r, same-test, refuted}
+use Rattle.ground.specs.Quantify.{Found, not-all}
+use Rattle.ground.specs.Mask.{has}
+use Rattle.ground.specs.MaskLaws.{has-none}
+use Rattle.ground.specs.Lists.{nth}
+use Rattle.votes.specs.VoteSets.{empty, knows, wills, join, joinAll, complete, unanimous}
 use Rattle.votes.specs.VoteLaws.{join-knows, join-wills, knows-in-all, wills-in-all, all-known-by, all-willed-by, complete-knows, unanimous-known, unanimous-willing, votes-unanimous, unanimous-is}
 use Rattle.votes.specs.declared.VoteSet.{VoteSet}
 use Rattle.protocol.specs.declared.Sent.{Sent}
 use Rattle.protocol.proofs.Invariant.{votedBy, willBy, OkSheet, SentOk, AllWilling, Unwilling}
-
-pub not-true : (a : Bool) → (a ≡ true → ⊥) → a ≡ false
-not-true true p = absurd (p refl)
-not-true false p = refl
-
-pub not-all : (m : ℕ) (p : ℕ → Bool) → allTo m p ≡ false → Found m (λ k. not (p k))
-unfolding allTo
-not-all zero p e = absurd (true≢false e)
-not-all (suc m) p e = elim (split (p (suc m))) [
-  | inl h ↦ let r : Found m (λ k. not (p k)) = not-all m p (rw h at e) in record { at = r .at; low = r .low; high = omega arith; holds = r .holds }
-  | inr h ↦ record { at = suc m; low = omega arith; high = omega arith; holds = rw h }
-]
 
 -- a word of Stay: one vote is not both known and willing
 pub stay-lacks : (n : ℕ) (s : VoteSet) → unanimous n s ≡ false → Found n (λ k. not (knows s k && wills s k))
@@ -99,5 +90,5 @@ module _ (L : ℕ → Sent) where
           low = r .low;
           high = r .high;
           voted = o .cast (r .at) y;
-          unwilling = not-true (willBy (r .at) (L (r .at))) (λ h. no-both (knows s (r .at) && wills s (r .at)) (and-i (knows s (r .at)) (wills s (r .at)) y (o .true-to (r .at) y ∙ h)) (not-t (knows s (r .at) && wills s (r .at)) (r .holds)));
+          unwilling = refuted (willBy (r .at) (L (r .at))) (λ h. no-both (knows s (r .at) && wills s (r .at)) (and-i (knows s (r .at)) (wills s (r .at)) y (o .true-to (r .at) y ∙ h)) (not-true (knows s (r .at) && wills s (r .at)) (r .holds)));
         }

@@ -6,9 +6,9 @@ use native.Mathlib.Omega.{arith}
 use mathlib.Core.Bool.{Bool, true, false, not, _&&_, _||_, cond}
 use mathlib.Core.List.{List, [], _∷_}
 use lib.Dec.{eqb, leb, ltb}
-use Rattle.votes.specs.Quantify.{allTo}
-use Rattle.votes.specs.Mask.{has}
-use Rattle.votes.specs.Update.{upd}
+use Rattle.ground.specs.Quantify.{allTo}
+use Rattle.ground.specs.Mask.{has}
+use Rattle.ground.specs.Update.{upd}
 use Rattle.model.specs.Ranges.{member, reachable}
 use Rattle.model.specs.Routes.{route}
 use Rattle.model.specs.Numbers.{wordOf, isMove, isStay}

@@ -4,7 +4,8 @@ use mathlib.Core.Bool.{Bool, false, _||_}
 use mathlib.Core.List.{List, []}
 use lib.ListN.{replicate}
 use lib.Bits.{bitOr}
-use Rattle.votes.specs.VoteSets.{empty, nth, put}
+use Rattle.ground.specs.Lists.{nth, put}
+use Rattle.votes.specs.VoteSets.{empty}
 use Rattle.votes.specs.declared.VoteSet.{VoteSet}
 use Rattle.model.specs.Numbers.{isMove, isStay}
 use Rattle.model.specs.declared.Kind.{Kind}

@@ -4,7 +4,7 @@ use Prim.Native.Nat.{ℕ, suc, _+_, _*_, _≤_, _<_}
 use mathlib.Core.Path.{_≡_}
 use mathlib.Core.Bool.{Bool, true, false, _||_}
 use mathlib.Core.List.{List, [], _∷_, _++_}
-use Rattle.votes.specs.Tests.{_⊎_}
+use mathlib.Core.Logic.{_⊎_}
 use Rattle.model.specs.Routes.{voteRoute, ackRoute}
 use Rattle.model.specs.Numbers.{isNone}
 use Rattle.model.specs.declared.Kind.the-variants.{Vote, Ack}

@@ -2,8 +2,9 @@
 use Prim.Native.Nat.{ℕ, suc}
 use mathlib.Core.Bool.{Bool, true, false, cond, _&&_}
 use lib.Dec.{ltb}
-use Rattle.votes.specs.Mask.{has, insert}
-use Rattle.votes.specs.VoteSets.{empty, join, nth, put}
+use Rattle.ground.specs.Mask.{has, insert}
+use Rattle.ground.specs.Lists.{nth, put}
+use Rattle.votes.specs.VoteSets.{empty, join}
 use Rattle.votes.specs.declared.VoteSet.{VoteSet}
 use Rattle.model.specs.Numbers.{isNone, isMove}
 use Rattle.model.specs.declared.Outcome.{Outcome}

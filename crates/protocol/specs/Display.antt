@@ -1,7 +1,7 @@
 -- What the bench shows. Document 01, "The bench program": the C lines and the T line.
 use Prim.Native.Nat.{ℕ, zero, suc, _+_}
-use Rattle.votes.specs.Quantify.{countTo}
-use Rattle.votes.specs.Mask.{has}
+use Rattle.ground.specs.Quantify.{countTo}
+use Rattle.ground.specs.Mask.{has}
 use Rattle.model.specs.declared.Kind.{Kind}
 use Rattle.model.specs.declared.Outcome.{Outcome}
 use Rattle.protocol.specs.declared.Condition.{Condition}

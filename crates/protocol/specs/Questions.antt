@@ -2,8 +2,8 @@
 use mathlib.Core.Bool.{Bool, true, false, not, _&&_, _||_}
 use mathlib.Core.List.{List, [], _∷_}
 use lib.Dec.{eqb, leb, ltb}
-use Rattle.votes.specs.Quantify.{allTo}
-use Rattle.votes.specs.Mask.{has}
+use Rattle.ground.specs.Quantify.{allTo}
+use Rattle.ground.specs.Mask.{has}
 use Rattle.model.specs.Ranges.{sizes, member, reachable}
 use Rattle.model.specs.Routes.{route}
 use Rattle.model.specs.Numbers.{isNone}

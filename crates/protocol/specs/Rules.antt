@@ -3,8 +3,8 @@
 use Prim.Native.Nat.{ℕ, suc, _+_}
 use mathlib.Core.Bool.{Bool, true, false, cond, not, _&&_, _||_}
 use lib.Dec.{eqb, leb, ltb}
-use Rattle.votes.specs.Quantify.{allTo}
-use Rattle.votes.specs.Mask.{has, insert}
+use Rattle.ground.specs.Quantify.{allTo}
+use Rattle.ground.specs.Mask.{has, insert}
 use Rattle.votes.specs.VoteSets.{empty, knows, single, join, joinAll, complete, unanimous}
 use Rattle.votes.specs.declared.VoteSet.{VoteSet}
 use Rattle.model.specs.Ranges.{isBackup}

@@ -3,7 +3,7 @@ use Prim.Native.Nat.{ℕ}
 use mathlib.Core.Bool.{Bool, true, false, cond, not, _&&_, _||_}
 use mathlib.Core.List.{List, [], _∷_}
 use lib.Dec.{eqb, leb, ltb}
-use Rattle.votes.specs.Mask.{has}
+use Rattle.ground.specs.Mask.{has}
 use Rattle.model.specs.Ranges.{sizes, member, reachable}
 use Rattle.model.specs.Routes.{route}
 use Rattle.model.specs.declared.Kind.{Kind}

@@ -4,9 +4,10 @@ use Prim.Native.String.{String}
 use mathlib.Core.Path.{_≡_, refl}
 use mathlib.Core.Bool.{Bool, true, false}
 use mathlib.Core.List.{List, [], _∷_, _++_, map}
-use Rattle.votes.specs.Mask.{has, insert, fullTo, collect}
-use Rattle.votes.specs.Quantify.{allTo, countTo}
-use Rattle.votes.specs.VoteSets.{single, join, complete, unanimous, nth, put, joinAll}
+use Rattle.ground.specs.Mask.{has, insert, fullTo, collect}
+use Rattle.ground.specs.Quantify.{allTo, countTo}
+use Rattle.ground.specs.Lists.{nth, put}
+use Rattle.votes.specs.VoteSets.{single, join, complete, unanimous, joinAll}
 use Rattle.model.specs.Ranges.{sizes, member, reachable}
 use Rattle.model.specs.Routes.{voteRoute, ackRoute, route, recipients}
 use Rattle.model.specs.declared.Kind.the-variants.{Vote, Ack}

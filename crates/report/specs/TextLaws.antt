@@ -6,7 +6,7 @@ use mathlib.Core.Path.{_≡_, refl, _∙_}
 use native.Mathlib.Nat.{pow-suc}
 use native.Mathlib.Omega.{arith}
 use lib.Dec.{ltb}
-use Rattle.votes.specs.Tests.{by-cond}
+use Rattle.ground.specs.Tests.{by-cond}
 use Rattle.report.specs.Text.{ascii, digit, digits, decimal, signed}
 
 -- the number that digits make, after some before them

@@ -2,14 +2,14 @@
 ghost use mathlib.Core.Path.{_≡_};
 ghost use mathlib.Core.List.{[]};
 ghost use Prim.Native.Nat.{suc};
-ghost use Rattle.votes.specs.VoteSets.{nth};
+ghost use Rattle.ground.specs.Lists.{nth};
 ghost use Rattle.protocol.specs.Benches.{freshStation, ofKind};
 ghost use Rattle.protocol.specs.Display.{telegrams};
+use ground::size;
 use model::Kind;
 use protocol::Bench;
 use protocol::Sent;
 use protocol::Station;
-use votes::size;
 
 // To whom a controller has sent telegrams of this kind.
 fn receivers(kind: Kind, sent: Sent) -> u32

@@ -2,7 +2,7 @@
 ghost use mathlib.Core.Path.{_≡_};
 ghost use mathlib.Core.List.{[]};
 ghost use Prim.Native.Nat.{suc};
-ghost use Rattle.votes.specs.VoteSets.{nth};
+ghost use Rattle.ground.specs.Lists.{nth};
 ghost use Rattle.protocol.specs.Benches.{freshStation};
 ghost use Rattle.report.specs.Shown.{shownOf, shownIn};
 use model::Outcome;

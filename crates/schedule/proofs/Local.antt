@@ -6,9 +6,9 @@ use mathlib.Core.List.{List, []}
 use native.Mathlib.Omega.{arith}
 use lib.Dec.{leb}
 use lib.ListN.{getD, set}
-use Rattle.votes.specs.Tests.{and-l, and-r, leb-le}
-use Rattle.votes.specs.VoteSets.{put}
-use Rattle.votes.specs.ListLaws.{nth-at}
+use borrow.Author.Tests.{leb-true}
+use Rattle.ground.specs.Tests.{and-l, and-r}
+use Rattle.ground.specs.Lists.{put, nth-at}
 use Rattle.model.specs.Ranges.{member}
 use Rattle.model.specs.declared.Event.{Event}
 use Rattle.model.specs.declared.Event.the-variants.{Lock, Order, Cast, Deliver, Timeout, Decide, Stop, Save, Restore}
@@ -32,7 +32,7 @@ pub record Numbered (k : ℕ) : Type 0 where
 
 numbered : (k : ℕ) → member 16 k ≡ true → Numbered k
 unfolding member
-numbered k e = record { low = leb-le 1 k (and-l (leb 1 k) (leb k 16) e); high = leb-le k 16 (and-r (leb 1 k) (leb k 16) e) }
+numbered k e = record { low = leb-true 1 k (and-l (leb 1 k) (leb k 16) e); high = leb-true k 16 (and-r (leb 1 k) (leb k 16) e) }
 
 pub record Stationed (e : Event) : Type 0 where
   pub subject : Numbered (subjectOf e)

@@ -1,8 +1,8 @@
 // What a controller holds: its own sheet, acknowledgements and help answers by sender, and the callers that it has answered.
+use ground::insert;
 use protocol::Controller;
 use votes::VoteSet;
 use votes::empty_set;
-use votes::insert;
 use votes::join;
 ghost use mathlib.Core.Path.{_≡_};
 ghost use Prim.Native.Nat.{_-_};

@@ -5,7 +5,7 @@ use mathlib.Core.Bool.{true, _&&_}
 use native.Mathlib.Omega.{arith}
 use borrow.Author.Tests.{ltb-true, leb-true}
 use lib.Dec.{leb, ltb}
-use Rattle.votes.specs.Tests.{and-l, and-r}
+use Rattle.ground.specs.Tests.{and-l, and-r}
 use Rattle.model.specs.Ranges.{sizes, member}
 use Rattle.protocol.specs.declared.Member.{Member}
 use Rattle.protocol.specs.declared.Controller.{Controller}

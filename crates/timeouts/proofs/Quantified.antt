@@ -2,8 +2,9 @@
 use Prim.Native.Nat.{ℕ, _≤_}
 use mathlib.Core.Path.{_≡_}
 use mathlib.Core.Bool.{Bool, true, false}
-use Rattle.votes.specs.Tests.{inl, inr, split, no-both}
-use Rattle.votes.specs.Quantify.{allTo, all-at}
+use mathlib.Core.Logic.{inl, inr}
+use Rattle.ground.specs.Tests.{split, no-both}
+use Rattle.ground.specs.Quantify.{allTo, all-at}
 
 pub all-no : (m : ℕ) (p : ℕ → Bool) (k : ℕ) → 1 ≤ k → k ≤ m → p k ≡ false → allTo m p ≡ false
 all-no m p k a b e = elim (split (allTo m p)) [

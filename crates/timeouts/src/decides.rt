@@ -1,13 +1,13 @@
 // Whether the acknowledgements held decide at the second timeout.
+use ground::has;
 use protocol::Controller;
 use state::ack_of;
 use votes::VoteSet;
 use votes::complete;
-use votes::has;
 ghost use Prim.Native.Nat.{_≤_, _<_};
 ghost use mathlib.Core.Path.{_≡_};
 ghost use mathlib.Core.Bool.{_&&_};
-ghost use Rattle.votes.specs.Mask.{has};
+ghost use Rattle.ground.specs.Mask.{has};
 ghost use Rattle.votes.specs.VoteSets.{complete};
 ghost use Rattle.protocol.specs.Rules.{backupsComplete, secondKnows, decides};
 

@@ -1,4 +1,5 @@
 // The first timeout.
+use ground::has;
 use model::Kind;
 use model::Outcome;
 use model::recipients;
@@ -7,7 +8,6 @@ use protocol::Controller;
 use protocol::Post;
 use state::advance;
 use state::keep_ack;
-use votes::has;
 ghost use mathlib.Core.Path.{_≡_};
 ghost use Rattle.protocol.specs.Rules.{countOwn, firstTimeout};
 

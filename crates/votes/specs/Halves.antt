@@ -5,14 +5,16 @@ use mathlib.Core.Bool.{Bool, true, false, _&&_, _||_}
 use mathlib.Core.List.{List}
 use lib.ListN.{length}
 use lib.Bits.{bitOr}
-use Rattle.votes.specs.Tests.{inl, inr, split, and-l, and-r, and-i, same-test, eqb-no}
-use Rattle.votes.specs.Quantify.{anyTo, any-at, any-of, any-new, any-either, Found}
-use Rattle.votes.specs.Update.{upd-same, upd-other}
-use Rattle.votes.specs.Mask.{width, has, insert}
-use Rattle.votes.specs.MaskLaws.{has-or, or-is, has-none, has-insert}
-use Rattle.votes.specs.Inclusion.{same-set}
-use Rattle.votes.specs.VoteSets.{empty, join, nth, put, joinAll, Among}
-use Rattle.votes.specs.ListLaws.{nth-put-at}
+use mathlib.Core.Logic.{inl, inr}
+use borrow.Author.Tests.{ne-eqb}
+use Rattle.ground.specs.Tests.{split, and-l, and-r, and-i, same-test}
+use Rattle.ground.specs.Quantify.{anyTo, any-at, any-of, any-new, any-either, Found}
+use Rattle.ground.specs.Update.{upd-same, upd-other}
+use Rattle.ground.specs.Mask.{width, has, insert}
+use Rattle.ground.specs.MaskLaws.{has-or, or-is, has-none, has-insert}
+use Rattle.ground.specs.Inclusion.{same-set}
+use Rattle.ground.specs.Lists.{nth, put, nth-put-at}
+use Rattle.votes.specs.VoteSets.{empty, join, joinAll, Among}
 use Rattle.votes.specs.declared.VoteSet.{VoteSet}
 
 -- a mask of each vote set, that of a join being the union
@@ -108,13 +110,13 @@ module _ (half : Half) where
       own = has-insert from j j a w ∙ upd-same (has from) j true
 
       other : (i : ℕ) → (i ≡ j → ⊥) → has (insert from j) i ≡ has from i
-      other i z = has-insert from j i a w ∙ upd-other (has from) j true i (eqb-no i j z)
+      other i z = has-insert from j i a w ∙ upd-other (has from) j true i (ne-eqb i j z)
 
       sheet-own : nth empty (put l j s) j ≡ s
       sheet-own = nth-put-at empty l j s a y j ∙ upd-same (nth empty l) j s
 
       sheet : (i : ℕ) → (i ≡ j → ⊥) → nth empty (put l j s) i ≡ nth empty l i
-      sheet i z = nth-put-at empty l j s a y i ∙ upd-other (nth empty l) j s i (eqb-no i j z)
+      sheet i z = nth-put-at empty l j s a y i ∙ upd-other (nth empty l) j s i (ne-eqb i j z)
 
   pub of-either : (m a b : ℕ) (l : List VoteSet) → half .mask (joinAll m (bitOr a b) l) ≡ half .mask (join (joinAll m a l) (joinAll m b l))
   of-either m a b l =

@@ -1,12 +1,3 @@
-pub mod Tests
-pub mod Quantify
-pub mod Update
-pub mod Mask
-pub mod MaskLaws
-pub mod Inclusion
-pub mod Collect
-pub mod Sizes
 pub mod VoteSets
-pub mod ListLaws
 pub mod Halves
 pub mod VoteLaws

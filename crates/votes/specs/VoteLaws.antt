@@ -9,14 +9,15 @@ use native.Mathlib.Nat.{zero-add, suc-add}
 use lib.ListN.{length}
 use lib.Dec.{eqb}
 use lib.Bits.{bitOr, or-comm, or-self, or-zero-r}
-use Rattle.votes.specs.Tests.{inl, inr, no-both, and-l, and-r, and-i, or-e, or-l, or-r, same-test, by-cond}
-use Rattle.votes.specs.Quantify.{allTo, anyTo, all-at, all-of, Found}
-use Rattle.votes.specs.Update.{upd}
-use Rattle.votes.specs.Mask.{width, has, insert, fullTo, noneAbove, within}
-use Rattle.votes.specs.MaskLaws.{has-none, has-insert, full-is}
-use Rattle.votes.specs.Inclusion.{same-set, or-assoc, within-has, has-within, none-above-le, le-none-above, or-none-above, insert-none-above}
-use Rattle.votes.specs.VoteSets.{empty, knows, wills, single, join, complete, unanimous, nth, put, joinAll, Among}
-use Rattle.votes.specs.ListLaws.{nth-past}
+use mathlib.Core.Logic.{inl, inr}
+use Rattle.ground.specs.Tests.{no-both, and-l, and-r, and-i, or-e, or-l, or-r, same-test, by-cond}
+use Rattle.ground.specs.Quantify.{allTo, anyTo, all-at, all-of, Found}
+use Rattle.ground.specs.Update.{upd}
+use Rattle.ground.specs.Mask.{width, has, insert, fullTo, noneAbove, within}
+use Rattle.ground.specs.MaskLaws.{has-none, has-insert, full-is}
+use Rattle.ground.specs.Inclusion.{same-set, or-assoc, within-has, has-within, none-above-le, le-none-above, or-none-above, insert-none-above}
+use Rattle.ground.specs.Lists.{nth, put, nth-past}
+use Rattle.votes.specs.VoteSets.{empty, knows, wills, single, join, complete, unanimous, joinAll, Among}
 use Rattle.votes.specs.Halves.{known-half, willing-half, on-join, on-all, in-all, on-all-by, again, same-sheets, one-more, of-either}
 use Rattle.votes.specs.declared.VoteSet.{VoteSet}
 

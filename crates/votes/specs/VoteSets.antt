@@ -1,12 +1,12 @@
 -- Vote sets. Document 01, "Words with values": "A *sheet* has two sets of controllers: known, and willing (within known);
 -- it is *full* when all n are known. Its *word* is Move if all n are known and willing, else Stay."
-use Prim.Native.Nat.{ℕ, zero, suc, _-_, _≤_}
+use Prim.Native.Nat.{ℕ, zero, suc, _≤_}
 use mathlib.Core.Path.{_≡_}
 use mathlib.Core.Bool.{Bool, true, cond, _&&_}
 use mathlib.Core.List.{List}
-use lib.ListN.{getD, set}
 use lib.Bits.{bitOr}
-use Rattle.votes.specs.Mask.{has, insert, fullTo}
+use Rattle.ground.specs.Lists.{nth}
+use Rattle.ground.specs.Mask.{has, insert, fullTo}
 use Rattle.votes.specs.declared.VoteSet.{VoteSet}
 
 abbrev pub empty : VoteSet
@@ -34,14 +34,6 @@ complete n s = fullTo n (s .known)
 -- the "word" is Move: all n are known and willing
 unfoldable pub unanimous : ℕ → VoteSet → Bool
 unanimous n s = fullTo n (s .known) && fullTo n (s .willing)
-
--- element k of a list, counted from 1; and the list with another element there
-unfoldable pub nth : {A : Type 0} → A → List A → ℕ → A
-nth d l zero = d
-nth d l (suc k) = getD l k d
-
-unfoldable pub put : {A : Type 0} → List A → ℕ → A → List A
-put l k a = set l (k - 1) a
 
 -- the join of the sheets of those senders of 1..m that are in a set
 unfoldable pub joinAll : ℕ → ℕ → List VoteSet → VoteSet

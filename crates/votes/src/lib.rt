@@ -1,18 +1,12 @@
-// Vote sets, and the masks that they are made of.
+// Vote sets (document 01: sheets).
 ghost use mathlib.Core.Path.{_≡_};
 ghost use mathlib.Core.Bool.{cond};
 ghost use Prim.Native.Nat.{min};
-ghost use Rattle.votes.specs.Mask.{has};
+ghost use Rattle.ground.specs.Mask.{has};
 ghost use Rattle.votes.specs.VoteSets.{empty, single, join, complete, unanimous, joinAll};
-
-mod mask;
-
-pub use mask::full_to;
-pub use mask::has;
-pub use mask::insert;
-pub use mask::none_above;
-pub use mask::size;
-pub use mask::within;
+use ground::full_to;
+use ground::has;
+use ground::insert;
 
 // A sheet: the controllers whose vote is known, and those of them known to be willing. Bit k - 1 is controller k.
 pub struct VoteSet {

@@ -6,7 +6,8 @@ use mathlib.Core.List.{List, [], _∷_, _++_}
 use native.Mathlib.Omega.{arith}
 use lib.Dec.{eqb}
 use lib.ListN.{length}
-use Rattle.votes.specs.Tests.{and-l, and-r, eqb-eq, no-both}
+use borrow.Author.Tests.{eqb-true}
+use Rattle.ground.specs.Tests.{and-l, and-r, no-both}
 use Rattle.model.specs.Numbers.{kindNumber}
 use Rattle.model.specs.Questions.{Reply, accepted, refused, number, firstNo}
 use Rattle.model.specs.QuestionLaws.{AllYes, all-yes, yes-all}
@@ -71,23 +72,23 @@ event-read-back e h =
 
 -- fields that are unused are 0
 both : (x y : ℕ) → (unused x && unused y) ≡ true → (x ≡ 0) × (y ≡ 0)
-both x y t = (eqb-eq x 0 (and-l (unused x) (unused y) t), eqb-eq y 0 (and-r (unused x) (unused y) t))
+both x y t = (eqb-true x 0 (and-l (unused x) (unused y) t), eqb-true y 0 (and-r (unused x) (unused y) t))
 
 all-three : (x y z : ℕ) → (unused x && unused y && unused z) ≡ true → (x ≡ 0) × ((y ≡ 0) × (z ≡ 0))
 all-three x y z t =
     let e : (x ≡ 0) × (y ≡ 0) = both x y (and-l (unused x && unused y) (unused z) t) in
-    (e .0, (e .1, eqb-eq z 0 (and-r (unused x && unused y) (unused z) t)))
+    (e .0, (e .1, eqb-true z 0 (and-r (unused x && unused y) (unused z) t)))
 
 flag-then : (x y : ℕ) → (isFlag x && unused y) ≡ true → (flagNumber (flagOf x) ≡ x) × (y ≡ 0)
-flag-then x y t = (number-of-flag x (and-l (isFlag x) (unused y) t), eqb-eq y 0 (and-r (isFlag x) (unused y) t))
+flag-then x y t = (number-of-flag x (and-l (isFlag x) (unused y) t), eqb-true y 0 (and-r (isFlag x) (unused y) t))
 
 kind-then : (x y : ℕ) → (isKind x && unused y) ≡ true → (kindNumber (kindOf x) ≡ x) × (y ≡ 0)
-kind-then x y t = (number-of-kind x (and-l (isKind x) (unused y) t), eqb-eq y 0 (and-r (isKind x) (unused y) t))
+kind-then x y t = (number-of-kind x (and-l (isKind x) (unused y) t), eqb-true y 0 (and-r (isKind x) (unused y) t))
 
 flag-both : (x y z : ℕ) → (isFlag x && unused y && unused z) ≡ true → (flagNumber (flagOf x) ≡ x) × ((y ≡ 0) × (z ≡ 0))
 flag-both x y z t =
     let e : (flagNumber (flagOf x) ≡ x) × (y ≡ 0) = flag-then x y (and-l (isFlag x && unused y) (unused z) t) in
-    (e .0, (e .1, eqb-eq z 0 (and-r (isFlag x && unused y) (unused z) t)))
+    (e .0, (e .1, eqb-true z 0 (and-r (isFlag x && unused y) (unused z) t)))
 
 abbrev fields : ℕ → ℕ → ℕ → ℕ → ℕ → Fields
 fields k a b c v = record { kind = k; a = a; b = b; c = c; value = v }
@@ -140,7 +141,7 @@ event-written-back s e all q =
     let x : Fields = fieldsIn s in
     ap (λ (e : Event). recordOf (fieldsOf e)) (sym (r .1))
     ∙ (ap recordOf (same-fields (x .kind) (x .a) (x .b) (x .c) (x .value) (yes .1 .1 .0))
-    ∙ same-bytes s all (eqb-eq (length s) eventLength (yes .0)) (eqb-eq (number2 s 0) eventMark (yes .1 .0)))
+    ∙ same-bytes s all (eqb-true (length s) eventLength (yes .0)) (eqb-true (number2 s 0) eventMark (yes .1 .0)))
 
 -- the number of what a reader returns
 number-of : (r : Reply) (x : Event) → answerOf (returned r x) ≡ number r

@@ -4,7 +4,8 @@ use mathlib.Core.Path.{_≡_, refl}
 use mathlib.Core.Bool.{Bool, true, false}
 use native.Mathlib.Omega.{arith}
 use lib.Dec.{leb}
-use Rattle.votes.specs.Tests.{leb-le, and-l, and-r}
+use borrow.Author.Tests.{leb-true}
+use Rattle.ground.specs.Tests.{and-l, and-r}
 use Rattle.model.specs.Numbers.{kindNumber, outcomeNumber}
 use Rattle.model.specs.declared.Kind.{Kind}
 use Rattle.model.specs.declared.Kind.the-variants.{Vote, Ack, Help, Helped}
@@ -37,7 +38,7 @@ kind-in-range (suc (suc (suc (suc (suc x))))) l h = absurd (omega arith)
 
 pub number-of-kind : (x : ℕ) → isKind x ≡ true → kindNumber (kindOf x) ≡ x
 unfolding isKind
-number-of-kind x t = kind-in-range x (leb-le 1 x (and-l (leb 1 x) (leb x 4) t)) (leb-le x 4 (and-r (leb 1 x) (leb x 4) t))
+number-of-kind x t = kind-in-range x (leb-true 1 x (and-l (leb 1 x) (leb x 4) t)) (leb-true x 4 (and-r (leb 1 x) (leb x 4) t))
 
 pub outcome-listed : (o : Outcome) → isOutcome (outcomeNumber o) ≡ true
 outcome-listed None = refl
@@ -58,7 +59,7 @@ outcome-in-range (suc (suc zero)) h = refl
 outcome-in-range (suc (suc (suc x))) h = absurd (omega arith)
 
 pub number-of-outcome : (x : ℕ) → isOutcome x ≡ true → outcomeNumber (outcomeOf x) ≡ x
-number-of-outcome x t = outcome-in-range x (leb-le x 2 t)
+number-of-outcome x t = outcome-in-range x (leb-true x 2 t)
 
 pub flag-listed : (b : Bool) → isFlag (flagNumber b) ≡ true
 flag-listed true = refl
@@ -74,4 +75,4 @@ flag-in-range (suc zero) h = refl
 flag-in-range (suc (suc x)) h = absurd (omega arith)
 
 pub number-of-flag : (x : ℕ) → isFlag x ≡ true → flagNumber (flagOf x) ≡ x
-number-of-flag x t = flag-in-range x (leb-le x 1 t)
+number-of-flag x t = flag-in-range x (leb-true x 1 t)

@@ -1,8 +1,9 @@
 -- `trials::trials_hold` meets its contract: every definition that a run goes through is opened, and both sides compute to the same. Assumes nothing.
 use mathlib.Core.Path.{_≡_, refl}
-use Rattle.votes.specs.Quantify.{allTo, countTo}
-use Rattle.votes.specs.Mask.{has, insert, fullTo, collect}
-use Rattle.votes.specs.VoteSets.{single, join, complete, unanimous, nth, put, joinAll}
+use Rattle.ground.specs.Quantify.{allTo, countTo}
+use Rattle.ground.specs.Mask.{has, insert, fullTo, collect}
+use Rattle.ground.specs.Lists.{nth, put}
+use Rattle.votes.specs.VoteSets.{single, join, complete, unanimous, joinAll}
 use Rattle.model.specs.Ranges.{sizes, member, reachable}
 use Rattle.model.specs.Routes.{voteRoute, ackRoute, helpRoute, route, recipients}
 use Rattle.model.specs.Questions.{unless, firstNo}

@@ -6,7 +6,8 @@ use mathlib.Core.Path.{_≡_, _∙_, ap}
 use native.Mathlib.Omega.{arith}
 use native.Mathlib.Numerals.{add-one}
 use borrow.Author.Needs.{needs}
-use Rattle.votes.specs.VoteSets.{joinAll, nth}
+use Rattle.ground.specs.Lists.{nth}
+use Rattle.votes.specs.VoteSets.{joinAll}
 use Rattle.votes.proofs.join_all.Statement.{statement}
 use Rattle.votes.proofs.join_all.Tie as tie
 

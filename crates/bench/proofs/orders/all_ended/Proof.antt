@@ -3,7 +3,7 @@ use mathlib.Core.Path.{_≡_, sym, _∙_}
 use native.Mathlib.Omega.{arith}
 use borrow.Author.Needs.{needs}
 use lib.ListN.{length}
-use Rattle.votes.specs.Quantify.{allTo}
+use Rattle.ground.specs.Quantify.{allTo}
 use Rattle.protocol.specs.Benches.{freshStation, fresh, unsentAll}
 use Rattle.bench.specs.Stations.{endedAt}
 use Rattle.bench.proofs.Ended.{all-none, all-more, all-past}

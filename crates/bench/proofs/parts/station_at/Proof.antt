@@ -4,8 +4,7 @@ use Rattle.bench.proofs.Defaults.{nth-within}
 use mathlib.Core.Path.{_≡_, sym, _∙_}
 use native.Mathlib.Omega.{arith}
 use lib.ListN.{length, length-map}
-use Rattle.votes.specs.ListLaws.{nth-at, nth-past}
-use Rattle.votes.specs.VoteSets.{nth}
+use Rattle.ground.specs.Lists.{nth-at, nth-past, nth}
 use borrow.Author.Needs.{needs}
 use Rattle.bench.proofs.parts.station_at.Statement.{statement}
 use Rattle.bench.proofs.parts.station_at.Tie as tie

@@ -2,7 +2,7 @@ use Rattle.questions.specs.Events.{subject, source}
 use Rattle.turns.specs.TurnLaws.{turnAt}
 use mathlib.Core.Path.{_≡_, _∙_}
 use lib.ListN.{length, length-map}
-use Rattle.votes.specs.VoteSets.{put}
+use Rattle.ground.specs.Lists.{put}
 use Rattle.bench.proofs.Seen.{seen-station, seen-sent}
 use borrow.Author.Needs.{needs}
 use Rattle.bench.proofs.steps.after_turn.Statement.{statement}

@@ -4,7 +4,7 @@ use mathlib.Core.Path.{_≡_, refl, ap, _∙_}
 use mathlib.Core.Bool.{Bool, cond}
 use native.Mathlib.Numerals.{add-one}
 use native.Mathlib.Omega.{arith}
-use Rattle.votes.specs.Mask.{insert, collect}
+use Rattle.ground.specs.Mask.{insert, collect}
 use Rattle.model.specs.Routes.{route, recipients}
 use Rattle.model.proofs.routes.recipients.Statement.{statement}
 use Rattle.model.proofs.routes.recipients.Tie as tie

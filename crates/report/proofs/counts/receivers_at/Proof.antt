@@ -1,6 +1,6 @@
 -- `report::counts::receivers_at` meets its contract. Past the last station nobody has sent anything.
 use borrow.Author.Needs.{needs}
-use Rattle.votes.specs.VoteSets.{nth}
+use Rattle.ground.specs.Lists.{nth}
 use Rattle.protocol.specs.Benches.{freshStation, fresh, unsentAll}
 use Rattle.report.proofs.Stations.{sent-past}
 use Rattle.report.proofs.counts.receivers_at.Statement.{statement}

@@ -1,6 +1,6 @@
 -- `report::shown::shown_at` meets its contract. Past the last station stands one that has just begun.
 use borrow.Author.Needs.{needs}
-use Rattle.votes.specs.VoteSets.{nth}
+use Rattle.ground.specs.Lists.{nth}
 use Rattle.protocol.specs.Benches.{freshStation, fresh, unsentAll}
 use Rattle.report.proofs.Stations.{shown-past}
 use Rattle.report.proofs.shown.shown_at.Statement.{statement}

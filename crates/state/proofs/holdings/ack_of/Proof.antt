@@ -1,8 +1,8 @@
 use mathlib.Core.Path.{_≡_, sym, _∙_}
 use native.Mathlib.Omega.{arith}
 use lib.ListN.{length, length-map}
-use Rattle.votes.specs.VoteSets.{empty, nth}
-use Rattle.votes.specs.ListLaws.{nth-at, nth-past}
+use Rattle.ground.specs.Lists.{nth, nth-at, nth-past}
+use Rattle.votes.specs.VoteSets.{empty}
 use borrow.Author.Needs.{needs}
 use Rattle.state.proofs.holdings.ack_of.Statement.{statement}
 use Rattle.state.proofs.holdings.ack_of.Tie as tie

@@ -4,7 +4,7 @@ use native.Mathlib.Omega.{arith}
 use lib.ListN.{length, length-map}
 use lib.Seq.{set-out}
 use Rattle.protocol.specs.Controllers.{keepAck}
-use Rattle.votes.specs.VoteSets.{put}
+use Rattle.ground.specs.Lists.{put}
 use borrow.Author.Needs.{needs}
 use Rattle.state.proofs.holdings.keep_ack.Statement.{statement}
 use Rattle.state.proofs.holdings.keep_ack.Tie as tie

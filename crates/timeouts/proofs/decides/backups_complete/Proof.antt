@@ -6,10 +6,11 @@ use native.Mathlib.Omega.{arith}
 use native.Mathlib.Numerals.{add-one}
 use borrow.Author.Needs.{needs}
 use borrow.Author.Tests.{not-true, not-false}
-use Rattle.votes.specs.Mask.{has}
-use Rattle.votes.specs.VoteSets.{empty, nth, complete}
-use Rattle.votes.specs.Quantify.{allTo}
-use Rattle.votes.specs.Tests.{and-i}
+use Rattle.ground.specs.Mask.{has}
+use Rattle.ground.specs.Lists.{nth}
+use Rattle.votes.specs.VoteSets.{empty, complete}
+use Rattle.ground.specs.Quantify.{allTo}
+use Rattle.ground.specs.Tests.{and-i}
 use Rattle.votes.specs.declared.VoteSet.{VoteSet}
 use Rattle.protocol.specs.Rules.{backupsComplete}
 use Rattle.timeouts.proofs.Quantified.{all-no}

@@ -1,10 +1,11 @@
 -- "Every", "some" and "how many" of the controllers 1 to m, as tests and counts that compute.
 use Prim.Native.Nat.{ℕ, zero, suc, _+_, _≤_, _<_}
 use mathlib.Core.Path.{_≡_, refl, sym, _∙_}
-use mathlib.Core.Bool.{Bool, true, false, _&&_, _||_, cond, false≢true}
+use mathlib.Core.Bool.{Bool, true, false, not, _&&_, _||_, cond, true≢false, false≢true}
 use native.Mathlib.Omega.{arith}
 use native.Mathlib.Decide.{decLe, ℕ-discrete}
-use Rattle.votes.specs.Tests.{inl, inr, split, no-both, and-l, and-r, and-i, or-e, or-l, or-r, same-test}
+use mathlib.Core.Logic.{inl, inr}
+use Rattle.ground.specs.Tests.{split, no-both, and-l, and-r, and-i, or-e, or-l, or-r, same-test}
 
 -- every k of 1..m passes; some k of 1..m passes; how many do
 unfoldable pub allTo : ℕ → (ℕ → Bool) → Bool
@@ -52,6 +53,15 @@ any-at zero p e = absurd (false≢true e)
 any-at (suc m) p e = elim (or-e (p (suc m)) (anyTo m p) e) [
   | inl q ↦ record { at = suc m; low = omega arith; high = omega arith; holds = q }
   | inr q ↦ let r : Found m p = any-at m p q in record { at = r .at; low = r .low; high = omega arith; holds = r .holds }
+]
+
+-- not every one: some fails
+pub not-all : (m : ℕ) (p : ℕ → Bool) → allTo m p ≡ false → Found m (λ k. not (p k))
+unfolding allTo
+not-all zero p e = absurd (true≢false e)
+not-all (suc m) p e = elim (split (p (suc m))) [
+  | inl h ↦ let r : Found m (λ k. not (p k)) = not-all m p (rw h at e) in record { at = r .at; low = r .low; high = omega arith; holds = r .holds }
+  | inr h ↦ record { at = suc m; low = omega arith; high = omega arith; holds = rw h }
 ]
 
 -- some, where one more place passes

@@ -1,11 +1,11 @@
--- `votes::insert` meets its contract: a number that has a bit sets it, and no other changes the set.
-use Rattle.votes.specs.MaskLaws.{insert-zero, insert-past}
-use Rattle.votes.proofs.Computed.{inserted}
+-- `ground::insert` meets its contract: a number that has a bit sets it, and no other changes the set.
+use Rattle.ground.specs.MaskLaws.{insert-zero, insert-past}
+use Rattle.ground.proofs.Computed.{inserted}
 use mathlib.Core.Path.{_≡_, sym}
 use native.Mathlib.Omega.{arith}
 use borrow.Author.Needs.{needs}
-use Rattle.votes.proofs.mask.insert.Statement.{statement}
-use Rattle.votes.proofs.mask.insert.Tie as tie
+use Rattle.ground.proofs.mask.insert.Statement.{statement}
+use Rattle.ground.proofs.mask.insert.Tie as tie
 
 returns : tie.Need-returns
 returns c = let z : c .before .args .k ≡ 0 = omega arith in rw (z, insert-zero)

@@ -1,14 +1,21 @@
--- Laws of lists that are read and changed by controller number: `nth`, `put`, `map`.
+-- Lists that are read and changed by controller number, counted from 1.
 use Prim.Native.Nat.{ℕ, zero, suc, _-_, _≤_, _<_}
 use mathlib.Core.Path.{_≡_, refl, sym}
 use mathlib.Core.List.{List, [], _∷_, map}
 use native.Mathlib.Omega.{arith}
 use native.Mathlib.Decide.{ℕ-discrete}
-use lib.ListN.{getD, length, length-set, List·getD-eq-default}
+use lib.ListN.{getD, set, length, length-set, List·getD-eq-default}
 use lib.Seq.{getD-set-same, getD-set-other}
-use Rattle.votes.specs.Tests.{eqb-no, eq-eqb}
-use Rattle.votes.specs.Update.{upd, fun-ext}
-use Rattle.votes.specs.VoteSets.{nth, put}
+use borrow.Author.Tests.{ne-eqb, eq-eqb}
+use Rattle.ground.specs.Update.{upd, fun-ext}
+
+-- element k of a list, counted from 1; and the list with another element there
+unfoldable pub nth : {A : Type 0} → A → List A → ℕ → A
+nth d l zero = d
+nth d l (suc k) = getD l k d
+
+unfoldable pub put : {A : Type 0} → List A → ℕ → A → List A
+put l k a = set l (k - 1) a
 
 module _ {A : Type 0} (d : A) where
   -- as the code reads it
@@ -26,10 +33,10 @@ module _ {A : Type 0} (d : A) where
   -- a list with another element at i, read at k
   pub nth-put-at : (l : List A) (i : ℕ) (a : A) → 1 ≤ i → i ≤ length l → (k : ℕ) → nth d (put l i a) k ≡ upd (nth d l) i a k
   unfolding nth put upd
-  nth-put-at l i a x y zero = rw (eqb-no 0 i (λ e. omega arith))
+  nth-put-at l i a x y zero = rw (ne-eqb 0 i (λ e. omega arith))
   nth-put-at l i a x y (suc k) = elim (ℕ-discrete (suc k) i) [
     | yes e ↦ let e′ : i - 1 ≡ k = omega arith in rw (e′, eq-eqb (suc k) i e) (getD-set-same l k a d (omega arith))
-    | no e ↦ rw (eqb-no (suc k) i e) (getD-set-other l (i - 1) k a d (λ q. e (omega arith)))
+    | no e ↦ rw (ne-eqb (suc k) i e) (getD-set-other l (i - 1) k a d (λ q. e (omega arith)))
   ]
 
   -- the same as functions of the number

@@ -9,11 +9,12 @@ use lib.Pow.{pow-pos, pow-lt, pow-add, shl-shr, mod-pow-add}
 use lib.Dec.{eqb, ltb}
 use native.Mathlib.Decide.{decLe, ℕ-discrete}
 use lib.Bits.{bitOr, or-shr, or-step}
-use borrow.Author.Tests.{le-ltb}
-use Rattle.votes.specs.Tests.{_⊎_, inl, inr, by-cond, and-l, and-r, and-i, or-e, or-l, eqb-eq, eqb-same, eqb-no, eq-eqb, same-test, ltb-yes}
-use Rattle.votes.specs.Quantify.{allTo}
-use Rattle.votes.specs.Update.{upd, upd-same, fun-ext}
-use Rattle.votes.specs.Mask.{width, has, insert, fullTo}
+use borrow.Author.Tests.{le-ltb, eqb-true, ne-eqb, eq-eqb, lt-ltb}
+use mathlib.Core.Logic.{_⊎_, inl, inr}
+use Rattle.ground.specs.Tests.{by-cond, and-l, and-r, and-i, or-e, or-l, eqb-same, same-test}
+use Rattle.ground.specs.Quantify.{allTo}
+use Rattle.ground.specs.Update.{upd, upd-same, fun-ext}
+use Rattle.ground.specs.Mask.{width, has, insert, fullTo}
 
 -- as the code reads it
 pub has-at : (m k : ℕ) → 1 ≤ k → has m k ≡ eqb (m / 2 ^ (k - 1) % 2) 1
@@ -24,7 +25,7 @@ has-at m (suc k) h = let e : suc k - 1 ≡ k = omega arith in rw e
 pub insert-at : (m k : ℕ) → 1 ≤ k → k ≤ width → insert m k ≡ bitOr m (2 ^ (k - 1))
 unfolding insert
 insert-at m zero h w = absurd (omega arith)
-insert-at m (suc k) h w = let e : suc k - 1 ≡ k = omega arith in rw (ltb-yes k width w, e)
+insert-at m (suc k) h w = let e : suc k - 1 ≡ k = omega arith in rw (lt-ltb k width w, e)
 
 -- a number that has no bit leaves the set as it is
 pub insert-zero : (m : ℕ) → insert m 0 ≡ m
@@ -80,10 +81,10 @@ bit-more j k = rw (pow-add 2 (suc j) k, shl-shr (2 ^ suc j) k) (pow-low j)
 
 has-pow : (i k : ℕ) → has (2 ^ i) k ≡ eqb k (suc i)
 unfolding has
-has-pow i zero = sym (eqb-no 0 (suc i) (λ e. omega arith))
+has-pow i zero = sym (ne-eqb 0 (suc i) (λ e. omega arith))
 has-pow i (suc k) = elim (ℕ-discrete k i) [
   | yes e ↦ rw (e, bit-same i, eqb-same (suc i))
-  | no e ↦ rw (eqb-no (suc k) (suc i) (λ q. e (omega arith))) (elim (decLe (suc k) i) [
+  | no e ↦ rw (ne-eqb (suc k) (suc i) (λ q. e (omega arith))) (elim (decLe (suc k) i) [
     | yes h ↦ let e′ : i ≡ suc (i - suc k) + k = omega arith in rw (e′, bit-more (i - suc k) k)
     | no h ↦ rw (bit-less i k (omega arith))
   ])
@@ -99,7 +100,7 @@ or-eqb false false = refl
 pub has-insert : (m i k : ℕ) → 1 ≤ i → i ≤ width → has (insert m i) k ≡ upd (has m) i true k
 unfolding insert upd
 has-insert m zero k a b = absurd (omega arith)
-has-insert m (suc i) k a b = rw (ltb-yes i width (omega arith), has-or m (2 ^ i) k, has-pow i k) (or-eqb (has m k) (eqb k (suc i)))
+has-insert m (suc i) k a b = rw (lt-ltb i width (omega arith), has-or m (2 ^ i) k, has-pow i k) (or-eqb (has m k) (eqb k (suc i)))
 
 pub insert-is : (m i : ℕ) → 1 ≤ i → i ≤ width → has (insert m i) ≡ upd (has m) i true
 insert-is m i a b = fun-ext (has (insert m i)) (upd (has m) i true) (λ k. has-insert m i k a b)
@@ -129,7 +130,7 @@ insert-only m (suc i) k e =
   where
     either : (has m k ≡ true) ⊎ (has (2 ^ i) k ≡ true) → (k ≡ suc i) ⊎ (has m k ≡ true)
     either (inl q) = inr q
-    either (inr q) = inl (eqb-eq k (suc i) (sym (has-pow i k) ∙ q))
+    either (inr q) = inl (eqb-true k (suc i) (sym (has-pow i k) ∙ q))
 
 -- the lowest n bits, one more
 pub low-suc : (m n : ℕ) → m % 2 ^ (suc n) ≡ m / 2 ^ n % 2 * 2 ^ n + m % 2 ^ n
@@ -158,11 +159,11 @@ has-full : (m n : ℕ) → allTo n (has m) ≡ true → m % 2 ^ n ≡ 2 ^ n - 1
 unfolding allTo has
 has-full m zero h = omega arith
 has-full m (suc n) h =
-    let top : m / 2 ^ n % 2 ≡ 1 = eqb-eq _ _ (and-l (eqb (m / 2 ^ n % 2) 1) (allTo n (has m)) h) in
+    let top : m / 2 ^ n % 2 ≡ 1 = eqb-true _ _ (and-l (eqb (m / 2 ^ n % 2) 1) (allTo n (has m)) h) in
     let ih : m % 2 ^ n ≡ 2 ^ n - 1 = has-full m n (and-r (eqb (m / 2 ^ n % 2) 1) (allTo n (has m)) h) in
     rw low-suc (rw (top, pow-suc) (omega (arith, pow-pos n)))
 
 -- fullness is the test of every bit, for any n
 pub full-is : (n m : ℕ) → fullTo n m ≡ allTo n (has m)
 unfolding fullTo
-full-is n m = same-test (eqb (m % 2 ^ n) (2 ^ n - 1)) (allTo n (has m)) (λ e. full-has m n (eqb-eq _ _ e)) (λ e. eq-eqb _ _ (has-full m n e))
+full-is n m = same-test (eqb (m % 2 ^ n) (2 ^ n - 1)) (allTo n (has m)) (λ e. full-has m n (eqb-true _ _ e)) (λ e. eq-eqb _ _ (has-full m n e))

@@ -1,12 +1,12 @@
--- `votes::full_to` meets its contract. A mask has 32 bits, so it never holds all of more than 32.
-use Rattle.votes.proofs.Computed.{filled}
+-- `ground::full_to` meets its contract. A mask has 32 bits, so it never holds all of more than 32.
+use Rattle.ground.proofs.Computed.{filled}
 use mathlib.Core.Path.{sym}
 use native.Mathlib.Omega.{arith}
 use lib.Pow.{pow-pos}
-use Rattle.votes.specs.Inclusion.{full-past}
+use Rattle.ground.specs.Inclusion.{full-past}
 use borrow.Author.Needs.{needs}
-use Rattle.votes.proofs.mask.full_to.Statement.{statement}
-use Rattle.votes.proofs.mask.full_to.Tie as tie
+use Rattle.ground.proofs.mask.full_to.Statement.{statement}
+use Rattle.ground.proofs.mask.full_to.Tie as tie
 
 returns : tie.Need-returns
 returns c = sym (full-past 32 _ _ (c .before .fits .m .fits) (c .if1 .taken))

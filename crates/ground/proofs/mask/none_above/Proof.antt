@@ -1,11 +1,11 @@
--- `votes::none_above` meets its contract. A mask has 32 bits, so nothing above 32 is in it.
+-- `ground::none_above` meets its contract. A mask has 32 bits, so nothing above 32 is in it.
 use mathlib.Core.Path.{sym}
 use native.Mathlib.Omega.{arith}
-use Rattle.votes.specs.Mask.{noneAbove}
-use Rattle.votes.specs.Inclusion.{none-above-past}
+use Rattle.ground.specs.Mask.{noneAbove}
+use Rattle.ground.specs.Inclusion.{none-above-past}
 use borrow.Author.Needs.{needs}
-use Rattle.votes.proofs.mask.none_above.Statement.{statement}
-use Rattle.votes.proofs.mask.none_above.Tie as tie
+use Rattle.ground.proofs.mask.none_above.Statement.{statement}
+use Rattle.ground.proofs.mask.none_above.Tie as tie
 
 returns : tie.Need-returns
 returns c = sym (none-above-past 32 _ _ (c .before .fits .m .fits) (omega arith))

@@ -8,11 +8,12 @@ use native.Mathlib.Nat.{div-eq-of-lt, div-lt-iff-lt-mul, mod-eq-of-lt, lt-of-lt-
 use lib.Pow.{pow-pos, pow-mono}
 use lib.Dec.{eqb}
 use lib.Bits.{bitOr, or-lt}
-use borrow.Author.Tests.{ltb-true, lt-ltb, eqb-false}
-use Rattle.votes.specs.Tests.{_⊎_, inl, inr, split, no-both, eqb-eq, eq-eqb, or-l}
-use Rattle.votes.specs.Quantify.{all-at}
-use Rattle.votes.specs.Mask.{has, insert, fullTo, noneAbove, within}
-use Rattle.votes.specs.MaskLaws.{low-suc, has-or, insert-only, full-is}
+use borrow.Author.Tests.{ltb-true, lt-ltb, eqb-false, eqb-true, eq-eqb}
+use mathlib.Core.Logic.{_⊎_, inl, inr}
+use Rattle.ground.specs.Tests.{split, no-both, or-l}
+use Rattle.ground.specs.Quantify.{all-at}
+use Rattle.ground.specs.Mask.{has, insert, fullTo, noneAbove, within}
+use Rattle.ground.specs.MaskLaws.{low-suc, has-or, insert-only, full-is}
 
 -- bits that no member has ---------------------------------------------------------
 
@@ -115,7 +116,7 @@ or-absorbs false y h = refl
 -- each member of a set within another is a member of that
 pub within-has : (a b : ℕ) → within a b ≡ true → (k : ℕ) → has a k ≡ true → has b k ≡ true
 unfolding within
-within-has a b w k e = ap (λ (m : ℕ). has m k) (sym (eqb-eq (bitOr a b) b w)) ∙ (has-or a b k ∙ or-l (has a k) (has b k) e)
+within-has a b w k e = ap (λ (m : ℕ). has m k) (sym (eqb-true (bitOr a b) b w)) ∙ (has-or a b k ∙ or-l (has a k) (has b k) e)
 
 -- a set each of whose members is one of another is within that
 pub has-within : (a b : ℕ) → ((k : ℕ) → has a k ≡ true → has b k ≡ true) → within a b ≡ true

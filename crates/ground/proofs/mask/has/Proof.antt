@@ -1,12 +1,12 @@
--- `votes::has` meets its contract. A mask has 32 bits, so nothing above 32 is in it.
+-- `ground::has` meets its contract. A mask has 32 bits, so nothing above 32 is in it.
 use mathlib.Core.Path.{_≡_, sym}
 use native.Mathlib.Omega.{arith}
-use Rattle.votes.specs.Mask.{has}
-use Rattle.votes.specs.MaskLaws.{has-at}
-use Rattle.votes.specs.Inclusion.{has-past}
+use Rattle.ground.specs.Mask.{has}
+use Rattle.ground.specs.MaskLaws.{has-at}
+use Rattle.ground.specs.Inclusion.{has-past}
 use borrow.Author.Needs.{needs}
-use Rattle.votes.proofs.mask.has.Statement.{statement}
-use Rattle.votes.proofs.mask.has.Tie as tie
+use Rattle.ground.proofs.mask.has.Statement.{statement}
+use Rattle.ground.proofs.mask.has.Tie as tie
 
 returns : tie.Need-returns
 unfolding has

@@ -3,7 +3,9 @@ use Prim.Native.Nat.{ℕ}
 use mathlib.Core.Path.{_≡_}
 use mathlib.Core.Bool.{false, cond}
 use lib.Dec.{eqb}
-use Rattle.votes.specs.Tests.{inl, inr, split, eqb-eq, eqb-same}
+use mathlib.Core.Logic.{inl, inr}
+use borrow.Author.Tests.{eqb-true}
+use Rattle.ground.specs.Tests.{split, eqb-same}
 
 -- the function g with a at place i
 unfoldable pub upd : {A : Type 0} → (ℕ → A) → ℕ → A → ℕ → A
@@ -20,7 +22,7 @@ upd-other f i a j e = rw e
 -- a family over all places holds after a change if it holds at the changed place, and did before
 pub upd-all : {A : Type 0} (P : ℕ → A → Type 0) (f : ℕ → A) (i : ℕ) (a : A) → P i a → ((k : ℕ) → P k (f k)) → (k : ℕ) → P k (upd f i a k)
 upd-all P f i a here there k = elim (split (eqb k i)) [
-  | inl e ↦ rw (eqb-eq k i e, upd-same f i a) here
+  | inl e ↦ rw (eqb-true k i e, upd-same f i a) here
   | inr e ↦ rw (upd-other f i a k e) (there k)
 ]
 

@@ -1,8 +1,8 @@
 // Sets of controllers as masks: bit k - 1 is controller k. Numbers that have no bit are in no set.
 ghost use mathlib.Core.Path.{_≡_};
 ghost use Prim.Native.Nat.{_≤_, _^_};
-ghost use Rattle.votes.specs.Mask.{width, has, insert, fullTo, noneAbove, within};
-ghost use Rattle.votes.specs.Quantify.{countTo};
+ghost use Rattle.ground.specs.Mask.{width, has, insert, fullTo, noneAbove, within};
+ghost use Rattle.ground.specs.Quantify.{countTo};
 
 // Is controller k in the set?
 pub fn has(m: u32, k: u8) -> bool

@@ -7,12 +7,12 @@ use native.Mathlib.Decide.{decLe, ℕ-discrete}
 use lib.Pow.{pow-pos, pow-lt}
 use lib.Dec.{leb, ltb}
 use lib.Bits.{bitOr, or-lt}
-use borrow.Author.Tests.{lt-leb, ltb-true}
-use Rattle.votes.specs.Tests.{by-cond, and-l, and-r, eqb-no, le-leb, leb-le}
-use Rattle.votes.specs.Update.{upd-same, upd-other, fun-ext}
-use Rattle.votes.specs.Mask.{width, has, insert, noneAbove, collect}
-use Rattle.votes.specs.MaskLaws.{has-none, has-insert}
-use Rattle.votes.specs.Inclusion.{le-none-above}
+use borrow.Author.Tests.{lt-leb, ltb-true, ne-eqb, le-leb, leb-true}
+use Rattle.ground.specs.Tests.{by-cond, and-l, and-r}
+use Rattle.ground.specs.Update.{upd-same, upd-other, fun-ext}
+use Rattle.ground.specs.Mask.{width, has, insert, noneAbove, collect}
+use Rattle.ground.specs.MaskLaws.{has-none, has-insert}
+use Rattle.ground.specs.Inclusion.{le-none-above}
 
 has-zero : (m : ℕ) → has m 0 ≡ false
 unfolding has
@@ -25,7 +25,7 @@ collect-past zero p k w h = has-none k
 collect-past (suc n) p k w h =
     let ih : has (collect n p) k ≡ false = collect-past n p k (omega arith) (omega arith) in
     by-cond (λ (m : ℕ). has m k ≡ false) (p (suc n)) (insert (collect n p) (suc n)) (collect n p)
-    (λ _. has-insert (collect n p) (suc n) k (omega arith) w ∙ (upd-other (has (collect n p)) (suc n) true k (eqb-no k (suc n) (λ e. omega arith)) ∙ ih))
+    (λ _. has-insert (collect n p) (suc n) k (omega arith) w ∙ (upd-other (has (collect n p)) (suc n) true k (ne-eqb k (suc n) (λ e. omega arith)) ∙ ih))
     (λ _. ih)
 
 -- one of 1..n is in it exactly if it passes
@@ -38,7 +38,7 @@ collect-at (suc n) p k w a b = elim (ℕ-discrete k (suc n)) [
       (λ e. collect-past n p (suc n) (omega arith) (omega arith) ∙ sym e))
   | no q ↦ let ih : has (collect n p) k ≡ p k = collect-at n p k (omega arith) a (omega arith) in
       by-cond (λ (m : ℕ). has m k ≡ p k) (p (suc n)) (insert (collect n p) (suc n)) (collect n p)
-      (λ _. has-insert (collect n p) (suc n) k (omega arith) w ∙ (upd-other (has (collect n p)) (suc n) true k (eqb-no k (suc n) q) ∙ ih))
+      (λ _. has-insert (collect n p) (suc n) k (omega arith) w ∙ (upd-other (has (collect n p)) (suc n) true k (ne-eqb k (suc n) q) ∙ ih))
       (λ _. ih)
 ]
 
@@ -58,7 +58,7 @@ collect-is n p w = fun-ext (has (collect n p)) (λ k. leb 1 k && leb k n && p k)
 pub collect-none-above : (n : ℕ) (p : ℕ → Bool) → n ≤ width → noneAbove n (collect n p) ≡ true
 collect-none-above n p w =
     le-none-above n (collect n p) (λ k e.
-    leb-le k n (and-r (leb 1 k) (leb k n) (and-l (leb 1 k && leb k n) (p k) (sym (has-collect n p k w) ∙ e))))
+    leb-true k n (and-r (leb 1 k) (leb k n) (and-l (leb 1 k && leb k n) (p k) (sym (has-collect n p k w) ∙ e))))
 
 -- a set with one more is a mask still
 pub insert-fits : (m i : ℕ) → m < 2 ^ width → insert m i < 2 ^ width

@@ -8,19 +8,21 @@ use native.Mathlib.Nat.{mod-lt, mod-le, lt-of-le-of-lt}
 use lib.Pow.{pow-pos}
 use lib.Count.{ones, ones-cat, ones-le}
 use lib.Dec.{eqb}
-use Rattle.votes.specs.Tests.{inl, inr, split, eqb-eq, eqb-no, eq-eqb, same-test}
-use Rattle.votes.specs.Quantify.{allTo, all-at, all-of, countTo, count-le, count-all}
-use Rattle.votes.specs.Update.{upd, upd-same, upd-other}
-use Rattle.votes.specs.Mask.{width, has, insert, fullTo, within}
-use Rattle.votes.specs.MaskLaws.{low-suc, insert-is, full-is}
-use Rattle.votes.specs.Inclusion.{within-has}
+use mathlib.Core.Logic.{inl, inr}
+use borrow.Author.Tests.{eqb-true, ne-eqb, eq-eqb}
+use Rattle.ground.specs.Tests.{split, same-test}
+use Rattle.ground.specs.Quantify.{allTo, all-at, all-of, countTo, count-le, count-all}
+use Rattle.ground.specs.Update.{upd, upd-same, upd-other}
+use Rattle.ground.specs.Mask.{width, has, insert, fullTo, within}
+use Rattle.ground.specs.MaskLaws.{low-suc, insert-is, full-is}
+use Rattle.ground.specs.Inclusion.{within-has}
 
 -- counts ---------------------------------------------------------------------------
 
 count-out : (m : ℕ) (p : ℕ → Bool) (j : ℕ) → m < j → countTo m (upd p j true) ≡ countTo m p
 unfolding countTo
 count-out zero p j h = refl
-count-out (suc m) p j h = rw (upd-other p j true (suc m) (eqb-no (suc m) j (λ e. omega arith)), count-out m p j (omega arith))
+count-out (suc m) p j h = rw (upd-other p j true (suc m) (ne-eqb (suc m) j (λ e. omega arith)), count-out m p j (omega arith))
 
 -- a new member is counted once
 pub count-new : (m : ℕ) (p : ℕ → Bool) (j : ℕ) → 1 ≤ j → j ≤ m → p j ≡ false → countTo m (upd p j true) ≡ suc (countTo m p)
@@ -28,7 +30,7 @@ unfolding countTo
 count-new zero p j a b e = absurd (omega arith)
 count-new (suc m) p j a b e = elim (ℕ-discrete j (suc m)) [
   | yes q ↦ let e′ : p (suc m) ≡ false = (rw q at e) in rw (q, upd-same p (suc m) true, e′, count-out m p (suc m) (omega arith)) (omega arith)
-  | no q ↦ rw (upd-other p j true (suc m) (eqb-no (suc m) j (λ z. q (sym z))), count-new m p j a (omega arith) e) (omega arith)
+  | no q ↦ rw (upd-other p j true (suc m) (ne-eqb (suc m) j (λ z. q (sym z))), count-new m p j a (omega arith) e) (omega arith)
 ]
 
 -- where each that passes one test passes another, no more pass the first
@@ -105,5 +107,5 @@ pub full-size : (n m : ℕ) → fullTo n m ≡ eqb (countTo n (has m)) n
 full-size n m =
     rw full-is (same-test (allTo n (has m)) (eqb (countTo n (has m)) n)
     (λ e. eq-eqb (countTo n (has m)) n (all-count n (has m) (all-at n (has m) e)))
-    (λ e. let q : countTo n (has m) ≡ n = eqb-eq (countTo n (has m)) n e in
+    (λ e. let q : countTo n (has m) ≡ n = eqb-true (countTo n (has m)) n e in
     all-of n (has m) (λ k a b. count-all n 0 (has m) (has-pos m) (omega arith) k a b)))

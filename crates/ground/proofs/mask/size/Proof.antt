@@ -1,12 +1,12 @@
--- `votes::size` meets its contract: the count of the set bits is the count of the members.
+-- `ground::size` meets its contract: the count of the set bits is the count of the members.
 use lib.Pow.{pow-pos}
 use lib.Count.{ones-le}
-use Rattle.votes.specs.Sizes.{size-le}
-use Rattle.votes.proofs.Computed.{counted, counted-all}
+use Rattle.ground.specs.Sizes.{size-le}
+use Rattle.ground.proofs.Computed.{counted, counted-all}
 use native.Mathlib.Omega.{arith}
 use borrow.Author.Needs.{needs}
-use Rattle.votes.proofs.mask.size.Statement.{statement}
-use Rattle.votes.proofs.mask.size.Tie as tie
+use Rattle.ground.proofs.mask.size.Statement.{statement}
+use Rattle.ground.proofs.mask.size.Tie as tie
 
 cast-result : tie.Need-cast-result
 cast-result c = omega (arith, ones-le 32 (c .before .args .m) (c .before .fits .m .fits))

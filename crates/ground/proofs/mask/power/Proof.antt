@@ -1,9 +1,9 @@
--- `votes::mask::power` meets its contract: the shift loses nothing, since 2 to the 32 fits 64 bits.
-use Rattle.votes.proofs.Computed.{shifted}
+-- `ground::mask::power` meets its contract: the shift loses nothing, since 2 to the 32 fits 64 bits.
+use Rattle.ground.proofs.Computed.{shifted}
 use native.Mathlib.Omega.{arith}
 use borrow.Author.Needs.{needs}
-use Rattle.votes.proofs.mask.power.Statement.{statement}
-use Rattle.votes.proofs.mask.power.Tie as tie
+use Rattle.ground.proofs.mask.power.Statement.{statement}
+use Rattle.ground.proofs.mask.power.Tie as tie
 
 shl-result : tie.Need-shl-result
 shl-result c = search needs

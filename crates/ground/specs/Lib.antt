@@ -1,0 +1,9 @@
+pub mod Tests
+pub mod Quantify
+pub mod Update
+pub mod Lists
+pub mod Mask
+pub mod MaskLaws
+pub mod Inclusion
+pub mod Collect
+pub mod Sizes
