@@ -1,11 +1,10 @@
 -- The two texts in the buffer.
-use Prim.Native.Nat.{ℕ, _+_, _≤_, _<_, _-_, _^_}
+use Prim.Native.Nat.{ℕ, _≤_, _<_}
 use mathlib.Core.Path.{_≡_, refl}
 use mathlib.Core.Bool.{true}
 use mathlib.Core.List.{List, [], _∷_, _++_}
 use native.Mathlib.Omega.{arith}
 use borrow.Author.Tests.{le-leb, lt-ltb, le-ltb}
-use lib.Dec.{leb}
 use lib.ListN.{length, drop, take, set}
 use lib.Seq.{take-at}
 use Rattle.protocol.specs.declared.Bench.{Bench}
@@ -14,9 +13,10 @@ use Rattle.protocol.specs.Steps.{run}
 use Rattle.schedule.specs.Schedule.{count, events}
 use Rattle.schedule.specs.Run.{answers, hasRoom, ranOf, answered}
 use Rattle.schedule.proofs.Plays.{length-answers}
-use Rattle.report.specs.Text.{ascii, reportOf}
-use Rattle.report.specs.Report.{fits, writtenLength, writtenBuffer}
-use Rattle.output.specs.Output.{outputOf, printed, printedLength}
+use Rattle.text.specs.Text.{ascii}
+use Rattle.report.specs.Lines.{reportOf}
+use Rattle.report.specs.Report.{mostAnswers, reported}
+use Rattle.output.specs.Output.{outputOf}
 
 -- four stores
 pub four : (l : List ℕ) → 4 ≤ length l → set (set (set (set l 0 45) 1 32) 2 49) 3 10 ≡ ascii "- 1\n" ++ drop 4 l
@@ -27,17 +27,9 @@ four (a ∷ b ∷ c ∷ []) h = absurd (omega arith)
 four (a ∷ b ∷ c ∷ d ∷ l) h = refl
 
 -- a report of few answers is written as any text is
-few : (out ans : List ℕ) (b : Bench) → length ans ≤ 4096 → fits out ans b ≡ leb (length (reportOf ans b)) (length out)
-unfolding fits
-few out ans b h = rw (le-leb (length ans) (2 ^ 32 - 1) (omega arith))
-
-pub report-length-printed : (out ans : List ℕ) (b : Bench) → length ans ≤ 4096 → writtenLength out ans b ≡ printedLength (reportOf ans b) out
-unfolding writtenLength printedLength
-report-length-printed out ans b h = rw (few out ans b h)
-
-pub report-printed : (out ans : List ℕ) (b : Bench) → length ans ≤ 4096 → writtenBuffer out ans b ≡ printed (reportOf ans b) out
-unfolding writtenBuffer printed
-report-printed out ans b h = rw (few out ans b h)
+pub few : (answers : List ℕ) (b : Bench) → length answers ≤ mostAnswers → reported answers b ≡ reportOf answers b
+unfolding reported
+few answers b h = rw (le-ltb mostAnswers (length answers) h)
 
 -- a schedule that is not too long has room for its answers
 module _ (s out : List ℕ) (h : length s ≤ 40960) (l : length out ≡ 4096) where

@@ -2,16 +2,17 @@
 use report::write_report;
 use schedule::run;
 ghost use mathlib.Core.Path.{_≡_};
-ghost use Rattle.report.specs.Text.{ascii};
-ghost use Rattle.output.specs.Output.{printed, printedLength, outputOf};
+ghost use Rattle.text.specs.Text.{ascii};
+ghost use Rattle.text.specs.Writing.{fitted, fittedLength};
+ghost use Rattle.output.specs.Output.{outputOf};
 
 // A longer schedule is not run.
 pub const MOST: usize = 40960;
 
 // The one line for it, if the buffer has room.
 fn put_too_long(out: &mut [u8]) -> usize
-    ensures { λ r. ⌜ r ≡ printedLength (ascii "- 1\n") (now (out .entry)) ⌝ }
-    ensures { λ r. ⌜ now (out .exit) ≡ printed (ascii "- 1\n") (now (out .entry)) ⌝ }
+    ensures { λ r. ⌜ r ≡ fittedLength (ascii "- 1\n") (now (out .entry)) ⌝ }
+    ensures { λ r. ⌜ now (out .exit) ≡ fitted (ascii "- 1\n") (now (out .entry)) ⌝ }
 {
     if out.len() < 4 {
         return 0;
@@ -25,8 +26,8 @@ fn put_too_long(out: &mut [u8]) -> usize
 
 // Writes the program's whole output for a schedule to the front of the buffer and answers its length; 0, and nothing written, if it does not fit.
 pub fn print(s: &[u8], out: &mut [u8]) -> usize
-    ensures { λ r. ⌜ r ≡ printedLength (outputOf (now (s .entry))) (now (out .entry)) ⌝ }
-    ensures { λ r. ⌜ now (out .exit) ≡ printed (outputOf (now (s .entry))) (now (out .entry)) ⌝ }
+    ensures { λ r. ⌜ r ≡ fittedLength (outputOf (now (s .entry))) (now (out .entry)) ⌝ }
+    ensures { λ r. ⌜ now (out .exit) ≡ fitted (outputOf (now (s .entry))) (now (out .entry)) ⌝ }
 {
     if MOST < s.len() {
         return put_too_long(&mut *out);

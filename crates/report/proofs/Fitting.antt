@@ -1,40 +1,32 @@
 -- When the report fits the buffer, and what is written then.
-use Prim.Native.Nat.{ℕ, _+_, _-_, _^_, _≤_, _<_}
-use mathlib.Core.Bool.{true, false}
-use mathlib.Core.List.{List, _++_}
-use mathlib.Core.Path.{_≡_, refl, _∙_}
-use native.Mathlib.Nat.{zero-add}
+use Prim.Native.Nat.{ℕ, _≤_, _<_}
+use mathlib.Core.List.{List, []}
+use mathlib.Core.Path.{_≡_, sym}
 use native.Mathlib.Omega.{arith}
-use borrow.Author.Tests.{le-leb, lt-leb}
-use lib.ListN.{length, drop}
-use lib.Seq.{sets, sets-eq}
+use borrow.Author.Tests.{lt-ltb, le-ltb}
+use lib.ListN.{length}
+use Rattle.text.specs.Writing.{Put, fitted, fittedLength}
+use Rattle.text.specs.WritingLaws.{nothing-fitted, all-fitted, fitted-nothing}
 use Rattle.protocol.specs.declared.Bench.{Bench}
-use Rattle.report.specs.Text.{reportOf}
-use Rattle.report.specs.Report.{fits, writtenLength, writtenBuffer}
-use Rattle.report.specs.Writing.{Put}
-
--- a text at the front of a buffer that holds it
-front : (t l : List ℕ) → length t ≤ length l → sets l 0 t ≡ t ++ drop (length t) l
-front t l h = let e : 0 + length t ≤ length l = omega arith in sets-eq t l 0 e ∙ rw zero-add
+use Rattle.report.specs.Lines.{reportOf}
+use Rattle.report.specs.Report.{mostAnswers, reported}
 
 module _ (out answers : List ℕ) (b : Bench) where
-  pub too-many : 2 ^ 32 - 1 < length answers → fits out answers b ≡ false
-  unfolding fits
-  too-many h = rw (lt-leb (length answers) (2 ^ 32 - 1) h)
+  no-report : mostAnswers < length answers → reported answers b ≡ []
+  unfolding reported
+  no-report h = rw (lt-ltb mostAnswers (length answers) h)
 
-  pub too-long : length answers ≤ 2 ^ 32 - 1 → length out < length (reportOf answers b) → fits out answers b ≡ false
-  unfolding fits
-  too-long h g = rw (le-leb (length answers) (2 ^ 32 - 1) h, lt-leb (length (reportOf answers b)) (length out) g)
+  a-report : length answers ≤ mostAnswers → reported answers b ≡ reportOf answers b
+  unfolding reported
+  a-report h = rw (le-ltb mostAnswers (length answers) h)
 
-  fitting : length answers ≤ 2 ^ 32 - 1 → length (reportOf answers b) ≤ length out → fits out answers b ≡ true
-  unfolding fits
-  fitting h g = rw (le-leb (length answers) (2 ^ 32 - 1) h, le-leb (length (reportOf answers b)) (length out) g)
+  pub too-many : mostAnswers < length answers → (0 ≡ fittedLength (reported answers b) out) × (out ≡ fitted (reported answers b) out)
+  too-many h = rw (no-report h) (fitted-nothing out)
 
-  pub nothing-written : fits out answers b ≡ false → (0 ≡ writtenLength out answers b) × (out ≡ writtenBuffer out answers b)
-  unfolding writtenLength writtenBuffer
-  nothing-written e = rw e (refl, refl)
+  pub too-long : length answers ≤ mostAnswers → length out < length (reportOf answers b)
+      → (0 ≡ fittedLength (reported answers b) out) × (out ≡ fitted (reported answers b) out)
+  too-long h g = rw (a-report h) (nothing-fitted (reportOf answers b) out g)
 
-  pub all-written : {after : List ℕ} {r most : ℕ} → length answers ≤ 2 ^ 32 - 1 → length (reportOf answers b) ≤ length out
-      → Put out after 0 r (reportOf answers b) most → (r ≡ writtenLength out answers b) × (after ≡ writtenBuffer out answers b)
-  unfolding writtenLength writtenBuffer
-  all-written h g p = rw (fitting h g) (p .place ∙ zero-add _, p .bytes ∙ front (reportOf answers b) out g)
+  pub written : {after : List ℕ} {r : ℕ} → length answers ≤ mostAnswers → length (reportOf answers b) ≤ length out
+      → Put out after 0 r (reportOf answers b) → (r ≡ fittedLength (reported answers b) out) × (after ≡ fitted (reported answers b) out)
+  written h g p = rw (a-report h) (all-fitted (reportOf answers b) out g p)

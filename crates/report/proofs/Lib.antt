@@ -1,5 +1,3 @@
-mod Writing
-mod Digits
 mod Stations
 mod Sums
 mod Fitting

@@ -21,7 +21,8 @@ use Rattle.protocol.specs.Benches.{unsentAll, fresh, freshStation, benchOf, new
 use Rattle.protocol.specs.Questions.{number, unless, firstNo, ended, reply}
 use Rattle.protocol.specs.Steps.{renewed, opened, keeping, restoreFrom, perform, step, run}
 use Rattle.protocol.specs.Display.{sumTo, sentCount, telegrams}
-use Rattle.report.specs.Text.{ascii, digits, decimal, signed, lines, reportOf}
+use Rattle.text.specs.Text.{ascii, digits, decimal, signed, lines}
+use Rattle.report.specs.Lines.{reportOf}
 
 -- the answers to a list of events
 abbrev pub answersTo : Bench → List Event → List ℕ

@@ -1,10 +1,8 @@
--- what is printed, where it is written, and examples
-pub mod Text
+-- what is printed, and examples
+pub mod Lines
 pub mod Report
 pub mod Examples
--- laws
-pub mod TextLaws
+-- how long it can be
 pub mod Room
 -- what the private functions promise each other
-pub mod Writing
 pub mod Shown

@@ -6,7 +6,8 @@ use Rattle.protocol.specs.declared.Station.{Station}
 use Rattle.protocol.specs.Controllers.{outcomeIn}
 use Rattle.protocol.specs.Display.{stageShown}
 use Rattle.report.specs.declared.shown.Shown.{Shown}
-use Rattle.report.specs.Text.{ascii, decimal, signed, line, letter}
+use Rattle.text.specs.Text.{ascii, decimal, signed, line}
+use Rattle.report.specs.Lines.{letter}
 
 abbrev pub shownIn : Condition → ℕ → Shown
 shownIn k position = record { stage = stageShown k; outcome = outcomeIn k; position = position }

@@ -1,22 +1,24 @@
 // The lines of the report.
 ghost use mathlib.Core.Path.{_≡_};
 ghost use mathlib.Core.List.{_∷_, [], _++_};
-ghost use Prim.Native.Nat.{_+_, _*_, _<_, _^_};
+ghost use Prim.Native.Nat.{_≤_};
 ghost use lib.ListN.{length};
 ghost use Rattle.protocol.specs.Display.{telegrams};
-ghost use Rattle.report.specs.Text.{ascii, decimal, line, letter, answerLines, controllerLines, telegramLine};
+ghost use Rattle.text.specs.Text.{ascii, decimal, line};
+ghost use Rattle.text.specs.Writing.{Put};
+ghost use Rattle.report.specs.Lines.{letter, answerLines, controllerLines, telegramLine};
+ghost use Rattle.report.specs.Report.{mostAnswers};
 ghost use Rattle.report.specs.Shown.{shownLine};
-ghost use Rattle.report.specs.Writing.{Put};
 use crate::counts::telegrams;
 use crate::shown::Shown;
 use crate::shown::shown_at;
-use crate::writer::put_byte;
-use crate::writer::put_field;
-use crate::writer::put_number;
-use crate::writer::put_position;
 use model::Kind;
 use model::Outcome;
 use protocol::Bench;
+use text::put_byte;
+use text::put_field;
+use text::put_number;
+use text::put_signed_field;
 
 // "outcome (M, S, -)"
 fn letter_of(outcome: Outcome) -> u8
@@ -31,8 +33,7 @@ fn letter_of(outcome: Outcome) -> u8
 
 // A space and an outcome.
 fn put_outcome(out: &mut [u8], at: usize, outcome: Outcome) -> usize
-    requires { ⌜ at + 2 < 2 ^ 64 ⌝ }
-    ensures { λ r. ⌜ Put (now (out .entry)) (now (out .exit)) at r (ascii " " ++ letter outcome) 2 ⌝ }
+    ensures { λ r. ⌜ Put (now (out .entry)) (now (out .exit)) at r (ascii " " ++ letter outcome) ⌝ }
 {
     let next = put_byte(&mut *out, at, b' ');
     put_byte(&mut *out, next, letter_of(outcome))
@@ -40,8 +41,7 @@ fn put_outcome(out: &mut [u8], at: usize, outcome: Outcome) -> usize
 
 // An index and an answer.
 fn put_answer(out: &mut [u8], at: usize, i: u32, answer: u8) -> usize
-    requires { ⌜ at + 22 < 2 ^ 64 ⌝ }
-    ensures { λ r. ⌜ Put (now (out .entry)) (now (out .exit)) at r (line (decimal i ∷ decimal answer ∷ [])) 22 ⌝ }
+    ensures { λ r. ⌜ Put (now (out .entry)) (now (out .exit)) at r (line (decimal i ∷ decimal answer ∷ [])) ⌝ }
 {
     let next = put_number(&mut *out, at, i);
     let next = put_field(&mut *out, next, answer as u32);
@@ -50,22 +50,21 @@ fn put_answer(out: &mut [u8], at: usize, i: u32, answer: u8) -> usize
 
 // The C line of controller k.
 fn put_controller(out: &mut [u8], at: usize, k: u32, s: Shown) -> usize
-    requires { ⌜ at + 38 < 2 ^ 64 ⌝ }
-    ensures { λ r. ⌜ Put (now (out .entry)) (now (out .exit)) at r (shownLine k s) 38 ⌝ }
+    ensures { λ r. ⌜ Put (now (out .entry)) (now (out .exit)) at r (shownLine k s) ⌝ }
 {
     let next = put_byte(&mut *out, at, b'C');
     let next = put_field(&mut *out, next, k);
     let next = put_field(&mut *out, next, s.stage as u32);
     let outcome = s.outcome;
     let next = put_outcome(&mut *out, next, outcome);
-    let next = put_position(&mut *out, next, s.position);
+    let next = put_signed_field(&mut *out, next, s.position);
     put_byte(&mut *out, next, b'\n')
 }
 
 // A line for each answer, from the buffer's start.
 pub(crate) fn put_answers(out: &mut [u8], answers: &[u8]) -> usize
-    requires { ⌜ length (now answers) < 2 ^ 32 ⌝ }
-    ensures { λ r. ⌜ Put (now (out .entry)) (now (out .exit)) 0 r (answerLines (now (answers .entry))) (length (now (answers .entry)) * 22) ⌝ }
+    requires { ⌜ length (now answers) ≤ mostAnswers ⌝ }
+    ensures { λ r. ⌜ Put (now (out .entry)) (now (out .exit)) 0 r (answerLines (now (answers .entry))) ⌝ }
 {
     let mut next: usize = 0;
     let mut i: usize = 0;
@@ -78,8 +77,7 @@ pub(crate) fn put_answers(out: &mut [u8], answers: &[u8]) -> usize
 
 // A C line for each controller.
 pub(crate) fn put_controllers(out: &mut [u8], at: usize, b: Bench) -> usize
-    requires { ⌜ at + b .n * 38 < 2 ^ 64 ⌝ }
-    ensures { λ r. ⌜ Put (now (out .entry)) (now (out .exit)) at r (controllerLines b) (b .n * 38) ⌝ }
+    ensures { λ r. ⌜ Put (now (out .entry)) (now (out .exit)) at r (controllerLines b) ⌝ }
 {
     let n = b.n as usize;
     let mut next = at;
@@ -95,16 +93,14 @@ pub(crate) fn put_controllers(out: &mut [u8], at: usize, b: Bench) -> usize
 
 // A space and the number of telegrams of one kind.
 fn put_count(out: &mut [u8], at: usize, b: Bench, kind: Kind) -> usize
-    requires { ⌜ at + 11 < 2 ^ 64 ⌝ }
-    ensures { λ r. ⌜ Put (now (out .entry)) (now (out .exit)) at r (ascii " " ++ decimal (telegrams b kind)) 11 ⌝ }
+    ensures { λ r. ⌜ Put (now (out .entry)) (now (out .exit)) at r (ascii " " ++ decimal (telegrams b kind)) ⌝ }
 {
     put_field(&mut *out, at, telegrams(b, kind))
 }
 
 // The T line.
 pub(crate) fn put_telegrams(out: &mut [u8], at: usize, b: Bench) -> usize
-    requires { ⌜ at + 46 < 2 ^ 64 ⌝ }
-    ensures { λ r. ⌜ Put (now (out .entry)) (now (out .exit)) at r (telegramLine b) 46 ⌝ }
+    ensures { λ r. ⌜ Put (now (out .entry)) (now (out .exit)) at r (telegramLine b) ⌝ }
 {
     let next = put_byte(&mut *out, at, b'T');
     let next = put_count(&mut *out, next, b, Kind::Vote);

@@ -2,7 +2,7 @@ use Prim.Native.Nat.{_≤_}
 use mathlib.Core.Path.{sym}
 use lib.ListN.{length}
 use lib.Seq.{length-take-le}
-use Rattle.output.specs.OutputLaws.{within-buffer}
+use Rattle.text.specs.WritingLaws.{within-buffer}
 use borrow.Author.Needs.{needs}
 use Rattle.lockbench.proofs.main.Statement.{statement}
 use Rattle.lockbench.proofs.main.Tie as tie

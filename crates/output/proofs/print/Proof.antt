@@ -11,9 +11,11 @@ use Rattle.schedule.proofs.Plays.{length-answers}
 use Prim.Native.Nat.{ℕ, _≤_}
 use mathlib.Core.Path.{_≡_, sym, ap, _∙_}
 use native.Mathlib.Omega.{arith}
-use Rattle.report.specs.Report.{writtenLength, writtenBuffer}
-use Rattle.output.specs.Output.{printed, printedLength}
-use Rattle.output.proofs.Texts.{is-too-long, few-records, all-run, all-answered, is-report, report-printed, report-length-printed}
+use Rattle.protocol.specs.declared.Bench.{Bench}
+use Rattle.text.specs.Writing.{fitted, fittedLength}
+use Rattle.report.specs.Report.{reported}
+use Rattle.output.specs.Output.{outputOf}
+use Rattle.output.proofs.Texts.{is-too-long, few-records, few as few-reported, all-run, all-answered, is-report}
 use borrow.Author.Needs.{needs}
 use Rattle.output.proofs.print.Statement.{statement}
 use Rattle.output.proofs.print.Tie as tie
@@ -71,19 +73,14 @@ returns-2 c =
     let given : take (r .run .result .count) (r .run .last .1 .0) ≡ answers s =
     ap (λ (n : ℕ). take n (r .run .last .1 .0)) (counted r) ∙ ap (take (count s)) (r .run .ensures .1) ∙ all-answered s (replicate 4096 0) h l in
     let n : length (answers s) ≤ 4096 = rw (length-answers s (count s)) (few-records s (replicate 4096 0) h l) in
-    let final = run newBench (events s) in
     let w = c .before .before .write-report .ensures in
-    let text = sym (is-report s (replicate 4096 0) h l) in (
-      w .0
-          ∙ ap (λ (x : List ℕ). writtenLength out x (r .run .result .bench)) given
-          ∙ ap (λ (x : Ran). writtenLength out (answers s) (x .bench)) (ran r)
-          ∙ report-length-printed out (answers s) final n
-          ∙ ap (λ (x : List ℕ). printedLength x out) text,
-      w .1
-          ∙ ap (λ (x : List ℕ). writtenBuffer out x (r .run .result .bench)) given
-          ∙ ap (λ (x : Ran). writtenBuffer out (answers s) (x .bench)) (ran r)
-          ∙ report-printed out (answers s) final n
-          ∙ ap (λ (x : List ℕ). printed x out) text,
+    let text : reported (take (r .run .result .count) (r .run .last .1 .0)) (r .run .result .bench) ≡ outputOf s =
+    ap (λ (x : List ℕ). reported x (r .run .result .bench)) given
+    ∙ ap (λ (x : Ran). reported (answers s) (x .bench)) (ran r)
+    ∙ few-reported (answers s) (run newBench (events s)) n
+    ∙ sym (is-report s (replicate 4096 0) h l) in (
+      w .0 ∙ ap (λ (x : List ℕ). fittedLength x out) text,
+      w .1 ∙ ap (λ (x : List ℕ). fitted x out) text,
     )
 
 pub print-spec : {M : Type 1} → statement M

@@ -4,14 +4,14 @@ use lib.Dec.{leb}
 use native.Mathlib.Omega.{arith}
 use lib.ListN.{length, length-set}
 use borrow.Author.Tests.{le-leb, lt-leb}
-use Rattle.output.specs.Output.{printed, printedLength}
+use Rattle.text.specs.Writing.{fitted, fittedLength}
 use Rattle.output.proofs.Texts.{four}
 use borrow.Author.Needs.{needs}
 use Rattle.output.proofs.put_too_long.Statement.{statement}
 use Rattle.output.proofs.put_too_long.Tie as tie
 
 returns : tie.Need-returns
-unfolding printed printedLength
+unfolding fitted fittedLength
 returns c = let f = lt-leb 4 _ (c .if1 .taken) in (sym (rw f), sym (rw f))
 
 slice-write-out : tie.Need-slice-write-out
@@ -30,7 +30,7 @@ same-length : tie.Need-same-length
 same-length c = search needs
 
 returns-2 : tie.Need-returns-2
-unfolding printed printedLength
+unfolding fitted fittedLength
 returns-2 c =
     let l = c .before .args .out .now in
     let f : leb 4 (length l) ≡ true = le-leb 4 (length l) (c .if1 .left) in

@@ -1,18 +1,18 @@
 -- `report::put_report` meets its contract.
-use native.Mathlib.Omega.{arith}
-use Rattle.report.specs.Text.{reportOf}
-use Rattle.report.proofs.Writing.{put-then, put-length}
+use borrow.Author.Needs.{needs}
+use Rattle.report.specs.Lines.{reportOf}
+use Rattle.text.specs.WritingLaws.{put-then, put-length}
 use Rattle.report.proofs.put_report.Statement.{statement}
 use Rattle.report.proofs.put_report.Tie as tie
 
 put-answers-requires : tie.Need-put-answers-requires
-put-answers-requires c κs = omega arith
+put-answers-requires c κs = search needs
 
 put-controllers-requires : tie.Need-put-controllers-requires
-put-controllers-requires c κs = omega arith
+put-controllers-requires c κs = search needs
 
 put-telegrams-requires : tie.Need-put-telegrams-requires
-put-telegrams-requires c κs = omega arith
+put-telegrams-requires c κs = search needs
 
 returns : tie.Need-returns
 unfolding reportOf

@@ -1,31 +1,57 @@
--- `report::write_report` meets its contract, at each of its three returns.
+-- `report::write_report` meets its contract, at each of its returns.
 use native.Mathlib.Omega.{arith}
+use native.Mathlib.Nat.{le-trans}
 use borrow.Author.Needs.{needs}
-use Rattle.report.proofs.Fitting.{too-many, too-long, nothing-written, all-written}
+use Rattle.report.specs.Room.{report-length}
+use Rattle.report.proofs.Fitting.{too-many, too-long, written}
 use Rattle.report.proofs.write_report.Statement.{statement}
 use Rattle.report.proofs.write_report.Tie as tie
 
 returns : tie.Need-returns
-returns c = nothing-written _ _ _ (too-many _ _ _ (c .if1 .taken))
+returns c = too-many _ _ _ (c .if1 .taken)
 
-measure-requires : tie.Need-measure-requires
-measure-requires c κs = omega arith
-
-returns-2 : tie.Need-returns-2
-returns-2 c = nothing-written _ _ _ (too-long _ _ _ (c .before .before .if1 .left) (rw (← c .before .measure .ensures) (c .if2 .taken)))
+longest-requires : tie.Need-longest-requires
+longest-requires c κs = search needs
 
 put-report-requires : tie.Need-put-report-requires
-put-report-requires c κs = omega arith
+put-report-requires c κs = search needs
 
 same-length : tie.Need-same-length
 same-length c = search needs
 
-returns-3 : tie.Need-returns-3
-returns-3 c =
+returns-2 : tie.Need-returns-2
+returns-2 c =
     let test = c .before .before .before .before in
-    all-written _ _ _ (test .before .before .if1 .left) (rw (← test .before .measure .ensures) (test .if2 .left)) (c .before .before .put-report .ensures)
+    written _ _ _ (test .before .before .if1 .left) (le-trans (report-length _ _) (rw (test .before .longest .ensures) at (test .if2 .taken))) (c .before .before .put-report .ensures)
+
+measure-requires : tie.Need-measure-requires
+measure-requires c κs = search needs
+
+returns-3 : tie.Need-returns-3
+returns-3 c = too-long _ _ _ (c .before .before .before .before .if1 .left) (rw (← c .before .measure .ensures) (c .if3 .taken))
+
+put-report-requires-2 : tie.Need-put-report-requires-2
+put-report-requires-2 c κs = search needs
+
+same-length-2 : tie.Need-same-length-2
+same-length-2 c = search needs
+
+returns-4 : tie.Need-returns-4
+returns-4 c =
+    let test = c .before .before .before .before in
+    written _ _ _ (test .before .before .before .before .if1 .left) (rw (← test .before .measure .ensures) (test .if3 .left)) (c .before .before .put-report2 .ensures)
 
 pub write-report-spec : {M : Type 1} → statement M
 write-report-spec =
     tie.close
-    (tie.spec returns measure-requires returns-2 put-report-requires same-length returns-3)
+    (tie.spec
+    returns
+    longest-requires
+    put-report-requires
+    same-length
+    returns-2
+    measure-requires
+    returns-3
+    put-report-requires-2
+    same-length-2
+    returns-4)

@@ -1,17 +1,17 @@
 -- `report::lines::put_answer` meets its contract.
-use native.Mathlib.Omega.{arith}
-use Rattle.report.proofs.Writing.{put-then, put-length}
+use borrow.Author.Needs.{needs}
+use Rattle.text.specs.WritingLaws.{put-then, put-length}
 use Rattle.report.proofs.lines.put_answer.Statement.{statement}
 use Rattle.report.proofs.lines.put_answer.Tie as tie
 
 put-number-requires : tie.Need-put-number-requires
-put-number-requires c κs = omega arith
+put-number-requires c κs = search needs
 
 put-field-requires : tie.Need-put-field-requires
-put-field-requires c κs = omega arith
+put-field-requires c κs = search needs
 
 put-byte-requires : tie.Need-put-byte-requires
-put-byte-requires c κs = omega arith
+put-byte-requires c κs = search needs
 
 returns : tie.Need-returns
 returns c =

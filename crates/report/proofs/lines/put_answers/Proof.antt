@@ -3,20 +3,21 @@ use Prim.Native.Nat.{_≤_, _*_, _-_}
 use native.Mathlib.Omega.{arith}
 use lib.ListN.{length}
 use borrow.Author.Needs.{needs}
-use Rattle.report.specs.Text.{lines, answerLine}
-use Rattle.report.specs.Writing.{Put}
-use Rattle.report.proofs.Writing.{put-none, put-line, put-lines, put-length}
+use Rattle.text.specs.Text.{lines}
+use Rattle.report.specs.Lines.{answerLine}
+use Rattle.text.specs.Writing.{Put}
+use Rattle.text.specs.WritingLaws.{put-none, put-line, put-lines, put-length}
 use Rattle.report.proofs.lines.put_answers.Statement.{statement}
 use Rattle.report.proofs.lines.put_answers.Tie as tie
 
 abbrev Inv-loop : tie.InvT-loop
-Inv-loop out₀ answers next₀ i₀ out next i = (i ≤ length answers) × Put out₀ out 0 next (lines i (answerLine answers)) (i * 22)
+Inv-loop out₀ answers next₀ i₀ out next i = (i ≤ length answers) × Put out₀ out 0 next (lines i (answerLine answers))
 
 abbrev μ-loop : tie.MeasureT-loop
 μ-loop out₀ answers next₀ i₀ out next i = length answers - i
 
 loop-holds : tie.Need-loop-holds Inv-loop μ-loop
-loop-holds c = (omega arith, put-none _ 0 22 _)
+loop-holds c = (omega arith, put-none _ 0 _ (omega arith) (omega arith))
 
 cast-put-answer : tie.Need-cast-put-answer Inv-loop μ-loop
 cast-put-answer c = search needs
@@ -25,7 +26,7 @@ shared-slice-read-put-answer : tie.Need-shared-slice-read-put-answer Inv-loop μ
 shared-slice-read-put-answer c = search needs
 
 put-answer-requires : tie.Need-put-answer-requires Inv-loop μ-loop
-put-answer-requires c κs = omega arith
+put-answer-requires c κs = search needs
 
 add-i : tie.Need-add-i Inv-loop μ-loop
 add-i c = omega arith
@@ -37,7 +38,7 @@ loop-again : tie.Need-loop-again Inv-loop μ-loop
 loop-again c =
     let call = c .before .before in
     let l = call .before .before .before .before .loop in
-    (omega arith, put-line 22 (l .i) _ (l .inv .1) (call .put-answer .ensures))
+    (omega arith, put-line (l .i) _ (l .inv .1) (call .put-answer .ensures))
 
 same-length : tie.Need-same-length Inv-loop μ-loop
 same-length c = put-length (c .before .loop .inv .1)
@@ -45,7 +46,7 @@ same-length c = put-length (c .before .loop .inv .1)
 returns : tie.Need-returns Inv-loop μ-loop
 returns c =
     let l = c .before .loop in
-    put-lines 22 _ (omega arith) (l .inv .1)
+    put-lines _ (omega arith) (l .inv .1)
 
 pub put-answers-spec : {M : Type 1} → statement M
 put-answers-spec =

@@ -1,30 +1,29 @@
 -- `report::lines::put_controller` meets its contract.
-use native.Mathlib.Omega.{arith}
 use borrow.Author.Needs.{needs}
-use Rattle.report.proofs.Writing.{put-then, put-length}
+use Rattle.text.specs.WritingLaws.{put-then, put-length}
 use Rattle.report.proofs.lines.put_controller.Statement.{statement}
 use Rattle.report.proofs.lines.put_controller.Tie as tie
 
 put-byte-requires : tie.Need-put-byte-requires
-put-byte-requires c κs = omega arith
+put-byte-requires c κs = search needs
 
 put-field-requires : tie.Need-put-field-requires
-put-field-requires c κs = omega arith
+put-field-requires c κs = search needs
 
 cast-put-field : tie.Need-cast-put-field
 cast-put-field c = search needs
 
 put-field-requires-2 : tie.Need-put-field-requires-2
-put-field-requires-2 c κs = omega arith
+put-field-requires-2 c κs = search needs
 
 put-outcome-requires : tie.Need-put-outcome-requires
-put-outcome-requires c κs = omega arith
+put-outcome-requires c κs = search needs
 
-put-position-requires : tie.Need-put-position-requires
-put-position-requires c κs = omega arith
+put-signed-field-requires : tie.Need-put-signed-field-requires
+put-signed-field-requires c κs = search needs
 
 put-byte-requires-2 : tie.Need-put-byte-requires-2
-put-byte-requires-2 c κs = omega arith
+put-byte-requires-2 c κs = search needs
 
 returns : tie.Need-returns
 returns c =
@@ -35,7 +34,7 @@ returns c =
     let second = third .before .before .before .before .before in
     let first = second .before .before .before .before in
     put-then (first .put-byte .ensures) (put-then (second .put-field .ensures) (put-then (third .put-field2 .ensures)
-    (put-then (fourth .put-outcome .ensures) (put-then (fifth .put-position .ensures) (sixth .put-byte2 .ensures)))))
+    (put-then (fourth .put-outcome .ensures) (put-then (fifth .put-signed-field .ensures) (sixth .put-byte2 .ensures)))))
 
 same-length : tie.Need-same-length
 same-length c = put-length (returns c)
@@ -49,7 +48,7 @@ put-controller-spec =
     cast-put-field
     put-field-requires-2
     put-outcome-requires
-    put-position-requires
+    put-signed-field-requires
     put-byte-requires-2
     same-length
     returns)

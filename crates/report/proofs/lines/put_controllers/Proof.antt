@@ -4,14 +4,15 @@ use native.Mathlib.Numerals.{add-one}
 use native.Mathlib.Omega.{arith}
 use borrow.Author.Needs.{needs}
 use Rattle.protocol.specs.Benches.{station}
-use Rattle.report.specs.Text.{lines, controllerLine}
-use Rattle.report.specs.Writing.{Put}
-use Rattle.report.proofs.Writing.{put-none, put-line, put-lines, put-text, put-length}
+use Rattle.text.specs.Text.{lines}
+use Rattle.report.specs.Lines.{controllerLine}
+use Rattle.text.specs.Writing.{Put}
+use Rattle.text.specs.WritingLaws.{put-none, put-line, put-lines, put-text, put-length}
 use Rattle.report.proofs.lines.put_controllers.Statement.{statement}
 use Rattle.report.proofs.lines.put_controllers.Tie as tie
 
 abbrev Inv-loop : tie.InvT-loop
-Inv-loop out₀ at b n next₀ i₀ out next i = (i ≤ n) × Put out₀ out at next (lines i (λ k. controllerLine b (suc k))) (i * 38)
+Inv-loop out₀ at b n next₀ i₀ out next i = (i ≤ n) × Put out₀ out at next (lines i (λ k. controllerLine b (suc k)))
 
 abbrev μ-loop : tie.MeasureT-loop
 μ-loop out₀ at b n next₀ i₀ out next i = n - i
@@ -20,7 +21,7 @@ cast-n : tie.Need-cast-n Inv-loop μ-loop
 cast-n c = search needs
 
 loop-holds : tie.Need-loop-holds Inv-loop μ-loop
-loop-holds c = (omega arith, put-none _ _ 38 _)
+loop-holds c = (omega arith, put-none _ _ _ (omega arith) (omega arith))
 
 shown-at-requires : tie.Need-shown-at-requires Inv-loop μ-loop
 shown-at-requires c κs = search needs
@@ -32,7 +33,7 @@ add-put-controller : tie.Need-add-put-controller Inv-loop μ-loop
 add-put-controller c = omega arith
 
 put-controller-requires : tie.Need-put-controller-requires Inv-loop μ-loop
-put-controller-requires c κs = omega arith
+put-controller-requires c κs = search needs
 
 add-i : tie.Need-add-i Inv-loop μ-loop
 add-i c = omega arith
@@ -47,7 +48,7 @@ loop-again c =
     let l = call .before .before .before .before .before .loop in
     let b = call .before .before .before .before .before .before .before .before .args .b in
     let shown = call .before .before .shown-at .ensures in
-    (omega arith, put-line 38 (l .i) (λ k. controllerLine b (suc k)) (l .inv .1) (put-text (call .put-controller .ensures) (rw (add-one, shown))))
+    (omega arith, put-line (l .i) (λ k. controllerLine b (suc k)) (l .inv .1) (put-text (call .put-controller .ensures) (rw (add-one, shown))))
 
 same-length : tie.Need-same-length Inv-loop μ-loop
 same-length c = put-length (c .before .loop .inv .1)
@@ -55,7 +56,7 @@ same-length c = put-length (c .before .loop .inv .1)
 returns : tie.Need-returns Inv-loop μ-loop
 returns c =
     let l = c .before .loop in
-    put-lines 38 _ (omega arith) (l .inv .1)
+    put-lines _ (omega arith) (l .inv .1)
 
 pub put-controllers-spec : {M : Type 1} → statement M
 put-controllers-spec =

@@ -1,7 +1,6 @@
 -- `report::lines::put_count` meets its contract.
-use native.Mathlib.Omega.{arith}
 use borrow.Author.Needs.{needs}
-use Rattle.report.proofs.Writing.{put-text}
+use Rattle.text.specs.WritingLaws.{put-text}
 use Rattle.report.proofs.lines.put_count.Statement.{statement}
 use Rattle.report.proofs.lines.put_count.Tie as tie
 
@@ -9,7 +8,7 @@ telegrams-requires : tie.Need-telegrams-requires
 telegrams-requires c κs = search needs
 
 put-field-requires : tie.Need-put-field-requires
-put-field-requires c κs = omega arith
+put-field-requires c κs = search needs
 
 same-length : tie.Need-same-length
 same-length c = search needs

@@ -1,18 +1,17 @@
 -- `report::lines::put_outcome` meets its contract.
-use native.Mathlib.Omega.{arith}
 use borrow.Author.Needs.{needs}
-use Rattle.report.proofs.Writing.{put-then, put-text, put-length}
+use Rattle.text.specs.WritingLaws.{put-then, put-text, put-length}
 use Rattle.report.proofs.lines.put_outcome.Statement.{statement}
 use Rattle.report.proofs.lines.put_outcome.Tie as tie
 
 put-byte-requires : tie.Need-put-byte-requires
-put-byte-requires c κs = omega arith
+put-byte-requires c κs = search needs
 
 letter-of-requires : tie.Need-letter-of-requires
 letter-of-requires c κs = search needs
 
 put-byte-requires-2 : tie.Need-put-byte-requires-2
-put-byte-requires-2 c κs = omega arith
+put-byte-requires-2 c κs = search needs
 
 returns : tie.Need-returns
 returns c =

@@ -1,26 +1,26 @@
 -- `report::lines::put_telegrams` meets its contract.
-use native.Mathlib.Omega.{arith}
-use Rattle.report.proofs.Writing.{put-then, put-length}
+use borrow.Author.Needs.{needs}
+use Rattle.text.specs.WritingLaws.{put-then, put-length}
 use Rattle.report.proofs.lines.put_telegrams.Statement.{statement}
 use Rattle.report.proofs.lines.put_telegrams.Tie as tie
 
 put-byte-requires : tie.Need-put-byte-requires
-put-byte-requires c κs = omega arith
+put-byte-requires c κs = search needs
 
 put-count-requires : tie.Need-put-count-requires
-put-count-requires c κs = omega arith
+put-count-requires c κs = search needs
 
 put-count-requires-2 : tie.Need-put-count-requires-2
-put-count-requires-2 c κs = omega arith
+put-count-requires-2 c κs = search needs
 
 put-count-requires-3 : tie.Need-put-count-requires-3
-put-count-requires-3 c κs = omega arith
+put-count-requires-3 c κs = search needs
 
 put-count-requires-4 : tie.Need-put-count-requires-4
-put-count-requires-4 c κs = omega arith
+put-count-requires-4 c κs = search needs
 
 put-byte-requires-2 : tie.Need-put-byte-requires-2
-put-byte-requires-2 c κs = omega arith
+put-byte-requires-2 c κs = search needs
 
 returns : tie.Need-returns
 returns c =

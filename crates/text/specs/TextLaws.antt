@@ -7,7 +7,7 @@ use native.Mathlib.Nat.{pow-suc}
 use native.Mathlib.Omega.{arith}
 use lib.Dec.{ltb}
 use Rattle.ground.specs.Tests.{by-cond}
-use Rattle.report.specs.Text.{ascii, digit, digits, decimal, signed}
+use Rattle.text.specs.Text.{ascii, digit, digits, decimal, signed}
 
 -- the number that digits make, after some before them
 abbrev pub read : ℕ → List ℕ → ℕ

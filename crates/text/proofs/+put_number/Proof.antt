@@ -1,19 +1,18 @@
--- `report::writer::put_number` meets its contract. It ends since the number has a digit less at each call.
+-- `text::put_number` meets its contract. It ends since the number has a digit less at each call.
 use Prim.Native.Nat.{ℕ, _<_}
 use mathlib.Core.Path.{sym}
 use native.Mathlib.Omega.{arith}
 use borrow.Author.Needs.{needs}
 use borrow.Fn.Kinds.{In}
 use borrow.Fn.PlainCycle.{Measures, is, falls, and}
-use Rattle.report.specs.Room.{decimal-length}
-use Rattle.report.proofs.Writing.{put-as, put-then}
-use Rattle.report.proofs.Digits.{decimal-one, decimal-more, decimal-shorter}
-use Rattle.report.proofs.writer.put_number.Reads as put-number
-use Rattle.report.proofs.writer.put_number.Kinds as put-number-kinds
-use Rattle.report.proofs.writer.+put_number.Lts-put_number as put-number-lts
-use Rattle.report.proofs.writer.put_byte.Reads as put-byte-reads
-use Rattle.report.proofs.writer.+put_number.{statement}
-use Rattle.report.proofs.writer.+put_number.Tie.{close}
+use Rattle.text.specs.WritingLaws.{put-text, put-then}
+use Rattle.text.proofs.Digits.{decimal-one, decimal-more}
+use Rattle.text.proofs.put_number.Reads as put-number
+use Rattle.text.proofs.put_number.Kinds as put-number-kinds
+use Rattle.text.proofs.+put_number.Lts-put_number as put-number-lts
+use Rattle.text.proofs.put_byte.Reads as put-byte-reads
+use Rattle.text.proofs.+put_number.{statement}
+use Rattle.text.proofs.+put_number.Tie.{close}
 
 abbrev μ-put-number : Measures 1 put-number-kinds.ps ℕ
 μ-put-number κs a = a .1 .1 .0
@@ -48,7 +47,7 @@ put-number-put-byte-requires : (t : ℕ) → put-number-lts.Need-put-byte-requir
   put-number-below t,
   put-number.Post,
 ) (put-number-at t) put-number.Post
-put-number-put-byte-requires t c κs = omega arith
+put-number-put-byte-requires t c κs = search needs
 
 put-number-same-length : (t : ℕ) → put-number-lts.Need-same-length (
   put-byte-reads.Asked,
@@ -66,7 +65,7 @@ put-number-returns : (t : ℕ) → put-number-lts.Need-returns (
 ) (put-number-at t) put-number.Post
 put-number-returns t c =
     let a = c .before .before .before .before .before .before .args in
-    put-as (c .before .before .put-byte .ensures) (sym (decimal-one (a .v) (c .before .before .before .before .if1 .taken))) (decimal-length (a .v))
+    put-text (c .before .before .put-byte .ensures) (sym (decimal-one (a .v) (c .before .before .before .before .if1 .taken)))
 
 put-number-put-number-requires : (t : ℕ) → put-number-lts.Need-put-number-requires (
   put-byte-reads.Asked,
@@ -74,7 +73,7 @@ put-number-put-number-requires : (t : ℕ) → put-number-lts.Need-put-number-re
   put-number-below t,
   put-number.Post,
 ) (put-number-at t) put-number.Post
-put-number-put-number-requires t c κs = (omega arith, omega arith)
+put-number-put-number-requires t c κs = (omega arith, search needs)
 
 put-number-cast-put-byte-2 : (t : ℕ) → put-number-lts.Need-cast-put-byte-2 (
   put-byte-reads.Asked,
@@ -98,9 +97,7 @@ put-number-put-byte-requires-2 : (t : ℕ) → put-number-lts.Need-put-byte-requ
   put-number-below t,
   put-number.Post,
 ) (put-number-at t) put-number.Post
-put-number-put-byte-requires-2 t c κs =
-    let a = c .before .before .before .before .before .before .before .args in
-    omega (arith, c .before .before .before .put-number .ensures .place, decimal-shorter (a .v) (omega arith))
+put-number-put-byte-requires-2 t c κs = search needs
 
 put-number-same-length-2 : (t : ℕ) → put-number-lts.Need-same-length-2 (
   put-byte-reads.Asked,
@@ -120,7 +117,7 @@ put-number-returns-2 t c =
     let a = c .before .before .before .before .before .before .before .before .before .before .args in
     let p = c .before .before .before .before .before .before .put-number .ensures in
     let more = decimal-more (a .v) (c .before .before .before .before .before .before .before .before .if1 .left) (omega arith) in
-    put-as (put-then p (c .before .before .put-byte2 .ensures)) (sym more) (decimal-length (a .v))
+    put-text (put-then p (c .before .before .put-byte2 .ensures)) (sym more)
 
 pub +put-number-spec : {M : Type 1} → statement M
 +put-number-spec = close μ-put-number λ t. put-number-lts.spec (

@@ -5,9 +5,7 @@ use mathlib.Core.Path.{_≡_, _∙_}
 use native.Mathlib.Nat.{pow-suc}
 use native.Mathlib.Omega.{arith}
 use borrow.Author.Tests.{lt-ltb, le-ltb}
-use lib.ListN.{length}
-use Rattle.report.specs.Text.{ascii, digit, digits, decimal, signed}
-use Rattle.report.specs.Room.{digits-length}
+use Rattle.text.specs.Text.{ascii, digit, digits, decimal, signed}
 
 div-lt : (v k : ℕ) → v < 10 ^ suc (suc k) → v / 10 < 10 ^ suc k
 div-lt v k h = let q : v < 10 ^ suc k * 10 = rw pow-suc at h in omega arith
@@ -29,11 +27,6 @@ digits-more k v h = rw (le-ltb v 10 h)
 pub decimal-more : (v : ℕ) → 10 ≤ v → v < 2 ^ 32 → decimal v ≡ decimal (v / 10) ++ (digit (v % 10) ∷ [])
 unfolding decimal
 decimal-more v g h = let e : v / 10 < 10 ^ 9 = omega arith in digits-more 9 v g ∙ rw (digits-enough 8 (v / 10) e)
-
--- a number without its last digit has one digit less
-pub decimal-shorter : (v : ℕ) → v < 2 ^ 32 → length (decimal (v / 10)) ≤ 9
-unfolding decimal
-decimal-shorter v h = let e : v / 10 < 10 ^ 9 = omega arith in rw (← digits-enough 8 (v / 10) e) (digits-length 9 (v / 10))
 
 -- the sign
 pub signed-plus : (v : ℕ) → v < 2 ^ 31 → decimal v ≡ signed v

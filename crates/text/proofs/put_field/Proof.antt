@@ -1,15 +1,14 @@
--- `report::writer::put_field` meets its contract.
-use native.Mathlib.Omega.{arith}
+-- `text::put_field` meets its contract.
 use borrow.Author.Needs.{needs}
-use Rattle.report.proofs.Writing.{put-then}
-use Rattle.report.proofs.writer.put_field.Statement.{statement}
-use Rattle.report.proofs.writer.put_field.Tie as tie
+use Rattle.text.specs.WritingLaws.{put-then}
+use Rattle.text.proofs.put_field.Statement.{statement}
+use Rattle.text.proofs.put_field.Tie as tie
 
 put-byte-requires : tie.Need-put-byte-requires
-put-byte-requires c κs = omega arith
+put-byte-requires c κs = search needs
 
 put-number-requires : tie.Need-put-number-requires
-put-number-requires c κs = omega arith
+put-number-requires c κs = search needs
 
 same-length : tie.Need-same-length
 same-length c = search needs

@@ -1,0 +1,72 @@
+// Writers of text: each puts a text into a buffer from an index on, and answers the index after it. What would stand past the buffer's
+// end is left out, so that a buffer of no bytes serves to measure a text.
+ghost use mathlib.Core.List.{_∷_, [], _++_};
+ghost use Rattle.text.specs.Text.{ascii, decimal, signed};
+ghost use Rattle.text.specs.Writing.{Put};
+
+// No index is higher.
+const HIGHEST: usize = 0xFFFF_FFFF_FFFF_FFFF;
+
+pub fn put_byte(out: &mut [u8], at: usize, b: u8) -> usize
+    ensures { λ r. ⌜ Put (now (out .entry)) (now (out .exit)) at r (b ∷ []) ⌝ }
+{
+    if at < out.len() {
+        out[at] = b;
+        return at + 1;
+    }
+    if at < HIGHEST {
+        return at + 1;
+    }
+    at
+}
+
+// A number in decimal.
+pub fn put_number(out: &mut [u8], at: usize, v: u32) -> usize
+    ensures { λ r. ⌜ Put (now (out .entry)) (now (out .exit)) at r (decimal v) ⌝ }
+{
+    if v < 10 {
+        return put_byte(&mut *out, at, b'0' + v as u8);
+    }
+    let next = put_number(&mut *out, at, v / 10);
+    put_byte(&mut *out, next, b'0' + (v % 10) as u8)
+}
+
+// A number in two's complement, with its sign.
+pub fn put_signed(out: &mut [u8], at: usize, v: u32) -> usize
+    ensures { λ r. ⌜ Put (now (out .entry)) (now (out .exit)) at r (signed v) ⌝ }
+{
+    if v < 0x8000_0000 {
+        return put_number(&mut *out, at, v);
+    }
+    let next = put_byte(&mut *out, at, b'-');
+    put_number(&mut *out, next, 0xFFFF_FFFF - v + 1)
+}
+
+// A space and a number.
+pub fn put_field(out: &mut [u8], at: usize, v: u32) -> usize
+    ensures { λ r. ⌜ Put (now (out .entry)) (now (out .exit)) at r (ascii " " ++ decimal v) ⌝ }
+{
+    let next = put_byte(&mut *out, at, b' ');
+    put_number(&mut *out, next, v)
+}
+
+// A space and a number in two's complement.
+pub fn put_signed_field(out: &mut [u8], at: usize, v: u32) -> usize
+    ensures { λ r. ⌜ Put (now (out .entry)) (now (out .exit)) at r (ascii " " ++ signed v) ⌝ }
+{
+    let next = put_byte(&mut *out, at, b' ');
+    put_signed(&mut *out, next, v)
+}
+
+// A text that is already bytes.
+pub fn put_bytes(out: &mut [u8], at: usize, bytes: &[u8]) -> usize
+    ensures { λ r. ⌜ Put (now (out .entry)) (now (out .exit)) at r (now (bytes .entry)) ⌝ }
+{
+    let mut next = at;
+    let mut i: usize = 0;
+    while i < bytes.len() {
+        next = put_byte(&mut *out, next, bytes[i]);
+        i += 1;
+    }
+    next
+}
