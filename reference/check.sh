@@ -11,7 +11,7 @@ work=$ref/work
 say() { printf 'compare: %s\n' "$*"; }
 stop() { printf 'compare: FAILED: %s\n' "$*" >&2; exit 1; }
 
-for program in try_records try_controller lockbench; do
+for program in try_records try_controller program_bench; do
     [ -x "$bin/$program" ] || stop "target/bin/$program is missing: run 'rt check' first"
 done
 
@@ -39,5 +39,5 @@ compare controller try_controller 100000 11
 say "100000 sequences, $(wc -l < "$work/controller.expected") calls of single controllers answered alike"
 
 "$ref/gen_schedules" 2000 3 > "$work/schedules"
-"$ref/compare" "$work/schedules" "$bin/lockbench" || stop "schedules differ"
+"$ref/compare" "$work/schedules" "$bin/program_bench" || stop "schedules differ"
 rm -rf "$work"

@@ -4,8 +4,8 @@ use lib.ListN.{length}
 use lib.Seq.{length-take-le}
 use Rattle.text.specs.WritingLaws.{within-buffer}
 use borrow.Author.Needs.{needs}
-use Rattle.lockbench.proofs.main.Statement.{statement}
-use Rattle.lockbench.proofs.main.Tie as tie
+use Rattle.program_bench.proofs.main.Statement.{statement}
+use Rattle.program_bench.proofs.main.Tie as tie
 
 slice-aggregate-read-full : tie.Need-slice-aggregate-read-full
 slice-aggregate-read-full c = search needs
