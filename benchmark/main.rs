@@ -6,15 +6,15 @@ use std::hint::black_box;
 use std::time::Instant;
 
 mod proved {
-    #[link(name = "exports", kind = "static")]
+    #[link(name = "bench_output", kind = "static")]
     unsafe extern "C" {
         // the slice and the buffer pass as pointer and length
-        fn lockbench_print(schedule: *const u8, length: usize, out: *mut u8, room: usize) -> usize;
+        fn bench_render(schedule: *const u8, length: usize, out: *mut u8, room: usize) -> usize;
     }
 
     /// The text that the bench program prints for a schedule, written into `out`.
     pub fn report(schedule: &[u8], out: &mut [u8]) -> usize {
-        unsafe { lockbench_print(schedule.as_ptr(), schedule.len(), out.as_mut_ptr(), out.len()) }
+        unsafe { bench_render(schedule.as_ptr(), schedule.len(), out.as_mut_ptr(), out.len()) }
     }
 }
 

@@ -3,7 +3,7 @@
 set -euo pipefail
 cd "$(dirname "$0")/.."
 ref=target/reference
-rt staticlib exports > target/staticlib.log 2>&1 || { tail -n 5 target/staticlib.log >&2; exit 1; }
+rt staticlib bench_output > target/staticlib.log 2>&1 || { tail -n 5 target/staticlib.log >&2; exit 1; }
 reference/build.sh
 rustc --edition 2021 -O -L native=target/staticlib --extern reference="$ref/libreference.rlib" -o "$ref/benchmark" benchmark/main.rs
 "$ref/gen_schedules" 400 21 > "$ref/benchmark.schedules"

@@ -1,5 +1,6 @@
 #!/usr/bin/env bash
-# Compares what was proved with the independent implementation beside this script: records, single controllers, whole schedules.
+# Compares what was proved with the independent implementation beside this script: records, single controllers, the examples, whole
+# schedules; then what each request of document 02 has in checks/; and calls the exported function from Rust.
 # The programs under test are in target/bin; `rt check` or `rt ci` puts them there.
 set -euo pipefail
 here=$(cd "$(dirname "$0")" && pwd)
@@ -11,11 +12,14 @@ work=$ref/work
 say() { printf 'compare: %s\n' "$*"; }
 stop() { printf 'compare: FAILED: %s\n' "$*" >&2; exit 1; }
 
-for program in try_records try_controller program_bench; do
+for program in $(sed -e '/^#/d' -e 's/^[^|]*| *\([^ |]*\).*/\1/' "$root/bin/programs"); do
     [ -x "$bin/$program" ] || stop "target/bin/$program is missing: run 'rt check' first"
 done
 
 "$here/build.sh" || stop "the reference implementation does not build"
+for program in "$here"/programs/*.rs; do
+    grep -qF "programs/$(basename "$program")" "$here/Cargo.toml" || stop "reference/Cargo.toml does not name programs/$(basename "$program")"
+done
 mkdir -p "$work"
 "$ref/trials" > "$work/trials.out" || { cat "$work/trials.out"; stop "the reference fails its own trials"; }
 say "the reference passes its own trials"
@@ -38,6 +42,29 @@ say "$(wc -l < "$work/records.expected") records read and written alike; refusal
 compare controller try_controller 100000 11
 say "100000 sequences, $(wc -l < "$work/controller.expected") calls of single controllers answered alike"
 
+# The schedules of examples/, whose outputs beside them come from document 01 (the listing) or from the reference, and never from the program.
+met=0
+for schedule in "$root"/examples/*.events; do
+    expected=${schedule%.events}.expected
+    [ -f "$expected" ] || stop "$(basename "$schedule") has no expected output beside it"
+    "$ref/ref_bench" < "$schedule" | cmp - "$expected" || stop "$(basename "$schedule"): the reference prints something else than stands beside it"
+    "$bin/program_bench" < "$schedule" | cmp - "$expected" || stop "$(basename "$schedule"): the program prints something else than stands beside it"
+    met=$((met + 1))
+done
+[ "$met" -gt 0 ] || stop "examples/ has no schedules"
+say "$met examples print what stands beside them"
+
+# The exported function, called from Rust.
+(cd "$root" && rt staticlib bench_output) > "$work/staticlib.log" 2>&1 || { tail -n 5 "$work/staticlib.log"; stop "the archive does not build"; }
+rustc --edition 2021 -D warnings -L native="$root/target/staticlib" -o "$work/from_rust" "$root/examples/from_rust.rs" || stop "examples/from_rust.rs does not build"
+"$work/from_rust" "$root"/examples/*.events > "$work/from_rust.out" || stop "a call from Rust gives something else"
+say "$(cat "$work/from_rust.out")"
+
 "$ref/gen_schedules" 2000 3 > "$work/schedules"
 "$ref/compare" "$work/schedules" "$bin/program_bench" || stop "schedules differ"
+
+# The requests, a file each; they use say, stop, compare and the folders above.
+for part in "$here"/checks/*.sh; do
+    [ ! -f "$part" ] || . "$part"
+done
 rm -rf "$work"

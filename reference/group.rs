@@ -1,7 +1,7 @@
 //! The controllers of one lock. A backup is a "holder" of document 01.
 
 use crate::members::Members;
-use crate::records::message::MessageKind;
+use crate::message_kind::MessageKind;
 
 pub const MAX_CONTROLLERS: u8 = 16;
 

@@ -8,6 +8,7 @@ pub mod frame;
 pub mod generate;
 pub mod group;
 pub mod members;
+pub mod message_kind;
 pub mod questions;
 pub mod records;
 pub mod rng;

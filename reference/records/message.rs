@@ -2,40 +2,10 @@
 
 use super::{read_u16, read_u32, write_u32};
 use crate::group::Group;
+pub use crate::message_kind::MessageKind;
 use crate::members::Members;
 use crate::questions::{answer, ask, group_in_range, order_in_range, route_in_range};
 use crate::vote_set::VoteSet;
-
-/// "kind (1 vote, 2 acknowledgement, 3 help call, 4 help answer)"
-#[derive(Clone, Copy, PartialEq, Eq, Debug)]
-pub enum MessageKind {
-    Vote = 1,
-    Ack = 2,
-    Help = 3,
-    Helped = 4,
-}
-
-impl MessageKind {
-    pub const ALL: [MessageKind; 4] = [
-        MessageKind::Vote,
-        MessageKind::Ack,
-        MessageKind::Help,
-        MessageKind::Helped,
-    ];
-
-    pub fn from_number(number: u8) -> Option<MessageKind> {
-        Self::ALL.into_iter().find(|kind| kind.number() == number)
-    }
-
-    pub fn number(self) -> u8 {
-        self as u8
-    }
-
-    /// The place of the kind in a table by kind.
-    pub fn index(self) -> usize {
-        self as usize - 1
-    }
-}
 
 #[derive(Clone, Copy, PartialEq, Eq, Debug)]
 pub struct Message {

@@ -1,33 +1,56 @@
-// A vote is asked for, and a telegram arrives. A call at a wrong stage or in a wrong condition changes nothing, and the answer says so.
-use crate::arrivals::arrives;
-use crate::voting::vote_rule;
-use answers::passed;
-use answers::takes_part;
+// A vote is asked for, a telegram arrives, a timeout (document 01: a bell) is over.
+use controller_rules::arrives;
+use controller_rules::first_timeout;
+use controller_rules::second_timeout;
+use controller_rules::vote_rule;
+use controller_state::is_running;
+use controller_state::passed_over;
+use controller_state::phase_in;
 use model::Message;
-use model::member;
+use model::is_controller;
 use model::route;
+use model::sizes_in_range;
 use protocol::Answer;
 use protocol::Controller;
-use protocol::Member;
-use state::phase;
+use protocol::Identity;
 ghost use mathlib.Core.Path.{_≡_};
-ghost use Rattle.protocol.specs.Calls.{vote, addressed, receive};
+ghost use mathlib.Core.Bool.{_&&_};
+ghost use Rattle.protocol.specs.Controllers.{runs};
+ghost use Rattle.protocol.specs.Calls.{validIdentity, vote, addressed, receive, timeout};
+
+// A controller of a lock, in an order, and running.
+fn takes_part(me: Identity, c: Controller) -> bool
+    ensures { λ r. ⌜ r ≡ (validIdentity me && runs c) ⌝ }
+{
+    if !sizes_in_range(me.n, me.f) {
+        return false;
+    }
+    if !is_controller(me.n, me.id) {
+        return false;
+    }
+    if me.order < 1 {
+        return false;
+    }
+    let now = c.condition;
+    is_running(now)
+}
 
 // Its vote, willing or not, and the target of its gate: taken at stage 0.
-pub fn vote(me: Member, willing: bool, target: u32, c: Controller) -> Answer
+pub fn vote(me: Identity, willing: bool, target: u32, c: Controller) -> Answer
     ensures { λ r. ⌜ r ≡ vote me willing target c ⌝ }
 {
     if !takes_part(me, c) {
-        return passed(c);
+        return passed_over(c);
     }
-    if phase(c) != 0 {
-        return passed(c);
+    let now = c.condition;
+    if phase_in(now) != 0 {
+        return passed_over(c);
     }
     vote_rule(me.n, me.f, me.id, willing, target, c)
 }
 
 // Is a telegram of this order, n and f, meant for this controller, and may it travel so?
-fn addressed(me: Member, m: Message) -> bool
+fn addressed(me: Identity, m: Message) -> bool
     ensures { λ r. ⌜ r ≡ addressed me m ⌝ }
 {
     if m.order != me.order {
@@ -42,7 +65,7 @@ fn addressed(me: Member, m: Message) -> bool
     if m.to != me.id {
         return false;
     }
-    if !member(me.n, m.from) {
+    if !is_controller(me.n, m.from) {
         return false;
     }
     let kind = m.kind;
@@ -50,16 +73,33 @@ fn addressed(me: Member, m: Message) -> bool
 }
 
 // A telegram arrives.
-pub fn receive(me: Member, m: Message, c: Controller) -> Answer
+pub fn receive(me: Identity, m: Message, c: Controller) -> Answer
     ensures { λ r. ⌜ r ≡ receive me m c ⌝ }
 {
     if !takes_part(me, c) {
-        return passed(c);
+        return passed_over(c);
     }
     if !addressed(me, m) {
-        return passed(c);
+        return passed_over(c);
     }
     let kind = m.kind;
-    let votes = m.votes;
-    arrives(kind, me.n, me.f, m.from, votes, c)
+    arrives(kind, me.n, me.f, m.from, m.votes, c)
+}
+
+// The first timeout is at stage 1, the second at stage 2.
+pub fn timeout(me: Identity, c: Controller) -> Answer
+    ensures { λ r. ⌜ r ≡ timeout me c ⌝ }
+{
+    if !takes_part(me, c) {
+        return passed_over(c);
+    }
+    let now = c.condition;
+    let phase = phase_in(now);
+    if phase == 1 {
+        return first_timeout(me.n, me.f, me.id, c);
+    }
+    if phase == 2 {
+        return second_timeout(me.n, me.f, me.id, c);
+    }
+    passed_over(c)
 }

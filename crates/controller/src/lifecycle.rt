@@ -1,38 +1,39 @@
 // The arbiter's word, and what ends, saves, restores and renews a controller.
-use answers::passed;
-use answers::quiet;
+use controller_state::becomes;
+use controller_state::cleared;
+use controller_state::conclude;
+use controller_state::in_phase;
+use controller_state::is_running;
+use controller_state::is_standby;
+use controller_state::is_stopped;
+use controller_state::outcome_in;
+use controller_state::passed_over;
+use controller_state::phase_in;
 use model::Checkpoint;
 use model::Outcome;
 use model::word_of;
 use protocol::Answer;
 use protocol::Condition;
 use protocol::Controller;
-use protocol::Member;
+use protocol::Identity;
 use protocol::Saved;
-use state::cleared;
-use state::conclude;
-use state::in_phase;
-use state::outcome;
-use state::phase;
-use state::runs;
-use state::stands_by;
-use state::stopped;
 ghost use mathlib.Core.Path.{_≡_};
 ghost use mathlib.Core.Bool.{cond, _||_};
 ghost use lib.Dec.{eqb};
 ghost use Rattle.model.specs.declared.Outcome.the-variants.{None};
 ghost use Rattle.protocol.specs.Controllers.{runs, standsBy};
-ghost use Rattle.protocol.specs.Calls.{awaitsDecision, decide, stop, cardOf, save, restore, renew};
+ghost use Rattle.protocol.specs.Calls.{awaitsDecision, decide, stop, checkpointOf, save, restore, renew};
 
 // It stands by, or runs at stage 3.
 fn awaits_decision(c: Controller) -> bool
     ensures { λ r. ⌜ r ≡ awaitsDecision c ⌝ }
 {
-    if stands_by(c) {
+    let now = c.condition;
+    if is_standby(now) {
         return true;
     }
-    if runs(c) {
-        return phase(c) == 3;
+    if is_running(now) {
+        return phase_in(now) == 3;
     }
     false
 }
@@ -42,19 +43,20 @@ pub fn decide(to_move: bool, c: Controller) -> Answer
     ensures { λ r. ⌜ r ≡ decide «to_move» c ⌝ }
 {
     if awaits_decision(c) {
-        return quiet(conclude(c, word_of(to_move)));
+        return becomes(conclude(c, word_of(to_move)));
     }
-    passed(c)
+    passed_over(c)
 }
 
 // Running or standing by.
 fn is_up(c: Controller) -> bool
     ensures { λ r. ⌜ r ≡ (runs c || standsBy c) ⌝ }
 {
-    if runs(c) {
+    let now = c.condition;
+    if is_running(now) {
         return true;
     }
-    stands_by(c)
+    is_standby(now)
 }
 
 // It ends everything but the position of its gate.
@@ -62,63 +64,65 @@ pub fn stop(c: Controller) -> Answer
     ensures { λ r. ⌜ r ≡ stop c ⌝ }
 {
     if is_up(c) {
-        return quiet(cleared(Condition::Stopped, c));
+        return becomes(cleared(Condition::Stopped, c));
     }
-    passed(c)
+    passed_over(c)
 }
 
-// What it is and holds, as a card.
-fn card_of(me: Member, c: Controller) -> Checkpoint
-    ensures { λ r. ⌜ r ≡ cardOf me c ⌝ }
+// What it is and holds, as a checkpoint.
+fn checkpoint_of(me: Identity, c: Controller) -> Checkpoint
+    ensures { λ r. ⌜ r ≡ checkpointOf me c ⌝ }
 {
+    let now = c.condition;
     Checkpoint {
         id: me.id,
         n: me.n,
         f: me.f,
-        outcome: outcome(c),
+        outcome: outcome_in(now),
         order: me.order,
-        position: c.position,
+        position: c.gate.position,
     }
 }
 
-// The card, unless it is stopped.
-pub fn save(me: Member, c: Controller) -> Saved
+// The checkpoint, unless it is stopped.
+pub fn save(me: Identity, c: Controller) -> Saved
     ensures { λ r. ⌜ r ≡ save me c ⌝ }
 {
     if is_up(c) {
-        return Saved::Card(card_of(me, c));
+        return Saved::Newest(checkpoint_of(me, c));
     }
     Saved::Nothing
 }
 
-// The card's outcome if the card is of this order, else none.
-fn outcome_saved(me: Member, card: Checkpoint) -> Outcome
-    ensures { λ r. ⌜ r ≡ cond (eqb (card .order) (me .order)) (card .outcome) None ⌝ }
+// The checkpoint's outcome if it is of this order, else none.
+fn outcome_saved(me: Identity, saved: Checkpoint) -> Outcome
+    ensures { λ r. ⌜ r ≡ cond (eqb (saved .order) (me .order)) (saved .outcome) None ⌝ }
 {
-    if card.order == me.order {
-        let saved = card.outcome;
-        return saved;
+    if saved.order == me.order {
+        return saved.outcome;
     }
     Outcome::None
 }
 
 // A stopped controller stands by. The gate stays where it is.
-pub fn restore(me: Member, card: Checkpoint, c: Controller) -> Answer
-    ensures { λ r. ⌜ r ≡ restore me card c ⌝ }
+pub fn restore(me: Identity, saved: Checkpoint, c: Controller) -> Answer
+    ensures { λ r. ⌜ r ≡ restore me saved c ⌝ }
 {
-    if stopped(c) {
-        let saved = outcome_saved(me, card);
-        let next = cleared(Condition::Standby(saved), c);
-        return quiet(next);
+    let now = c.condition;
+    if is_stopped(now) {
+        let outcome = outcome_saved(me, saved);
+        let next = cleared(Condition::Standby(outcome), c);
+        return becomes(next);
     }
-    passed(c)
+    passed_over(c)
 }
 
 // A new order: all but the stopped begin at stage 0.
 pub fn renew(c: Controller) -> Controller
     ensures { λ r. ⌜ r ≡ renew c ⌝ }
 {
-    if stopped(c) {
+    let now = c.condition;
+    if is_stopped(now) {
         return cleared(Condition::Stopped, c);
     }
     cleared(in_phase(0, Outcome::None), c)

@@ -1,3 +1,4 @@
+pub mod Limit
 pub mod Tests
 pub mod Quantify
 pub mod Update

@@ -11,7 +11,7 @@ use native.Mathlib.Decide.{decLe, ℕ-discrete}
 use lib.Bits.{bitOr, or-shr, or-step}
 use borrow.Author.Tests.{le-ltb, eqb-true, ne-eqb, eq-eqb, lt-ltb}
 use mathlib.Core.Logic.{_⊎_, inl, inr}
-use Rattle.ground.specs.Tests.{by-cond, and-l, and-r, and-i, or-e, or-l, eqb-same, same-test}
+use Rattle.ground.specs.Tests.{no-both, by-cond, and-l, and-r, and-i, or-e, or-l, eqb-same, same-test}
 use Rattle.ground.specs.Quantify.{allTo}
 use Rattle.ground.specs.Update.{upd, upd-same, fun-ext}
 use Rattle.ground.specs.Mask.{width, has, insert, fullTo}
@@ -131,6 +131,20 @@ insert-only m (suc i) k e =
     either : (has m k ≡ true) ⊎ (has (2 ^ i) k ≡ true) → (k ≡ suc i) ⊎ (has m k ≡ true)
     either (inl q) = inr q
     either (inr q) = inl (eqb-true k (suc i) (sym (has-pow i k) ∙ q))
+
+-- whom the set of one alone has, any set has with that one
+pub insert-from : (m i k : ℕ) → has (insert 0 i) k ≡ true → has (insert m i) k ≡ true
+insert-from m i k e = elim (insert-only 0 i k e) [
+  | inr q ↦ absurd (no-both (has 0 k) q (has-none k))
+  | inl q ↦ rw q (own i (rw q at e))
+]
+  where
+    own : (i : ℕ) → has (insert 0 i) i ≡ true → has (insert m i) i ≡ true
+    own zero h = absurd (no-both (has (insert 0 0) 0) h (unfold has in refl))
+    own (suc i) h = elim (decLe (suc i) width) [
+      | yes w ↦ insert-own m (suc i) (omega arith) w
+      | no w ↦ absurd (no-both (has (insert 0 (suc i)) (suc i)) h (rw (insert-past 0 (suc i) (omega arith)) (has-none (suc i))))
+    ]
 
 -- the lowest n bits, one more
 pub low-suc : (m n : ℕ) → m % 2 ^ (suc n) ≡ m / 2 ^ n % 2 * 2 ^ n + m % 2 ^ n

@@ -1,7 +1,7 @@
 -- How many of 1..n are in a set: laws of `countTo n (has m)`, for any n.
 use Prim.Native.Nat.{ℕ, zero, suc, _+_, _^_, _/_, _%_, _≤_, _<_}
 use mathlib.Core.Path.{_≡_, refl, sym, _∙_, ap}
-use mathlib.Core.Bool.{Bool, true, false, cond, false≢true}
+use mathlib.Core.Bool.{Bool, true, false, _||_, cond, false≢true, or-false}
 use native.Mathlib.Omega.{arith}
 use native.Mathlib.Decide.{ℕ-discrete}
 use native.Mathlib.Nat.{mod-lt, mod-le, lt-of-le-of-lt}
@@ -67,6 +67,15 @@ all-count zero p h = refl
 all-count (suc m) p h = rw (h (suc m) (omega arith) (omega arith), all-count m p (λ k a b. h k a (omega arith))) (omega arith)
 
 -- sizes ----------------------------------------------------------------------------
+
+-- two sets with nobody in common
+pub count-union : (m : ℕ) (p q r : ℕ → Bool) → ((k : ℕ) → r k ≡ (p k || q k)) → ((k : ℕ) → q k ≡ true → p k ≡ false) → countTo m r ≡ countTo m p + countTo m q
+unfolding countTo
+count-union zero p q r e d = refl
+count-union (suc m) p q r e d = let ih : countTo m r ≡ countTo m p + countTo m q = count-union m p q r e d in elim (split (q (suc m))) [
+  | inl h ↦ rw (e (suc m), d (suc m) h, h) (omega arith)
+  | inr h ↦ rw (e (suc m), h, or-false (p (suc m))) (omega arith)
+]
 
 -- at most n of 1..n are in a set
 pub size-le : (n m : ℕ) → countTo n (has m) ≤ n

@@ -1,4 +1,7 @@
 // What everything stands on: general laws of tests, counts and lists (specs/), and sets of controllers as masks.
+ghost use mathlib.Core.Path.{_≡_};
+ghost use Rattle.ground.specs.Limit.{limit};
+
 mod mask;
 
 pub use mask::full_to;
@@ -7,3 +10,13 @@ pub use mask::insert;
 pub use mask::none_above;
 pub use mask::size;
 pub use mask::within;
+
+// The most controllers that a lock has.
+pub const LIMIT: usize = 16;
+
+// The definitions' limit is the code's.
+pub fn limit_is_one() -> usize
+    ensures { λ r. ⌜ r ≡ limit ⌝ }
+{
+    LIMIT
+}

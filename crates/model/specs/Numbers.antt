@@ -5,8 +5,6 @@ use Rattle.model.specs.declared.Kind.{Kind}
 use Rattle.model.specs.declared.Kind.the-variants.{Vote, Ack, Help, Helped}
 use Rattle.model.specs.declared.Outcome.{Outcome}
 use Rattle.model.specs.declared.Outcome.the-variants.{None, Stay, Move}
-use Rattle.model.specs.declared.Event.{Event}
-use Rattle.model.specs.declared.Event.the-variants.{Lock, Order, Cast, Deliver, Timeout, Decide, Stop, Save, Restore}
 
 -- "kind (1 vote, 2 acknowledgement, 3 help call, 4 help answer)"
 abbrev pub kindNumber : Kind → ℕ
@@ -20,18 +18,6 @@ abbrev pub outcomeNumber : Outcome → ℕ
 outcomeNumber None = 0
 outcomeNumber Stay = 1
 outcomeNumber Move = 2
-
--- "Kinds: 0 lock .. 8 restore"
-abbrev pub eventNumber : Event → ℕ
-eventNumber (Lock n f) = 0
-eventNumber (Order number) = 1
-eventNumber (Cast id willing target) = 2
-eventNumber (Deliver from to kind) = 3
-eventNumber (Timeout id) = 4
-eventNumber (Decide id move) = 5
-eventNumber (Stop id) = 6
-eventNumber (Save id) = 7
-eventNumber (Restore id) = 8
 
 -- a word: true is Move
 abbrev pub wordOf : Bool → Outcome

@@ -7,7 +7,7 @@ use borrow.Author.Tests.{ltb-true, ltb-false, lt-ltb, lt-leb, le-leb, leb-true}
 use lib.Dec.{leb, ltb}
 use mathlib.Core.Logic.{inl, inr}
 use Rattle.ground.specs.Tests.{split, same-test}
-use Rattle.model.specs.Ranges.{reachable}
+use Rattle.model.specs.Ranges.{positionInRange}
 use Rattle.model.specs.Positions.{millimetres, inRange}
 
 -- the lower end, as two's complement and as millimetres
@@ -21,9 +21,9 @@ or-no : (b : Bool) → (b || false) ≡ b
 or-no true = refl
 or-no false = refl
 
-pub reachable-is : (p : ℕ) → p < 2 ^ 32 → reachable p ≡ inRange (millimetres p)
-unfolding reachable inRange millimetres
-reachable-is p h = elim (split (ltb p (2 ^ 31))) [
+pub position-in-range-is : (p : ℕ) → p < 2 ^ 32 → positionInRange p ≡ inRange (millimetres p)
+unfolding positionInRange inRange millimetres
+position-in-range-is p h = elim (split (ltb p (2 ^ 31))) [
   | inl t ↦ let e : p < 2 ^ 31 = ltb-true p (2 ^ 31) t in rw (t, lt-leb 4294947296 p (omega arith)) (or-no (leb p 20000))
   | inr t ↦ let e : 2 ^ 31 ≤ p = ltb-false p (2 ^ 31) t in rw (t, lt-leb p 20000 (omega arith)) (low-end p e h)
 ]

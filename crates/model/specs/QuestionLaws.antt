@@ -2,7 +2,7 @@
 use Prim.Native.Nat.{ℕ, zero, suc}
 use mathlib.Core.Path.{_≡_, refl, sym, _∙_, ap}
 use mathlib.Core.Bool.{Bool, true, _&&_}
-use mathlib.Core.List.{List, [], _∷_, _++_}
+use mathlib.Core.List.{List, [], _∷_}
 use native.Mathlib.Omega.{arith}
 use lib.Dec.{ltb}
 use mathlib.Core.Logic.{inl, inr}
@@ -57,24 +57,3 @@ reply-accepted qs q n e z = zero-accepted qs n (sym e ∙ z)
 
 pub reply-refused : (qs : List Question) (q : ℕ) → q ≡ number (firstNo qs) → (q ≡ 0 → ⊥) → firstNo qs ≡ refused q
 reply-refused qs q e n = other-refused (firstNo qs) (λ z. n (e ∙ z)) ∙ ap refused (sym e)
-
--- more questions after a list of them
-pub stops : (qs rs : List Question) (q : ℕ) → firstNo qs ≡ refused q → firstNo (qs ++ rs) ≡ refused q
-unfolding firstNo unless
-stops [] rs q e = never q (sym e)
-stops (p ∷ qs) rs q e = elim (split (p .yes)) [
-  | inl y ↦ rw y (stops qs rs q (rw y at e))
-  | inr y ↦ rw y (rw y at e)
-]
-
-pub goes-on : (qs rs : List Question) → firstNo qs ≡ accepted → firstNo (qs ++ rs) ≡ firstNo rs
-unfolding firstNo unless
-goes-on [] rs e = refl
-goes-on (p ∷ qs) rs e = elim (split (p .yes)) [
-  | inl y ↦ rw y (goes-on qs rs (rw y at e))
-  | inr y ↦ never (p .number) (rw y at e)
-]
-
-pub first-alone : (q : Question) (qs : List Question) → firstNo qs ≡ accepted → firstNo (q ∷ qs) ≡ firstNo (q ∷ [])
-unfolding firstNo
-first-alone q qs e = rw e

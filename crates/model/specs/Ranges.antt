@@ -1,23 +1,25 @@
 -- Document 01, "Words with values": which numbers there are.
 use Prim.Native.Nat.{ℕ, suc}
-use mathlib.Core.Bool.{Bool, _&&_, _||_}
+use mathlib.Core.Bool.{Bool, not, _&&_, _||_}
 use lib.Dec.{eqb, leb, ltb}
+use Rattle.ground.specs.Limit.{limit}
 
 -- "n from 2 to 16; f from 1 to n − 1" (question 4)
-abbrev pub limit : ℕ
-limit = 16
-
-unfoldable pub sizes : ℕ → ℕ → Bool
-sizes n f = leb 2 n && leb n limit && leb 1 f && ltb f n
+unfoldable pub sizesInRange : ℕ → ℕ → Bool
+sizesInRange n f = leb 2 n && leb n limit && leb 1 f && ltb f n
 
 -- "n controllers, numbered 1 to n" (question 7)
-unfoldable pub member : ℕ → ℕ → Bool
-member n k = leb 1 k && leb k n
+unfoldable pub isController : ℕ → ℕ → Bool
+isController n k = leb 1 k && leb k n
+
+-- "Are controller numbers in 1 to n, sender and receiver different?" (question 7)
+abbrev pub differentControllers : ℕ → ℕ → ℕ → Bool
+differentControllers n from to = isController n from && isController n to && not (eqb from to)
 
 -- "Positions are −20,000 to 20,000 mm" (question 11), here as 32-bit two's complement: 0 to 20,000, or 2³² − 20,000 and above.
--- `reachable-is` of PositionLaws says that this is the range of the millimetres.
-unfoldable pub reachable : ℕ → Bool
-reachable p = leb p 20000 || leb 4294947296 p
+-- `position-in-range-is` of PositionLaws says that this is the range of the millimetres.
+unfoldable pub positionInRange : ℕ → Bool
+positionInRange p = leb p 20000 || leb 4294947296 p
 
 -- "Controllers 1 to f are holders; f + 1 is the second holder." The paper's backup processes.
 abbrev pub isBackup : ℕ → ℕ → Bool

@@ -9,16 +9,17 @@ pub use numbers::is_stay;
 pub use numbers::kind_number;
 pub use numbers::outcome_number;
 pub use numbers::word_of;
+pub use ranges::different_controllers;
 pub use ranges::is_backup;
+pub use ranges::is_controller;
 pub use ranges::is_second_backup;
-pub use ranges::member;
-pub use ranges::reachable;
-pub use ranges::sizes;
+pub use ranges::position_in_range;
+pub use ranges::sizes_in_range;
 pub use routes::recipients;
 pub use routes::route;
 use votes::VoteSet;
 
-// The kinds of telegram, numbered 1 to 4 on the wire: vote, acknowledgement, help call, help answer.
+// The kinds of telegram, numbered 1 to 4 on a record: vote, acknowledgement, help call, help answer.
 pub enum Kind {
     Vote,
     Ack,
@@ -56,21 +57,18 @@ pub struct Checkpoint {
 
 // An event of the bench, in the sequence of its kinds 0 to 8.
 pub enum Event {
-    // n, f
-    Lock(u8, u8),
-    // its number
-    Order(u32),
-    // controller, willing, target position
-    Cast(u8, bool, u32),
-    // sender, receiver, kind
-    Deliver(u8, u8, Kind),
-    // a bell: controller
-    Timeout(u8),
-    // the arbiter's word: controller, is it Move
-    Decide(u8, bool),
-    Stop(u8),
-    Save(u8),
-    Restore(u8),
+    Lock { n: u8, f: u8 },
+    Order { number: u32 },
+    // a vote; the target is the two's complement of its millimetres
+    Cast { id: u8, willing: bool, target: u32 },
+    Deliver { from: u8, to: u8, kind: Kind },
+    // a bell
+    Timeout { id: u8 },
+    // the arbiter's word: is it Move
+    Decide { id: u8, to_move: bool },
+    Stop { id: u8 },
+    Save { id: u8 },
+    Restore { id: u8 },
 }
 
 impl Message {

@@ -66,8 +66,8 @@ Moves es e k = shownPosition (after (es ++ (e ∷ []))) k ≡ shownPosition (aft
 
 module _ (n f : ℕ) where
   -- "A second bell is the second accepted bell in the order of one of 1 to f + 1, the first of any other": an accepted bell of i after es is one
-  abbrev pub SecondBell : List Event → ℕ → Type 0
-  SecondBell es i = (suc f < i) ⊎ InOrder es (Timeout i)
+  abbrev pub IsSecondTimeout : List Event → ℕ → Type 0
+  IsSecondTimeout es i = (suc f < i) ⊎ InOrder es (Timeout i)
 
   -- "every controller's vote was accepted, and every vote telegram of the Vote rule delivered"
   pub record CastBy (es : List Event) (k : ℕ) : Type 0 where
@@ -88,10 +88,10 @@ module _ (n f : ℕ) where
     -- no stop in it was accepted up to then;
     pub no-stop : (i : ℕ) → InOrder es (Stop i) → ⊥
     -- every controller's vote was accepted, and every vote telegram of the Vote rule delivered, before the order's first accepted bell;
-    pub votes-first : (i : ℕ) (bell : InOrder es (Timeout i)) → ((j : ℕ) → InOrder (bell .before) (Timeout j) → ⊥) → VotesIn (bell .before)
+    pub votes-first : (i : ℕ) (timeout : InOrder es (Timeout i)) → ((j : ℕ) → InOrder (timeout .before) (Timeout j) → ⊥) → VotesIn (timeout .before)
     -- and every acknowledgement .. was delivered before the first of its second bells."
-    pub acks-first : (i : ℕ) (bell : InOrder es (Timeout i)) → SecondBell (bell .before) i
-        → ((j : ℕ) (earlier : InOrder (bell .before) (Timeout j)) → SecondBell (earlier .before) j → ⊥) → AcksIn (bell .before)
+    pub acks-first : (i : ℕ) (timeout : InOrder es (Timeout i)) → IsSecondTimeout (timeout .before) i
+        → ((j : ℕ) (earlier : InOrder (timeout .before) (Timeout j)) → IsSecondTimeout (earlier .before) j → ⊥) → AcksIn (timeout .before)
 
 -- "All are willing when each of those votes has b = 1."
 abbrev pub AllWilling : List Event → Type 0
@@ -111,17 +111,17 @@ pub record Demand3 : Type 0 where
   -- "any two outcomes held for one order, by whichever controllers and at whichever moments of it, are the same;
   pub agreement : (es more : List Event) (i j : ℕ) (x y : Outcome) → SameOrder es more → Holds es i x → Holds (es ++ more) j y → x ≡ y
   -- none is Move unless every controller's willing vote was accepted before in that order;
-  pub validity : (es : List Event) (i : ℕ) → Holds es i Move → (k : ℕ) → 1 ≤ k → k ≤ (after es) .n → WillingVote es k
+  pub validity : (es : List Event) (i : ℕ) → Holds es i Move → (k : ℕ) → 1 ≤ k → k ≤ (after es) .shared .n → WillingVote es k
   -- a gate moves at most once in an order,
   pub moves-once : (es : List Event) (e : Event) (more : List Event) (e′ : Event) (k : ℕ)
       → SameOrder (es ++ (e ∷ [])) (more ++ (e′ ∷ [])) → Moves es e k → Moves (es ++ (e ∷ more)) e′ k → ⊥
   -- and at no restore;
   pub still-at-restore : (es : List Event) (i k : ℕ) → Moves es (Restore i) k → ⊥
   -- and in every clean order each second bell leaves its controller holding Move if all are willing,
-  pub clean-move : (es : List Event) (i : ℕ) → Accepted es (Timeout i) → SecondBell ((after es) .n) ((after es) .f) es i
-      → Clean ((after es) .n) ((after es) .f) (es ++ (Timeout i ∷ [])) → AllWilling es → Holds (es ++ (Timeout i ∷ [])) i Move
+  pub clean-move : (es : List Event) (i : ℕ) → Accepted es (Timeout i) → IsSecondTimeout ((after es) .shared .n) ((after es) .shared .f) es i
+      → Clean ((after es) .shared .n) ((after es) .shared .f) (es ++ (Timeout i ∷ [])) → AllWilling es → Holds (es ++ (Timeout i ∷ [])) i Move
   -- Stay if not."
-  pub clean-stay : (es : List Event) (i : ℕ) → Accepted es (Timeout i) → SecondBell ((after es) .n) ((after es) .f) es i
-      → Clean ((after es) .n) ((after es) .f) (es ++ (Timeout i ∷ [])) → OneUnwilling es → Holds (es ++ (Timeout i ∷ [])) i Stay
+  pub clean-stay : (es : List Event) (i : ℕ) → Accepted es (Timeout i) → IsSecondTimeout ((after es) .shared .n) ((after es) .shared .f) es i
+      → Clean ((after es) .shared .n) ((after es) .shared .f) (es ++ (Timeout i ∷ [])) → OneUnwilling es → Holds (es ++ (Timeout i ∷ [])) i Stay
   -- "The bench program": "In any order, kinds 1 and 2 together are at most 2fn telegrams."
-  pub at-most-2fn : (es : List Event) → telegrams (after es) Vote + telegrams (after es) Ack ≤ 2 * ((after es) .f * (after es) .n)
+  pub at-most-2fn : (es : List Event) → telegrams (after es) Vote + telegrams (after es) Ack ≤ 2 * ((after es) .shared .f * (after es) .shared .n)

@@ -1,9 +1,10 @@
 -- What a controller shows, and the small changes that the rules are made of.
 use Prim.Native.Nat.{ℕ, suc}
 use mathlib.Core.Bool.{Bool, true, false, cond, _&&_}
+use mathlib.Core.List.{List}
 use lib.Dec.{ltb}
-use Rattle.ground.specs.Mask.{has, insert}
 use Rattle.ground.specs.Lists.{nth, put}
+use Rattle.ground.specs.Mask.{has, insert}
 use Rattle.votes.specs.VoteSets.{empty, join}
 use Rattle.votes.specs.declared.VoteSet.{VoteSet}
 use Rattle.model.specs.Numbers.{isNone, isMove}
@@ -11,7 +12,10 @@ use Rattle.model.specs.declared.Outcome.{Outcome}
 use Rattle.model.specs.declared.Outcome.the-variants.{None, Stay, Move}
 use Rattle.protocol.specs.declared.Condition.{Condition}
 use Rattle.protocol.specs.declared.Condition.the-variants.{Running, Stopped, Standby}
-use Rattle.protocol.specs.declared.Outgoing.{Outgoing}
+use Rattle.protocol.specs.declared.Acks.{Acks}
+use Rattle.protocol.specs.declared.HelpAnswers.{HelpAnswers}
+use Rattle.protocol.specs.declared.HelpState.{HelpState}
+use Rattle.protocol.specs.declared.Gate.{Gate}
 use Rattle.protocol.specs.declared.Controller.{Controller}
 
 -- Document 01, "Words with values": "A controller's condition is running, stopped or standing by, and it carries the outcome, if any.
@@ -55,203 +59,98 @@ outcome c = outcomeIn (c .condition)
 
 -- has it an acknowledgement of j; that acknowledgement; has it a help answer of j
 abbrev pub hasAck : Controller → ℕ → Bool
-hasAck c j = has (c .«acks_from») j
+hasAck c j = has (c .acks .from) j
 
 abbrev pub ackOf : Controller → ℕ → VoteSet
-ackOf c j = nth empty (c .acks) j
+ackOf c j = nth empty (c .acks .sets) j
 
 abbrev pub hasHelped : Controller → ℕ → Bool
-hasHelped c j = has (c .«helped_from») j
+hasHelped c j = has (c .helped .from) j
 
 abbrev pub inPhase : ℕ → Outcome → Condition
 inPhase s o = Running (record { phase = s; outcome = o })
 
-abbrev pub unsent : Outgoing
-unsent = record { to = 0; votes = empty }
+-- a controller with one part changed
+abbrev withCondition : Controller → Condition → Controller
+withCondition c k = record { condition = k; votes = c .votes; acks = c .acks; helped = c .helped; help = c .help; proposal = c .proposal; gate = c .gate }
 
--- a controller of this condition that holds nothing but its position; what stands in its list of acknowledgements no longer counts
+abbrev withVotes : Controller → VoteSet → Controller
+withVotes c s = record { condition = c .condition; votes = s; acks = c .acks; helped = c .helped; help = c .help; proposal = c .proposal; gate = c .gate }
+
+abbrev withAcks : Controller → Acks → Controller
+withAcks c a = record { condition = c .condition; votes = c .votes; acks = a; helped = c .helped; help = c .help; proposal = c .proposal; gate = c .gate }
+
+abbrev withHelped : Controller → HelpAnswers → Controller
+withHelped c h = record { condition = c .condition; votes = c .votes; acks = c .acks; helped = h; help = c .help; proposal = c .proposal; gate = c .gate }
+
+abbrev withHelp : Controller → HelpState → Controller
+withHelp c h = record { condition = c .condition; votes = c .votes; acks = c .acks; helped = c .helped; help = h; proposal = c .proposal; gate = c .gate }
+
+abbrev withProposal : Controller → Outcome → Controller
+withProposal c o = record { condition = c .condition; votes = c .votes; acks = c .acks; helped = c .helped; help = c .help; proposal = o; gate = c .gate }
+
+abbrev withGate : Controller → Gate → Controller
+withGate c g = record { condition = c .condition; votes = c .votes; acks = c .acks; helped = c .helped; help = c .help; proposal = c .proposal; gate = g }
+
+-- nothing held; what stands in the list of acknowledgements no longer counts
+abbrev pub noAcks : List VoteSet → Acks
+noAcks sets = record { sets = sets; from = 0; cnt = record { 0 = 0 } }
+
+abbrev pub noHelped : HelpAnswers
+noHelped = record { votes = empty; from = 0; «cnt_help» = record { 0 = 0 } }
+
+abbrev pub noHelp : HelpState
+noHelp = record { waiting = false; votes = empty; answered = 0 }
+
+-- a controller of this condition that holds nothing, its gate where it stood; and one that holds nothing but its position
+abbrev pub blank : Condition → List VoteSet → ℕ → Controller
+blank k sets position = record { condition = k; votes = empty; acks = noAcks sets; helped = noHelped; help = noHelp; proposal = None; gate = record { target = 0; position = position } }
+
 unfoldable pub cleared : Condition → Controller → Controller
-cleared k c = record {
-  condition = k;
-  votes = empty;
-  acks = c .acks;
-  «acks_from» = 0;
-  cnt = record { 0 = 0 };
-  helped = empty;
-  «helped_from» = 0;
-  «cnt_help» = record { 0 = 0 };
-  waiting = false;
-  help = unsent;
-  proposal = None;
-  target = 0;
-  position = c .position;
-}
+cleared k c = blank k (c .acks .sets) (c .gate .position)
 
 -- to a later stage
 unfoldable pub advance : Controller → ℕ → Controller
-advance c s = record {
-  condition = inPhase s (outcome c);
-  votes = c .votes;
-  acks = c .acks;
-  «acks_from» = c .«acks_from»;
-  cnt = c .cnt;
-  helped = c .helped;
-  «helped_from» = c .«helped_from»;
-  «cnt_help» = c .«cnt_help»;
-  waiting = c .waiting;
-  help = c .help;
-  proposal = c .proposal;
-  target = c .target;
-  position = c .position;
-}
+advance c s = withCondition c (inPhase s (outcome c))
 
 -- a sheet goes on its own
 unfoldable pub learn : Controller → VoteSet → Controller
-learn c s = record {
-  condition = c .condition;
-  votes = join (c .votes) s;
-  acks = c .acks;
-  «acks_from» = c .«acks_from»;
-  cnt = c .cnt;
-  helped = c .helped;
-  «helped_from» = c .«helped_from»;
-  «cnt_help» = c .«cnt_help»;
-  waiting = c .waiting;
-  help = c .help;
-  proposal = c .proposal;
-  target = c .target;
-  position = c .position;
-}
+learn c s = withVotes c (join (c .votes) s)
 
 -- another target position
 unfoldable pub aim : Controller → ℕ → Controller
-aim c t = record {
-  condition = c .condition;
-  votes = c .votes;
-  acks = c .acks;
-  «acks_from» = c .«acks_from»;
-  cnt = c .cnt;
-  helped = c .helped;
-  «helped_from» = c .«helped_from»;
-  «cnt_help» = c .«cnt_help»;
-  waiting = c .waiting;
-  help = c .help;
-  proposal = c .proposal;
-  target = t;
-  position = c .position;
-}
+aim c t = withGate c (record { target = t; position = c .gate .position })
 
--- one more, as far as a byte counts (a lock has at most 16 senders)
+-- one more, as far as a byte counts (a lock has fewer senders)
 abbrev pub bump : ℕ → ℕ
 bump k = cond (ltb k 255) (suc k) k
 
 -- an acknowledgement is kept and counted
 unfoldable pub keepAck : Controller → ℕ → VoteSet → Controller
-keepAck c j s = record {
-  condition = c .condition;
-  votes = c .votes;
-  acks = put (c .acks) j s;
-  «acks_from» = insert (c .«acks_from») j;
-  cnt = record { 0 = bump (c .cnt .0) };
-  helped = c .helped;
-  «helped_from» = c .«helped_from»;
-  «cnt_help» = c .«cnt_help»;
-  waiting = c .waiting;
-  help = c .help;
-  proposal = c .proposal;
-  target = c .target;
-  position = c .position;
-}
+keepAck c j s = withAcks c (record { sets = put (c .acks .sets) j s; from = insert (c .acks .from) j; cnt = record { 0 = bump (c .acks .cnt .0) } })
 
 -- a help answer is joined and counted
 unfoldable pub keepHelped : Controller → ℕ → VoteSet → Controller
-keepHelped c j s = record {
-  condition = c .condition;
-  votes = c .votes;
-  acks = c .acks;
-  «acks_from» = c .«acks_from»;
-  cnt = c .cnt;
-  helped = join (c .helped) s;
-  «helped_from» = insert (c .«helped_from») j;
-  «cnt_help» = record { 0 = bump (c .«cnt_help» .0) };
-  waiting = c .waiting;
-  help = c .help;
-  proposal = c .proposal;
-  target = c .target;
-  position = c .position;
-}
+keepHelped c j s = withHelped c (record { votes = join (c .helped .votes) s; from = insert (c .helped .from) j; «cnt_help» = record { 0 = bump (c .helped .«cnt_help» .0) } })
 
 -- the help sheet is frozen; nobody was answered yet
 unfoldable pub freeze : Controller → VoteSet → Controller
-freeze c s = record {
-  condition = c .condition;
-  votes = c .votes;
-  acks = c .acks;
-  «acks_from» = c .«acks_from»;
-  cnt = c .cnt;
-  helped = c .helped;
-  «helped_from» = c .«helped_from»;
-  «cnt_help» = c .«cnt_help»;
-  waiting = c .waiting;
-  help = record { to = 0; votes = s };
-  proposal = c .proposal;
-  target = c .target;
-  position = c .position;
-}
+freeze c s = withHelp c (record { waiting = c .help .waiting; votes = s; answered = 0 })
 
 -- a caller was answered
 unfoldable pub answered : Controller → ℕ → Controller
-answered c j = record {
-  condition = c .condition;
-  votes = c .votes;
-  acks = c .acks;
-  «acks_from» = c .«acks_from»;
-  cnt = c .cnt;
-  helped = c .helped;
-  «helped_from» = c .«helped_from»;
-  «cnt_help» = c .«cnt_help»;
-  waiting = c .waiting;
-  help = record { to = insert (c .help .to) j; votes = c .help .votes };
-  proposal = c .proposal;
-  target = c .target;
-  position = c .position;
-}
+answered c j = withHelp c (record { waiting = c .help .waiting; votes = c .help .votes; answered = insert (c .help .answered) j })
 
--- it waits
+-- it waits, or waits no more
+abbrev pub waitingAs : Bool → HelpState → HelpState
+waitingAs w h = record { waiting = w; votes = h .votes; answered = h .answered }
+
 unfoldable pub await : Controller → Controller
-await c = record {
-  condition = c .condition;
-  votes = c .votes;
-  acks = c .acks;
-  «acks_from» = c .«acks_from»;
-  cnt = c .cnt;
-  helped = c .helped;
-  «helped_from» = c .«helped_from»;
-  «cnt_help» = c .«cnt_help»;
-  waiting = true;
-  help = c .help;
-  proposal = c .proposal;
-  target = c .target;
-  position = c .position;
-}
+await c = withHelp c (waitingAs true (c .help))
 
 -- it has put a word, and waits no more
 unfoldable pub propose : Controller → Outcome → Controller
-propose c o = record {
-  condition = c .condition;
-  votes = c .votes;
-  acks = c .acks;
-  «acks_from» = c .«acks_from»;
-  cnt = c .cnt;
-  helped = c .helped;
-  «helped_from» = c .«helped_from»;
-  «cnt_help» = c .«cnt_help»;
-  waiting = false;
-  help = c .help;
-  proposal = o;
-  target = c .target;
-  position = c .position;
-}
+propose c o = withProposal (withHelp c (waitingAs false (c .help))) o
 
 -- An outcome is taken if there is none, and waiting ends.
 -- "**Move** as outcome sets a running gate's position to its target. One standing by notes outcomes, sends nothing and never moves."
@@ -269,18 +168,5 @@ abbrev pub moves : Controller → Outcome → Bool
 moves c o = runs c && isNone (outcome c) && isMove o
 
 unfoldable pub conclude : Controller → Outcome → Controller
-conclude c o = record {
-  condition = noting (c .condition) o;
-  votes = c .votes;
-  acks = c .acks;
-  «acks_from» = c .«acks_from»;
-  cnt = c .cnt;
-  helped = c .helped;
-  «helped_from» = c .«helped_from»;
-  «cnt_help» = c .«cnt_help»;
-  waiting = false;
-  help = c .help;
-  proposal = c .proposal;
-  target = c .target;
-  position = cond (moves c o) (c .target) (c .position);
-}
+conclude c o = withGate (withHelp (withCondition c (noting (c .condition) o)) (waitingAs false (c .help)))
+    (record { target = c .gate .target; position = cond (moves c o) (c .gate .target) (c .gate .position) })

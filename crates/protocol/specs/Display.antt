@@ -24,7 +24,7 @@ abbrev pub shownOutcome : Bench → ℕ → Outcome
 shownOutcome b i = outcome (controller b i)
 
 abbrev pub shownPosition : Bench → ℕ → ℕ
-shownPosition b i = (controller b i) .position
+shownPosition b i = (controller b i) .gate .position
 
 -- "T and the telegrams sent in this order, by kind": over all senders, how many receivers each has sent one to
 unfoldable pub sumTo : ℕ → (ℕ → ℕ) → ℕ
@@ -32,7 +32,7 @@ sumTo zero g = 0
 sumTo (suc m) g = g (suc m) + sumTo m g
 
 unfoldable pub sentCount : Bench → Kind → ℕ → ℕ
-sentCount b kind i = countTo (b .n) (has ((ofKind kind (sentBy b i)) .to))
+sentCount b kind i = countTo (b .shared .n) (has ((ofKind kind (sentBy b i)) .to))
 
 unfoldable pub telegrams : Bench → Kind → ℕ
-telegrams b kind = sumTo (b .n) (sentCount b kind)
+telegrams b kind = sumTo (b .shared .n) (sentCount b kind)

@@ -1,9 +1,20 @@
+-- document 01, "Words with values" (sheets: `votes`; numbers and routes: `model`) and "A controller's rules"
 pub mod Controllers
 pub mod Rules
 pub mod Calls
+-- "The parts": the bench; "Questions put to a record or event"; what an event does
 pub mod Benches
+pub mod Events
 pub mod Questions
 pub mod Steps
+-- "The bench program": what is shown
 pub mod Display
+-- "The words of demand 3"; that it is not empty
 pub mod Claim
 pub mod NotHollow
+-- what else holds of every list
+pub mod SentOnce
+pub mod Reach
+-- "Trials"
+pub mod Rows
+pub mod Trials

@@ -4,7 +4,7 @@ use mathlib.Core.List.{List, [], _∷_}
 use lib.Dec.{eqb, leb, ltb}
 use Rattle.ground.specs.Quantify.{allTo}
 use Rattle.ground.specs.Mask.{has}
-use Rattle.model.specs.Ranges.{sizes, member, reachable}
+use Rattle.model.specs.Ranges.{sizesInRange, isController, differentControllers, positionInRange}
 use Rattle.model.specs.Routes.{route}
 use Rattle.model.specs.Numbers.{isNone}
 pub use Rattle.model.specs.Questions.{Reply, accepted, refused, number, isAccepted, Question, ask}
@@ -15,22 +15,28 @@ use Rattle.model.specs.declared.Event.{Event}
 use Rattle.model.specs.declared.Event.the-variants.{Lock, Order, Cast, Deliver, Timeout, Decide, Stop, Save, Restore}
 use Rattle.protocol.specs.declared.Controller.{Controller}
 use Rattle.protocol.specs.declared.Saved.{Saved}
-use Rattle.protocol.specs.declared.Saved.the-variants.{Nothing, Card}
+use Rattle.protocol.specs.declared.Saved.the-variants.{Nothing, Newest}
+use Rattle.protocol.specs.declared.Sent.{Sent}
+use Rattle.protocol.specs.declared.Station.{Station}
+use Rattle.protocol.specs.declared.Consensus.{Consensus}
+use Rattle.protocol.specs.declared.Shared.{Shared}
 use Rattle.protocol.specs.declared.Bench.{Bench}
-use Rattle.protocol.specs.Controllers.{runs, standsBy, isStopped, phase, outcome}
-use Rattle.protocol.specs.Benches.{controller, sentBy, card, ofKind}
+use Rattle.protocol.specs.declared.Facts.{Facts}
+use Rattle.protocol.specs.Controllers.{isRunning, isStandby, isStopped, phaseIn, runs, outcome}
+use Rattle.protocol.specs.Benches.{station, controller, sentBy}
+use Rattle.protocol.specs.Events.{subject, source, receiversIn}
 
 -- 13: "Has every running controller an outcome, or has no order been opened yet?"
 unfoldable pub ended : Controller → Bool
 ended c = not (runs c) || not (isNone (outcome c))
 
 abbrev pub mayOpen : Bench → Bool
-mayOpen b = eqb (b .order) 0 || allTo (b .n) (λ k. ended (controller b k))
+mayOpen b = eqb (b .shared .order) 0 || allTo (b .shared .n) (λ k. ended (controller b k))
 
 -- 18: "Was the word put in this order, and no other given?"
-abbrev pub wasProposed : Bench → Bool → Bool
-wasProposed b true = b .«move_proposed»
-wasProposed b false = b .«stay_proposed»
+abbrev pub wasProposed : Consensus → Bool → Bool
+wasProposed k true = k .«move_proposed»
+wasProposed k false = k .«stay_proposed»
 
 abbrev pub noOther : Outcome → Bool → Bool
 noOther None move = true
@@ -38,27 +44,36 @@ noOther Stay move = not move
 noOther Move move = move
 
 -- 19: "Has the controller a card?"
-abbrev pub isCard : Saved → Bool
-isCard Nothing = false
-isCard (Card c) = true
+abbrev pub isSaved : Saved → Bool
+isSaved Nothing = false
+isSaved (Newest c) = true
 
--- each event's questions
+-- each event's questions, from what they look at
+abbrev pub questionsOf : Facts → Event → List Question
+questionsOf v (Lock n f) = ask 4 (sizesInRange n f) ∷ ask 6 (not (v .shared .locked)) ∷ []
+questionsOf v (Order o) = ask 5 (v .shared .locked) ∷ ask 8 (leb 1 o) ∷ ask 12 (ltb (v .shared .order) o) ∷ ask 13 (v .«may_open») ∷ []
+questionsOf v (Cast i willing target) = ask 5 (v .shared .locked) ∷ ask 7 (isController (v .shared .n) i) ∷ ask 11 (positionInRange target) ∷ ask 14 (leb 1 (v .shared .order))
+    ∷ ask 15 (isRunning (v .condition)) ∷ ask 16 (eqb (phaseIn (v .condition)) 0) ∷ []
+questionsOf v (Deliver i j kind) = ask 5 (v .shared .locked) ∷ ask 7 (differentControllers (v .shared .n) i j) ∷ ask 10 (route (v .shared .f) kind i j)
+    ∷ ask 14 (leb 1 (v .shared .order)) ∷ ask 15 (isRunning (v .condition)) ∷ ask 17 (has (v .receivers) j) ∷ []
+questionsOf v (Timeout i) = ask 5 (v .shared .locked) ∷ ask 7 (isController (v .shared .n) i) ∷ ask 14 (leb 1 (v .shared .order))
+    ∷ ask 15 (isRunning (v .condition)) ∷ ask 16 (eqb (phaseIn (v .condition)) 1 || eqb (phaseIn (v .condition)) 2) ∷ []
+questionsOf v (Decide i move) = ask 5 (v .shared .locked) ∷ ask 7 (isController (v .shared .n) i) ∷ ask 14 (leb 1 (v .shared .order))
+    ∷ ask 15 (isRunning (v .condition) || isStandby (v .condition)) ∷ ask 16 (isStandby (v .condition) || eqb (phaseIn (v .condition)) 3)
+    ∷ ask 18 (wasProposed (v .shared .consensus) move && noOther (v .shared .consensus .decision) move) ∷ []
+questionsOf v (Stop i) = ask 5 (v .shared .locked) ∷ ask 7 (isController (v .shared .n) i) ∷ ask 14 (leb 1 (v .shared .order))
+    ∷ ask 15 (isRunning (v .condition) || isStandby (v .condition)) ∷ []
+questionsOf v (Save i) = ask 5 (v .shared .locked) ∷ ask 7 (isController (v .shared .n) i) ∷ ask 14 (leb 1 (v .shared .order))
+    ∷ ask 15 (isRunning (v .condition) || isStandby (v .condition)) ∷ []
+questionsOf v (Restore i) = ask 5 (v .shared .locked) ∷ ask 7 (isController (v .shared .n) i) ∷ ask 14 (leb 1 (v .shared .order)) ∷ ask 15 (isStopped (v .condition))
+    ∷ ask 19 (v .«has_checkpoint») ∷ []
+
+-- what they look at: of an event that concerns the controller of station s, and whose source has sent `sent`; and that, of a bench
+abbrev pub factsOf : Shared → Event → Station → Sent → Bool → Facts
+factsOf m e s sent may = record { shared = m; condition = s .controller .condition; «has_checkpoint» = isSaved (s .saved); receivers = receiversIn e sent; «may_open» = may }
+
 abbrev pub questions : Bench → Event → List Question
-questions b (Lock n f) = ask 4 (sizes n f) ∷ ask 6 (not (b .locked)) ∷ []
-questions b (Order o) = ask 5 (b .locked) ∷ ask 8 (leb 1 o) ∷ ask 12 (ltb (b .order) o) ∷ ask 13 (mayOpen b) ∷ []
-questions b (Cast i willing target) = ask 5 (b .locked) ∷ ask 7 (member (b .n) i) ∷ ask 11 (reachable target) ∷ ask 14 (leb 1 (b .order))
-    ∷ ask 15 (runs (controller b i)) ∷ ask 16 (eqb (phase (controller b i)) 0) ∷ []
-questions b (Deliver i j kind) = ask 5 (b .locked) ∷ ask 7 (member (b .n) i && member (b .n) j && not (eqb i j)) ∷ ask 10 (route (b .f) kind i j)
-    ∷ ask 14 (leb 1 (b .order)) ∷ ask 15 (runs (controller b j)) ∷ ask 17 (has ((ofKind kind (sentBy b i)) .to) j) ∷ []
-questions b (Timeout i) = ask 5 (b .locked) ∷ ask 7 (member (b .n) i) ∷ ask 14 (leb 1 (b .order))
-    ∷ ask 15 (runs (controller b i)) ∷ ask 16 (eqb (phase (controller b i)) 1 || eqb (phase (controller b i)) 2) ∷ []
-questions b (Decide i move) = ask 5 (b .locked) ∷ ask 7 (member (b .n) i) ∷ ask 14 (leb 1 (b .order))
-    ∷ ask 15 (runs (controller b i) || standsBy (controller b i)) ∷ ask 16 (standsBy (controller b i) || eqb (phase (controller b i)) 3)
-    ∷ ask 18 (wasProposed b move && noOther (b .decision) move) ∷ []
-questions b (Stop i) = ask 5 (b .locked) ∷ ask 7 (member (b .n) i) ∷ ask 14 (leb 1 (b .order)) ∷ ask 15 (runs (controller b i) || standsBy (controller b i)) ∷ []
-questions b (Save i) = ask 5 (b .locked) ∷ ask 7 (member (b .n) i) ∷ ask 14 (leb 1 (b .order)) ∷ ask 15 (runs (controller b i) || standsBy (controller b i)) ∷ []
-questions b (Restore i) = ask 5 (b .locked) ∷ ask 7 (member (b .n) i) ∷ ask 14 (leb 1 (b .order)) ∷ ask 15 (isStopped ((controller b i) .condition))
-    ∷ ask 19 (isCard (card b i)) ∷ []
+questions b e = questionsOf (factsOf (b .shared) e (station b (subject e)) (sentBy b (source e)) (mayOpen b)) e
 
 -- the bench's answer to an event
 unfoldable pub reply : Bench → Event → Reply

@@ -1,11 +1,12 @@
 -- Document 01, "A controller's rules", one function a rule: controller i of a lock of n controllers, f of them backups
--- (document 01: holders; the second backup is its second holder, f + 1). Stages are phases, bells are timeouts.
+-- (document 01: holders; the second backup is its second holder, f + 1). Stages are phases, bells are timeouts. A rule that another uses stands before it:
+-- Waiting before the second timeout, and the arrivals that may end waiting after it.
 use Prim.Native.Nat.{ℕ, suc, _+_}
 use mathlib.Core.Bool.{Bool, true, false, cond, not, _&&_, _||_}
 use lib.Dec.{eqb, leb, ltb}
 use Rattle.ground.specs.Quantify.{allTo}
 use Rattle.ground.specs.Mask.{has, insert}
-use Rattle.votes.specs.VoteSets.{empty, knows, single, join, joinAll, complete, unanimous}
+use Rattle.votes.specs.VoteSets.{empty, single, join, joinAll, complete, unanimous}
 use Rattle.votes.specs.declared.VoteSet.{VoteSet}
 use Rattle.model.specs.Ranges.{isBackup}
 use Rattle.model.specs.Routes.{recipients}
@@ -14,19 +15,37 @@ use Rattle.model.specs.declared.Kind.the-variants.{Vote, Ack, Help}
 use Rattle.model.specs.declared.Outcome.{Outcome}
 use Rattle.model.specs.declared.Outcome.the-variants.{None}
 use Rattle.protocol.specs.declared.Controller.{Controller}
-use Rattle.protocol.specs.declared.Post.the-variants.{Nothing, To}
+use Rattle.protocol.specs.declared.Send.{Send}
+use Rattle.protocol.specs.declared.Send.the-variants.{Nothing, To}
+use Rattle.protocol.specs.declared.Sends.{Sends}
 use Rattle.protocol.specs.declared.Answer.{Answer}
-use Rattle.protocol.specs.Controllers.{outcome, phase, hasAck, ackOf, hasHelped, advance, learn, aim, keepAck, keepHelped, freeze, answered, await, propose, conclude}
+use Rattle.protocol.specs.Controllers.{phase, hasAck, ackOf, hasHelped, advance, learn, aim, keepAck, keepHelped, freeze, answered, await, propose, conclude}
 
--- what an answer may be: passed over, with nothing changed; or taken, with nothing sent; and a word put besides
-unfoldable pub passed : Controller → Answer
-passed c = record { taken = false; controller = c; vote = Nothing; ack = Nothing; help = Nothing; helped = Nothing; proposal = None }
+-- what an answer may send: nothing; a vote; an acknowledgement; help calls and the help sheet, to be sent or to be held ready
+abbrev pub nothing : Sends
+nothing = record { vote = Nothing; ack = Nothing; help = Nothing; helped = Nothing }
 
-unfoldable pub quiet : Controller → Answer
-quiet c = record { taken = true; controller = c; vote = Nothing; ack = Nothing; help = Nothing; helped = Nothing; proposal = None }
+abbrev pub votesTo : ℕ → VoteSet → Sends
+votesTo to s = record { vote = To to s; ack = Nothing; help = Nothing; helped = Nothing }
 
-unfoldable pub proposes : Answer → Outcome → Answer
-proposes a o = record { taken = a .taken; controller = propose (a .controller) o; vote = a .vote; ack = a .ack; help = a .help; helped = a .helped; proposal = o }
+abbrev pub acksTo : ℕ → VoteSet → Sends
+acksTo to s = record { vote = Nothing; ack = To to s; help = Nothing; helped = Nothing }
+
+abbrev pub helps : Send → Send → Sends
+helps call answer = record { vote = Nothing; ack = Nothing; help = call; helped = answer }
+
+-- what an answer may be: passed over, with nothing changed; or taken, with a next controller and what it sends; and a word put besides
+unfoldable pub passedOver : Controller → Answer
+passedOver c = record { taken = false; controller = c; sends = nothing; proposal = None }
+
+abbrev pub sending : Controller → Sends → Answer
+sending c s = record { taken = true; controller = c; sends = s; proposal = None }
+
+unfoldable pub becomes : Controller → Answer
+becomes c = record { taken = true; controller = c; sends = nothing; proposal = None }
+
+unfoldable pub proposing : Answer → Outcome → Answer
+proposing a o = record { taken = a .taken; controller = propose (a .controller) o; sends = a .sends; proposal = o }
 
 -- the word of a sheet
 unfoldable pub verdict : ℕ → VoteSet → Outcome
@@ -35,19 +54,12 @@ verdict n s = wordOf (unanimous n s)
 -- **Vote** (stage 0): "Its own vote goes on its sheet. It sends a vote telegram to every other controller of 1 to f; a holder also sends one to f + 1.
 -- Controllers 1 to f + 1 go to stage 1, others to stage 2."
 unfoldable pub voteRule : ℕ → ℕ → ℕ → Bool → ℕ → Controller → Answer
-voteRule n f i willing target c = record {
-  taken = true;
-  controller = advance (aim (learn c (single i willing)) target) (cond (leb i (suc f)) 1 2);
-  vote = To (recipients n f Vote i) (single i willing);
-  ack = Nothing;
-  help = Nothing;
-  helped = Nothing;
-  proposal = None;
-}
+voteRule n f i willing target c =
+    sending (advance (aim (learn c (single i willing)) target) (cond (leb i (suc f)) 1 2)) (votesTo (recipients n f Vote i) (single i willing))
 
 -- **Vote arrives**: "at stage 0 or 1 it goes on the sheet; later it is passed over."
 unfoldable pub voteArrives : VoteSet → Controller → Answer
-voteArrives s c = cond (leb (phase c) 1) (quiet (learn c s)) (passed c)
+voteArrives s c = cond (leb (phase c) 1) (becomes (learn c s)) (passedOver c)
 
 -- **Bell at stage 1** (the first bell): "the sheet is frozen as the acknowledgement. A holder sends it to all others and counts its own as received.
 -- Controller f + 1 sends it to the holders only and does not count its own. To stage 2."
@@ -55,19 +67,11 @@ unfoldable pub countOwn : ℕ → ℕ → Controller → Controller
 countOwn f i c = cond (isBackup f i && not (hasAck c i)) (keepAck c i (c .votes)) c
 
 unfoldable pub firstTimeout : ℕ → ℕ → ℕ → Controller → Answer
-firstTimeout n f i c = record {
-  taken = true;
-  controller = advance (countOwn f i c) 2;
-  vote = Nothing;
-  ack = To (recipients n f Ack i) (c .votes);
-  help = Nothing;
-  helped = Nothing;
-  proposal = None;
-}
+firstTimeout n f i c = sending (advance (countOwn f i c) 2) (acksTo (recipients n f Ack i) (c .votes))
 
 -- the join of the acknowledgements held
 unfoldable pub ackJoin : ℕ → Controller → VoteSet
-ackJoin n c = joinAll n (c .«acks_from») (c .acks)
+ackJoin n c = joinAll n (c .acks .from) (c .acks .sets)
 
 -- "If acknowledgements from all of 1 to f are held and full and, for a holder, the one of f + 1 is held and knows all of 1 to f"
 unfoldable pub backupsComplete : ℕ → ℕ → Controller → Bool
@@ -81,55 +85,52 @@ decides n f i c = backupsComplete n f c && (not (isBackup f i) || secondKnows f 
 
 -- **Waiting**: "When the two counts add up to n − f or more (tested at the bell too), it puts a word: of the join of acknowledgements if it holds any,
 -- else of the join of help answers."
-unfoldable pub enough : ℕ → ℕ → Controller → Bool
-enough n f c = c .waiting && leb n (c .cnt .0 + c .«cnt_help» .0 + f)
+unfoldable pub sufficient : ℕ → ℕ → Controller → Bool
+sufficient n f c = c .help .waiting && leb n (c .acks .cnt .0 + c .helped .«cnt_help» .0 + f)
 
-unfoldable pub gathered : ℕ → Controller → VoteSet
-gathered n c = cond (ltb 0 (c .cnt .0)) (ackJoin n c) (c .helped)
+unfoldable pub answersJoin : ℕ → Controller → VoteSet
+answersJoin n c = cond (ltb 0 (c .acks .cnt .0)) (ackJoin n c) (c .helped .votes)
 
-unfoldable pub settle : ℕ → ℕ → Answer → Answer
-settle n f a = cond (enough n f (a .controller)) (proposes a (verdict n (gathered n (a .controller)))) a
+unfoldable pub proposeIfSufficient : ℕ → ℕ → Answer → Answer
+proposeIfSufficient n f a = cond (sufficient n f (a .controller)) (proposing a (verdict n (answersJoin n (a .controller)))) a
 
 -- **Bell at stage 2** (the second bell): "to stage 3. The help sheet is the join of own sheet and acknowledgements held, then frozen."
-unfoldable pub helpSheet : ℕ → Controller → VoteSet
-helpSheet n c = join (c .votes) (ackJoin n c)
+unfoldable pub helpVotes : ℕ → Controller → VoteSet
+helpVotes n c = join (c .votes) (ackJoin n c)
 
 unfoldable pub frozen : ℕ → Controller → Controller
-frozen n c = freeze (advance c 3) (helpSheet n c)
+frozen n c = freeze (advance c 3) (helpVotes n c)
 
--- its answer so far: the help sheet is laid down for those who will call
-unfoldable pub laidDown : ℕ → Controller → Controller → Answer
-laidDown n c next = record { taken = true; controller = next; vote = Nothing; ack = Nothing; help = Nothing; helped = To 0 (helpSheet n c); proposal = None }
+-- the help sheet s is ready from now on for those who call: sent to nobody yet, but fixed, also if its owner stops
+unfoldable pub ready : VoteSet → Controller → Answer
+ready s next = sending next (helps Nothing (To 0 s))
 
 -- "Otherwise it waits, sends help calls to all others of f + 1 to n, and counts its own help sheet as an answer."
-unfoldable pub callsHelp : ℕ → ℕ → ℕ → Controller → Answer
-callsHelp n f i c = record {
-  taken = true;
-  controller = keepHelped (await (frozen n c)) i (helpSheet n c);
-  vote = Nothing;
-  ack = Nothing;
-  help = To (recipients n f Help i) empty;
-  helped = To 0 (helpSheet n c);
-  proposal = None;
-}
+unfoldable pub callsHelp : ℕ → ℕ → ℕ → VoteSet → Controller → Answer
+callsHelp n f i s c = sending (keepHelped (await c) i s) (helps (To (recipients n f Help i) empty) (To 0 s))
 
 -- the outcome, or else a word put ("Otherwise, if at least one is held, it puts the word of their join to the arbiter"), or else it waits
 unfoldable pub secondTimeout : ℕ → ℕ → ℕ → Controller → Answer
 secondTimeout n f i c = cond (decides n f i c)
-    (laidDown n c (conclude (frozen n c) (verdict n (ackJoin n c))))
-    (cond (ltb 0 (c .cnt .0))
-    (proposes (laidDown n c (frozen n c)) (verdict n (ackJoin n c)))
-    (settle n f (callsHelp n f i c)))
+    (ready (helpVotes n c) (conclude (frozen n c) (verdict n (ackJoin n c))))
+    (cond (ltb 0 (c .acks .cnt .0))
+    (proposing (ready (helpVotes n c) (frozen n c)) (verdict n (ackJoin n c)))
+    (proposeIfSufficient n f (callsHelp n f i (helpVotes n c) (frozen n c))))
 
 -- **Acknowledgement arrives**: "kept, one per sender"; waiting, it may complete the count; "After a word or an outcome, more of either is passed over."
+-- "One departure: the printed appendix lets a waiting process decide directly when all full acknowledgements come late. .. Here it puts a word."
 unfoldable pub ackArrives : ℕ → ℕ → ℕ → VoteSet → Controller → Answer
-ackArrives n f j s c = cond (not (hasAck c j) && (leb (phase c) 2 || c .waiting)) (settle n f (quiet (keepAck c j s))) (passed c)
+ackArrives n f j s c =
+    cond (not (hasAck c j) && (leb (phase c) 2 || c .help .waiting)) (proposeIfSufficient n f (becomes (keepAck c j s))) (passedOver c)
 
+-- **Waiting**: "Acknowledgements and help answers are counted apart, one per sender."
 unfoldable pub helpedArrives : ℕ → ℕ → ℕ → VoteSet → Controller → Answer
-helpedArrives n f j s c = cond (not (hasHelped c j) && c .waiting) (settle n f (quiet (keepHelped c j s))) (passed c)
+helpedArrives n f j s c =
+    cond (not (hasHelped c j) && c .help .waiting) (proposeIfSufficient n f (becomes (keepHelped c j s))) (passedOver c)
 
 -- **Help call arrives**: "at stage 3 the help sheet is sent back, once per caller. Before stage 3 it is passed over."
+unfoldable pub answersCall : ℕ → Controller → Answer
+answersCall j c = sending (answered c j) (helps Nothing (To (insert 0 j) (c .help .votes)))
+
 unfoldable pub helpArrives : ℕ → Controller → Answer
-helpArrives j c = cond (eqb (phase c) 3 && not (has (c .help .to) j))
-    (record { taken = true; controller = answered c j; vote = Nothing; ack = Nothing; help = Nothing; helped = To (insert 0 j) (c .help .votes); proposal = None })
-    (passed c)
+helpArrives j c = cond (eqb (phase c) 3 && not (has (c .help .answered) j)) (answersCall j c) (passedOver c)

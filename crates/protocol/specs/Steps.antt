@@ -1,53 +1,107 @@
 -- What the bench does at an event, and over a list of events.
 use Prim.Native.Nat.{ℕ}
-use mathlib.Core.Bool.{Bool, true, false, cond}
+use mathlib.Core.Bool.{Bool, true, cond, _||_}
 use mathlib.Core.List.{List, [], _∷_, map}
-use Rattle.model.specs.Numbers.{wordOf}
-use Rattle.model.specs.declared.Outcome.the-variants.{None}
+use Rattle.ground.specs.Lists.{put}
+use Rattle.model.specs.Numbers.{wordOf, isMove, isStay}
+use Rattle.model.specs.declared.Outcome.{Outcome}
 use Rattle.model.specs.declared.Event.{Event}
 use Rattle.model.specs.declared.Event.the-variants.{Lock, Order, Cast, Deliver, Timeout, Decide, Stop, Save, Restore}
-use Rattle.protocol.specs.declared.Member.{Member}
+use Rattle.protocol.specs.declared.Identity.{Identity}
 use Rattle.protocol.specs.declared.Controller.{Controller}
 use Rattle.protocol.specs.declared.Answer.{Answer}
 use Rattle.protocol.specs.declared.Saved.{Saved}
-use Rattle.protocol.specs.declared.Saved.the-variants.{Nothing, Card}
+use Rattle.protocol.specs.declared.Saved.the-variants.{Nothing, Newest}
+use Rattle.protocol.specs.declared.Sent.{Sent}
 use Rattle.protocol.specs.declared.Station.{Station}
+use Rattle.protocol.specs.declared.Consensus.{Consensus}
+use Rattle.protocol.specs.declared.Shared.{Shared}
 use Rattle.protocol.specs.declared.Bench.{Bench}
-use Rattle.protocol.specs.Rules.{passed}
+use Rattle.protocol.specs.declared.Effect.{Effect}
+use Rattle.protocol.specs.Rules.{passedOver}
 use Rattle.protocol.specs.Calls.{vote, receive, timeout, decide, stop, save, restore, renew}
-use Rattle.protocol.specs.Benches.{benchOf, station, controller, card, memberAt, message, unsentAll, withStation, commit}
-use Rattle.protocol.specs.Questions.{accepted, reply, isAccepted}
+use Rattle.protocol.specs.Benches.{benchOf, noConsensus, station, sentBy, identity, message, unsentAll, sentAfter}
+use Rattle.protocol.specs.Events.{subject, source}
+use Rattle.protocol.specs.Questions.{reply, isAccepted}
 
 -- **New order**: "Old telegrams, words put and the arbiter's choice are gone; cards remain."
 unfoldable pub renewed : Station → Station
-renewed s = record { controller = renew (s .controller); sent = unsentAll; card = s .card }
+renewed s = record { controller = renew (s .controller); sent = unsentAll; saved = s .saved }
 
-unfoldable pub opened : Bench → ℕ → Bench
-opened b o = record { locked = b .locked; n = b .n; f = b .f; order = o; «move_proposed» = false; «stay_proposed» = false; decision = None; stations = map renewed (b .stations) }
+unfoldable pub orderOpened : Shared → ℕ → Shared
+orderOpened m o = record { locked = m .locked; n = m .n; f = m .f; order = o; consensus = noConsensus }
 
--- the arbiter's choice in this order
-unfoldable pub decidedAs : Bench → Bool → Bench
-decidedAs b move = record { locked = b .locked; n = b .n; f = b .f; order = b .order; «move_proposed» = b .«move_proposed»; «stay_proposed» = b .«stay_proposed»; decision = wordOf move; stations = b .stations }
+-- what is shared, with another state of the consensus: a word put to it, if any; its choice in this order
+abbrev pub withConsensus : Shared → Consensus → Shared
+withConsensus m k = record { locked = m .locked; n = m .n; f = m .f; order = m .order; consensus = k }
+
+unfoldable pub proposedTo : Shared → Outcome → Shared
+proposedTo m o = withConsensus m (record {
+  «move_proposed» = m .consensus .«move_proposed» || isMove o;
+  «stay_proposed» = m .consensus .«stay_proposed» || isStay o;
+  decision = m .consensus .decision;
+})
+
+unfoldable pub decidedAs : Shared → Bool → Shared
+decidedAs m move = withConsensus m (record { «move_proposed» = m .consensus .«move_proposed»; «stay_proposed» = m .consensus .«stay_proposed»; decision = wordOf move })
+
+-- a controller's answer put back: its next state, what it sent, the word it put
+unfoldable pub stationAfter : Station → Answer → Station
+stationAfter s a = record { controller = a .controller; sent = sentAfter (s .sent) (a .sends); saved = s .saved }
+
+unfoldable pub answering : Shared → Station → Answer → Effect
+answering m s a = record { shared = proposedTo m (a .proposal); station = stationAfter s a }
 
 -- "the bench keeps the newest [card] per controller"
 unfoldable pub keeping : Station → Saved → Station
-keeping s new = record { controller = s .controller; sent = s .sent; card = new }
+keeping s new = record { controller = s .controller; sent = s .sent; saved = new }
 
-unfoldable pub restoreFrom : Member → Saved → Controller → Answer
-restoreFrom me Nothing c = passed c
-restoreFrom me (Card saved) c = restore me saved c
+unfoldable pub restoreFrom : Identity → Saved → Controller → Answer
+restoreFrom me Nothing c = passedOver c
+restoreFrom me (Newest saved) c = restore me saved c
+
+-- the answer of the controller that an event concerns: s is its station, and the event's source has sent `sent`. A save asks for none.
+unfoldable pub answerTo : Shared → Event → Sent → Station → Answer
+answerTo m (Lock n f) sent s = passedOver (s .controller)
+answerTo m (Order o) sent s = passedOver (s .controller)
+answerTo m (Cast i willing target) sent s = vote (identity m i) willing target (s .controller)
+answerTo m (Deliver i j kind) sent s = receive (identity m j) (message m kind i j sent) (s .controller)
+answerTo m (Timeout i) sent s = timeout (identity m i) (s .controller)
+answerTo m (Decide i move) sent s = decide move (s .controller)
+answerTo m (Stop i) sent s = stop (s .controller)
+answerTo m (Save i) sent s = passedOver (s .controller)
+answerTo m (Restore i) sent s = restoreFrom (identity m i) (s .saved) (s .controller)
+
+-- what an accepted event of one controller does: to what is shared, and to that controller's station
+unfoldable pub effect : Shared → Event → Sent → Station → Effect
+effect m (Lock n f) sent s = record { shared = m; station = s }
+effect m (Order o) sent s = record { shared = m; station = s }
+effect m (Cast i willing target) sent s = answering m s (answerTo m (Cast i willing target) sent s)
+effect m (Deliver i j kind) sent s = answering m s (answerTo m (Deliver i j kind) sent s)
+effect m (Timeout i) sent s = answering m s (answerTo m (Timeout i) sent s)
+effect m (Decide i move) sent s = answering (decidedAs m move) s (answerTo m (Decide i move) sent s)
+effect m (Stop i) sent s = answering m s (answerTo m (Stop i) sent s)
+effect m (Save i) sent s = record { shared = m; station = keeping s (save (identity m i) (s .controller)) }
+effect m (Restore i) sent s = answering m s (answerTo m (Restore i) sent s)
+
+-- the effect put back into the bench
+abbrev pub putBack : Bench → ℕ → Effect → Bench
+putBack b i t = record { shared = t .shared; stations = put (b .stations) i (t .station) }
+
+abbrev pub performOne : Bench → Event → Bench
+performOne b e = putBack b (subject e) (effect (b .shared) e (sentBy b (source e)) (station b (subject e)))
 
 -- an accepted event: what it does
 unfoldable pub perform : Bench → Event → Bench
 perform b (Lock n f) = benchOf true n f
-perform b (Order o) = opened b o
-perform b (Cast i willing target) = commit b i (vote (memberAt b i) willing target (controller b i))
-perform b (Deliver i j kind) = commit b j (receive (memberAt b j) (message b kind i j) (controller b j))
-perform b (Timeout i) = commit b i (timeout (memberAt b i) (controller b i))
-perform b (Decide i move) = commit (decidedAs b move) i (decide move (controller b i))
-perform b (Stop i) = commit b i (stop (controller b i))
-perform b (Save i) = withStation b i (keeping (station b i) (save (memberAt b i) (controller b i)))
-perform b (Restore i) = commit b i (restoreFrom (memberAt b i) (card b i) (controller b i))
+perform b (Order o) = record { shared = orderOpened (b .shared) o; stations = map renewed (b .stations) }
+perform b (Cast i willing target) = performOne b (Cast i willing target)
+perform b (Deliver i j kind) = performOne b (Deliver i j kind)
+perform b (Timeout i) = performOne b (Timeout i)
+perform b (Decide i move) = performOne b (Decide i move)
+perform b (Stop i) = performOne b (Stop i)
+perform b (Save i) = performOne b (Save i)
+perform b (Restore i) = performOne b (Restore i)
 
 -- "a refused event leaves the bench untouched"
 unfoldable pub step : Bench → Event → Bench

@@ -1,6 +1,10 @@
 // The state of the controllers and of the bench. The rules over it stand in specs/, and so does the claim about them.
 ghost use Rattle.protocol.specs.Claim.{Demand3};
 ghost use Rattle.protocol.specs.NotHollow.{NotHollow};
+ghost use Rattle.protocol.specs.Reach.{Reach};
+ghost use Rattle.protocol.specs.SentOnce.{SentOnce};
+ghost use Rattle.protocol.specs.Trials.{TrialsHold};
+use ground::LIMIT;
 use model::Checkpoint;
 use model::Outcome;
 use votes::VoteSet;
@@ -24,64 +28,86 @@ pub struct Cnt(pub u8);
 // How many help answers came in, one per sender: the paper's cnt_help.
 pub struct CntHelp(pub u8);
 
-// A sheet, and to whom it was sent.
-pub struct Outgoing {
-    pub to: u32,
-    pub votes: VoteSet,
+// The acknowledgements held: by sender, who has sent one, and how many.
+pub struct Acks {
+    pub sets: [VoteSet; LIMIT],
+    pub from: u32,
+    pub cnt: Cnt,
 }
 
-// Which controller of which lock in which order: what does not change while the order lasts.
-pub struct Member {
-    pub n: u8,
-    pub f: u8,
-    pub id: u8,
-    pub order: u32,
+// The help answers that came in: their join, who has sent one, and how many.
+pub struct HelpAnswers {
+    pub votes: VoteSet,
+    pub from: u32,
+    pub cnt_help: CntHelp,
+}
+
+// A controller's own help: does it wait for answers (it has called, and put no word yet); its help sheet, frozen at the second timeout; the
+// callers answered.
+pub struct HelpState {
+    pub waiting: bool,
+    pub votes: VoteSet,
+    pub answered: u32,
+}
+
+// The gate: where it is to go, and where it stands, in two's complement of millimetres.
+pub struct Gate {
+    pub target: u32,
+    pub position: u32,
 }
 
 pub struct Controller {
     pub condition: Condition,
     // its own sheet
     pub votes: VoteSet,
-    // acknowledgements, by sender, and who has sent one
-    pub acks: [VoteSet; 16],
-    pub acks_from: u32,
-    pub cnt: Cnt,
-    // the join of the help answers, and who has sent one
-    pub helped: VoteSet,
-    pub helped_from: u32,
-    pub cnt_help: CntHelp,
-    // it has called for help and put no word yet
-    pub waiting: bool,
-    // its help sheet, frozen at the second timeout, and the callers answered
-    pub help: Outgoing,
-    // the word it put to the arbiter
+    pub acks: Acks,
+    pub helped: HelpAnswers,
+    pub help: HelpState,
+    // the word it put to the arbiter; the trials look at it, and a lock that settles the word by itself will
     pub proposal: Outcome,
-    // two's complement of millimetres
-    pub target: u32,
-    pub position: u32,
+    pub gate: Gate,
 }
 
-// What a step sends of one kind: nothing, or one sheet to a set of controllers.
-pub enum Post {
+// Which controller of which lock in which order: what does not change while the order lasts.
+pub struct Identity {
+    pub n: u8,
+    pub f: u8,
+    pub id: u8,
+    pub order: u32,
+}
+
+// What a call sends of one kind: nothing, or one sheet to a set of controllers.
+pub enum Send {
     Nothing,
     To(u32, VoteSet),
+}
+
+// What a call sends, by kind.
+pub struct Sends {
+    pub vote: Send,
+    pub ack: Send,
+    pub help: Send,
+    pub helped: Send,
 }
 
 // What a controller answers to a call: was it taken or passed over; the next controller; what it sends; the word it puts, if any.
 pub struct Answer {
     pub taken: bool,
     pub controller: Controller,
-    pub vote: Post,
-    pub ack: Post,
-    pub help: Post,
-    pub helped: Post,
+    pub sends: Sends,
     pub proposal: Outcome,
 }
 
-// A card, if there is one.
+// A checkpoint (document 01: a card), if there is one.
 pub enum Saved {
     Nothing,
-    Card(Checkpoint),
+    Newest(Checkpoint),
+}
+
+// A sheet, and to whom it was sent.
+pub struct Outgoing {
+    pub to: u32,
+    pub votes: VoteSet,
 }
 
 // What a controller has sent in this order, by kind. It outlives a stop.
@@ -92,24 +118,49 @@ pub struct Sent {
     pub helped: Outgoing,
 }
 
-// One controller on the bench: itself, what it has sent, its newest card.
+// One controller on the bench: itself, what it has sent, its newest checkpoint.
 pub struct Station {
     pub controller: Controller,
     pub sent: Sent,
-    pub card: Saved,
+    pub saved: Saved,
 }
 
-// The bench: one lock, its order, the words put, the arbiter's choice, and up to 16 controllers.
-pub struct Bench {
-    pub locked: bool,
-    pub n: u8,
-    pub f: u8,
-    // 0 before the first order
-    pub order: u32,
+// The consensus (document 01: the arbiter) of one order: was Move put to it, was Stay, and its choice.
+pub struct Consensus {
     pub move_proposed: bool,
     pub stay_proposed: bool,
     pub decision: Outcome,
-    pub stations: [Station; 16],
+}
+
+// What the controllers of a bench share: their lock, their order (0 before the first), the consensus.
+pub struct Shared {
+    pub locked: bool,
+    pub n: u8,
+    pub f: u8,
+    pub order: u32,
+    pub consensus: Consensus,
+}
+
+// The bench: what is shared, and up to 16 controllers.
+pub struct Bench {
+    pub shared: Shared,
+    pub stations: [Station; LIMIT],
+}
+
+// What the questions of an event look at beside the event: what is shared; the condition of the controller that it concerns, and whether that has a
+// checkpoint; to whom the delivered telegram was sent; whether an order may be opened.
+pub struct Facts {
+    pub shared: Shared,
+    pub condition: Condition,
+    pub has_checkpoint: bool,
+    pub receivers: u32,
+    pub may_open: bool,
+}
+
+// What an event of one controller leaves: what is shared, and that controller's station.
+pub struct Effect {
+    pub shared: Shared,
+    pub station: Station,
 }
 
 // Demand 3 of the buyer, as a contract: it holds of the definitions over these types, for every list of events.
@@ -120,4 +171,19 @@ pub fn demand_3()
 // It is not hollow: for every lock and each of its controllers there are lists with a clean order, and the claim gives their outcomes.
 pub fn clean_orders_exist()
     ensures { λ _. ⌜ NotHollow ⌝ }
+{}
+
+// The T line counts the telegrams that were sent by the rules: none is sent twice in an order.
+pub fn sent_once()
+    ensures { λ _. ⌜ SentOnce ⌝ }
+{}
+
+// Stages, positions and sheets stay in range, and what is sent or saved passes the questions of its record and is read back as it was.
+pub fn reach()
+    ensures { λ _. ⌜ Reach ⌝ }
+{}
+
+// The starred trials of document 01, run by the definitions: every row of the table in specs/Trials.antt shows what the document says of it.
+pub fn trials_hold()
+    ensures { λ _. ⌜ TrialsHold ⌝ }
 {}

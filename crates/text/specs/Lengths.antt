@@ -6,7 +6,7 @@ use native.Mathlib.Omega.{arith}
 use lib.Dec.{ltb}
 use lib.ListN.{length, length-append}
 use Rattle.ground.specs.Tests.{by-cond}
-use Rattle.text.specs.Text.{ascii, digit, digits, decimal, signed, lines}
+use Rattle.text.specs.Text.{ascii, digit, digits, decimal, signed, lines, refusal}
 
 pub digits-length : (k v : ℕ) → length (digits k v) ≤ k
 unfolding digits
@@ -36,3 +36,6 @@ lines-length w (suc m) at h =
     let q : length (lines m at) ≤ m * w = lines-length w m at h in
     let r : length (at m) ≤ w = h m in
     simp (length-append, suc-mul) (omega arith)
+
+pub refusal-length : (q : ℕ) → length (refusal q) ≤ 13
+refusal-length q = simp length-append (omega (arith, decimal-length q))

@@ -37,3 +37,7 @@ line (x ∷ y ∷ rest) = x ++ (ascii " " ++ line (y ∷ rest))
 unfoldable pub lines : ℕ → (ℕ → List ℕ) → List ℕ
 lines zero at = []
 lines (suc m) at = lines m at ++ at m
+
+-- the one line of a program that refuses its whole input: a dash and the refusal's number
+abbrev pub refusal : ℕ → List ℕ
+refusal q = line (ascii "-" ∷ decimal q ∷ [])

@@ -9,8 +9,8 @@ use native.Mathlib.Numerals.{add-one}
 use native.Mathlib.Omega.{arith}
 use borrow.Author.Tests.{le-leb, lt-leb, leb-true, leb-false}
 use lib.Dec.{leb}
-use lib.ListN.{length, set, drop, length-append, length-set}
-use lib.Seq.{sets, sets-eq, set-out, length-sets}
+use lib.ListN.{length, set, take, drop, length-append, length-set}
+use lib.Seq.{sets, sets-eq, set-out, length-sets, take-append-seam}
 use Rattle.ground.specs.Tests.{by-cond, split}
 use Rattle.text.specs.Text.{lines}
 use Rattle.text.specs.Writing.{Put, fitted, fittedLength, highest}
@@ -112,3 +112,9 @@ module _ (text out : List ℕ) where
   pub fitted-whole : length text ≤ length out → (fittedLength text out ≡ length text) × (fitted text out ≡ text ++ drop (length text) out)
   unfolding fitted fittedLength
   fitted-whole h = rw (le-leb (length text) (length out) h) (refl, refl)
+
+-- a text that was put at the front of a long enough buffer, read back
+pub read-front : {l m : List ℕ} {r : ℕ} {text : List ℕ} → length text ≤ length l → Put l m 0 r text → (r ≡ length text) × (take r m ≡ text)
+read-front {l} {m} {r} {text} h p =
+    let e : r ≡ length text = measured (omega (arith, p .buffer)) p in
+    (e, rw (e, p .bytes, front text l h) (take-append-seam text (drop (length text) l)))

@@ -1,8 +1,10 @@
-// Writers of text: each puts a text into a buffer from an index on, and answers the index after it. What would stand past the buffer's
-// end is left out, so that a buffer of no bytes serves to measure a text.
+// Writers of text. A `put` function puts a text into a buffer from an index on, and answers the index after it; what would stand past the
+// buffer's end is left out, so that a buffer of no bytes serves to measure a text. A `write` function writes a whole text to the front of
+// the buffer and answers its length; or, where the buffer is too short, nothing and 0.
+ghost use mathlib.Core.Path.{_≡_};
 ghost use mathlib.Core.List.{_∷_, [], _++_};
-ghost use Rattle.text.specs.Text.{ascii, decimal, signed};
-ghost use Rattle.text.specs.Writing.{Put};
+ghost use Rattle.text.specs.Text.{ascii, decimal, signed, refusal};
+ghost use Rattle.text.specs.Writing.{Put, fitted, fittedLength};
 
 // No index is higher.
 const HIGHEST: usize = 0xFFFF_FFFF_FFFF_FFFF;
@@ -69,4 +71,27 @@ pub fn put_bytes(out: &mut [u8], at: usize, bytes: &[u8]) -> usize
         i += 1;
     }
     next
+}
+
+// The same, whole or not at all.
+pub fn write_bytes(out: &mut [u8], bytes: &[u8]) -> usize
+    ensures { λ r. ⌜ r ≡ fittedLength (now (bytes .entry)) (now (out .entry)) ⌝ }
+    ensures { λ r. ⌜ now (out .exit) ≡ fitted (now (bytes .entry)) (now (out .entry)) ⌝ }
+{
+    if out.len() < bytes.len() {
+        return 0;
+    }
+    put_bytes(&mut *out, 0, bytes)
+}
+
+// A line with a dash and the number of a refusal: the one line of a program that refuses its whole input.
+pub fn write_refusal(out: &mut [u8], number: u32) -> usize
+    ensures { λ r. ⌜ r ≡ fittedLength (refusal number) (now (out .entry)) ⌝ }
+    ensures { λ r. ⌜ now (out .exit) ≡ fitted (refusal number) (now (out .entry)) ⌝ }
+{
+    let mut line = [0u8; 13];
+    let next = put_byte(&mut line, 0, b'-');
+    let next = put_field(&mut line, next, number);
+    let end = put_byte(&mut line, next, b'\n');
+    write_bytes(&mut *out, &line[..end])
 }

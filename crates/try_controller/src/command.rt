@@ -1,6 +1,5 @@
 // The commands: what each asks of the controller, by its first byte.
 use controller::decide;
-use controller::fresh;
 use controller::receive;
 use controller::renew;
 use controller::restore;
@@ -8,24 +7,26 @@ use controller::save;
 use controller::stop;
 use controller::timeout;
 use controller::vote;
+use controller_state::becomes;
+use controller_state::fresh;
+use controller_state::passed_over;
 use model::Checkpoint;
 use model::Kind;
 use model::Message;
 use model::Outcome;
 use protocol::Answer;
 use protocol::Controller;
-use protocol::Member;
-use protocol::Post;
+use protocol::Identity;
 use protocol::Saved;
 use votes::VoteSet;
 ghost use mathlib.Core.Path.{_≡_};
 ghost use Prim.Native.Nat.{_<_};
 
-// Who the controller is after a command, its answer, and the card that it made.
+// Who the controller is after a command, its answer, and the checkpoint that it made.
 pub(crate) struct Told {
-    pub me: Member,
+    pub me: Identity,
     pub answer: Answer,
-    pub card: Saved,
+    pub saved: Saved,
 }
 
 fn byte(s: &[u8], i: usize) -> u8 {
@@ -96,7 +97,7 @@ fn outcome_at(s: &[u8]) -> Outcome {
     }
 }
 
-fn card_at(s: &[u8], me: Member) -> Checkpoint {
+fn checkpoint_at(s: &[u8], me: Identity) -> Checkpoint {
     Checkpoint {
         id: me.id,
         n: me.n,
@@ -107,57 +108,44 @@ fn card_at(s: &[u8], me: Member) -> Checkpoint {
     }
 }
 
-// An answer that only shows the controller.
-pub(crate) fn shown(c: Controller, taken: bool) -> Answer {
-    Answer {
-        taken,
-        controller: c,
-        vote: Post::Nothing,
-        ack: Post::Nothing,
-        help: Post::Nothing,
-        helped: Post::Nothing,
-        proposal: Outcome::None,
-    }
-}
-
-fn plain(me: Member, answer: Answer) -> Told {
+fn plain(me: Identity, answer: Answer) -> Told {
     Told {
         me,
         answer,
-        card: Saved::Nothing,
+        saved: Saved::Nothing,
     }
 }
 
 fn become_fresh(s: &[u8]) -> Told {
-    let me = Member {
+    let me = Identity {
         n: byte(s, 1),
         f: byte(s, 2),
         id: byte(s, 3),
         order: number(s, 4),
     };
-    plain(me, shown(fresh(), true))
+    plain(me, becomes(fresh()))
 }
 
-fn saved(me: Member, c: Controller) -> Told {
-    let card = save(me, c);
-    match card {
-        Saved::Nothing => plain(me, shown(c, false)),
-        Saved::Card(_) => Told {
+fn saved(me: Identity, c: Controller) -> Told {
+    let saved = save(me, c);
+    match saved {
+        Saved::Nothing => plain(me, passed_over(c)),
+        Saved::Newest(_) => Told {
             me,
-            answer: shown(c, true),
-            card,
+            answer: becomes(c),
+            saved,
         },
     }
 }
 
 // What the controller answers to a command.
-pub(crate) fn ask(s: &[u8], me: Member, c: Controller) -> Told {
+pub(crate) fn ask(s: &[u8], me: Identity, c: Controller) -> Told {
     match byte(s, 0) {
         0 => become_fresh(s),
         1 => {
             let mut next = me;
             next.order = number(s, 4);
-            plain(next, shown(renew(c), true))
+            plain(next, becomes(renew(c)))
         }
         2 => plain(me, vote(me, byte(s, 1) == 1, number(s, 4), c)),
         3 => plain(me, receive(me, message_at(s), c)),
@@ -165,6 +153,6 @@ pub(crate) fn ask(s: &[u8], me: Member, c: Controller) -> Told {
         5 => plain(me, decide(byte(s, 1) == 1, c)),
         6 => plain(me, stop(c)),
         7 => saved(me, c),
-        _ => plain(me, restore(me, card_at(s, me), c)),
+        _ => plain(me, restore(me, checkpoint_at(s, me), c)),
     }
 }

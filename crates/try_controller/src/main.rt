@@ -5,23 +5,23 @@ mod print;
 
 use command::ask;
 use command::is_command;
-use controller::fresh;
+use controller_state::fresh;
 use libc::STDIN_FILENO;
 use print::flush;
 use print::put_line;
 use protocol::Controller;
-use protocol::Member;
+use protocol::Identity;
 
 // The controller under trial, who it is, and how many bytes of text wait in the buffer.
 struct Trial {
-    pub me: Member,
+    pub me: Identity,
     pub c: Controller,
     pub waiting: usize,
 }
 
 fn begin() -> Trial {
     Trial {
-        me: Member {
+        me: Identity {
             n: 0,
             f: 0,
             id: 0,
@@ -41,9 +41,9 @@ fn step(s: &[u8], t: Trial, out: &mut [u8]) -> Trial {
     let told = ask(s, old, c);
     let me = told.me;
     let answer = told.answer;
-    let card = told.card;
+    let saved = told.saved;
     let c = answer.controller;
-    let waiting = put_line(out, t.waiting, answer, card);
+    let waiting = put_line(out, t.waiting, answer, saved);
     Trial { me, c, waiting }
 }
 

@@ -1,15 +1,16 @@
 // Lines of text into a buffer. What does not fit is left out; the buffer is written out long before that.
-use controller::outcome;
-use controller::phase;
-use controller::stands_by;
-use controller::stopped;
+use controller_state::is_standby;
+use controller_state::is_stopped;
+use controller_state::outcome_in;
+use controller_state::phase_in;
 use libc::STDOUT_FILENO;
 use model::Outcome;
 use model::outcome_number;
 use protocol::Answer;
-use protocol::Controller;
-use protocol::Post;
+use protocol::Condition;
 use protocol::Saved;
+use protocol::Send;
+use protocol::Sends;
 use votes::VoteSet;
 
 fn put(out: &mut [u8], at: usize, b: u8) -> usize {
@@ -49,10 +50,10 @@ fn put_outcome(out: &mut [u8], at: usize, o: Outcome) -> usize {
 }
 
 // A space, then what was sent of one kind: mask, known and willing, or - for nothing.
-fn put_post(out: &mut [u8], at: usize, post: Post) -> usize {
-    match post {
-        Post::Nothing => put_outcome(out, at, Outcome::None),
-        Post::To(to, s) => put_sheet(out, at, to, s),
+fn put_send(out: &mut [u8], at: usize, send: Send) -> usize {
+    match send {
+        Send::Nothing => put_outcome(out, at, Outcome::None),
+        Send::To(to, s) => put_sheet(out, at, to, s),
     }
 }
 
@@ -66,49 +67,51 @@ fn put_sheet(out: &mut [u8], at: usize, to: u32, s: VoteSet) -> usize {
 }
 
 // stage, 8 stopped, 9 standing by
-fn stage_shown(c: Controller) -> u8 {
-    if stopped(c) {
+fn stage_shown(condition: Condition) -> u8 {
+    if is_stopped(condition) {
         return 8;
     }
-    if stands_by(c) {
+    if is_standby(condition) {
         return 9;
     }
-    phase(c)
+    phase_in(condition)
 }
 
 // taken stage outcome position put V A H R
 fn put_answer(out: &mut [u8], at: usize, a: Answer) -> usize {
     let c = a.controller;
+    let condition = c.condition;
     let word = a.proposal;
+    let sends = a.sends;
     let taken = if a.taken { b'1' } else { b'0' };
     let mut next = put(out, at, taken);
-    next = put_number(out, next, b' ', stage_shown(c) as u32);
-    next = put_outcome(out, next, outcome(c));
-    next = put_number(out, next, b' ', c.position);
+    next = put_number(out, next, b' ', stage_shown(condition) as u32);
+    next = put_outcome(out, next, outcome_in(condition));
+    next = put_number(out, next, b' ', c.gate.position);
     next = put_outcome(out, next, word);
-    put_posts(out, next, a)
+    put_sends(out, next, sends)
 }
 
-fn put_posts(out: &mut [u8], at: usize, a: Answer) -> usize {
-    let vote = a.vote;
-    let ack = a.ack;
-    let help = a.help;
-    let helped = a.helped;
-    let mut next = put_post(out, at, vote);
-    next = put_post(out, next, ack);
-    next = put_post(out, next, help);
-    put_post(out, next, helped)
+fn put_sends(out: &mut [u8], at: usize, sends: Sends) -> usize {
+    let vote = sends.vote;
+    let ack = sends.ack;
+    let help = sends.help;
+    let helped = sends.helped;
+    let mut next = put_send(out, at, vote);
+    next = put_send(out, next, ack);
+    next = put_send(out, next, help);
+    put_send(out, next, helped)
 }
 
-// The card, if one was made: K outcome order position
-fn put_card(out: &mut [u8], at: usize, card: Saved) -> usize {
-    match card {
+// The checkpoint, if one was made: K outcome order position
+fn put_checkpoint(out: &mut [u8], at: usize, saved: Saved) -> usize {
+    match saved {
         Saved::Nothing => at,
-        Saved::Card(k) => {
-            let saved = k.outcome;
+        Saved::Newest(k) => {
+            let outcome = k.outcome;
             let mut next = put(out, at, b' ');
             next = put(out, next, b'K');
-            next = put_number(out, next, b' ', outcome_number(saved) as u32);
+            next = put_number(out, next, b' ', outcome_number(outcome) as u32);
             next = put_number(out, next, b' ', k.order);
             put_number(out, next, b' ', k.position)
         }
@@ -123,9 +126,9 @@ pub(crate) fn flush(out: &[u8], n: usize) {
 }
 
 // A line. A buffer that is nearly full is written out, and begins again at 0.
-pub(crate) fn put_line(out: &mut [u8], at: usize, a: Answer, card: Saved) -> usize {
+pub(crate) fn put_line(out: &mut [u8], at: usize, a: Answer, saved: Saved) -> usize {
     let mut next = put_answer(out, at, a);
-    next = put_card(out, next, card);
+    next = put_checkpoint(out, next, saved);
     next = put(out, next, b'\n');
     if 65000 < next {
         flush(out, next);

@@ -2,18 +2,18 @@
 use crate::line::Line;
 use crate::line::begin;
 use crate::line::put_number;
-use checkpoint_wire::ReadCheckpoint;
-use message_wire::ReadMessage;
-use wire::ReadEvent;
+use checkpoint_record::ReadCheckpoint;
+use event_record::ReadEvent;
+use message_record::ReadMessage;
 
 fn refused(q: u8) -> Line {
     put_number(begin(b'R'), q as u32)
 }
 
 fn message_line(s: &[u8]) -> Line {
-    let read = message_wire::read_message(s);
+    let read = message_record::read_message(s);
     let ReadMessage::Read(m) = read else {
-        return refused(message_wire::answer_of(read));
+        return refused(message_record::answer_of(read));
     };
     let kind = m.kind;
     let set = m.votes;
@@ -29,9 +29,9 @@ fn message_line(s: &[u8]) -> Line {
 }
 
 fn checkpoint_line(s: &[u8]) -> Line {
-    let read = checkpoint_wire::read_checkpoint(s);
+    let read = checkpoint_record::read_checkpoint(s);
     let ReadCheckpoint::Read(p) = read else {
-        return refused(checkpoint_wire::answer_of(read));
+        return refused(checkpoint_record::answer_of(read));
     };
     let outcome = p.outcome;
     let mut line = begin(b'=');
@@ -44,11 +44,11 @@ fn checkpoint_line(s: &[u8]) -> Line {
 }
 
 fn event_line(s: &[u8]) -> Line {
-    let read = wire::read_event(s);
+    let read = event_record::read_event(s);
     let ReadEvent::Read(e) = read else {
-        return refused(wire::answer_of(read));
+        return refused(event_record::answer_of(read));
     };
-    let x = wire::fields_of(e);
+    let x = event_record::fields_of(e);
     let mut line = begin(b'=');
     line = put_number(line, x.kind as u32);
     line = put_number(line, x.a as u32);

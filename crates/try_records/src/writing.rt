@@ -4,11 +4,11 @@ use crate::line::begin;
 use crate::line::put;
 use crate::line::put_hex;
 use crate::line::put_number;
+use event_record::ReadEvent;
 use model::Checkpoint;
 use model::Message;
+use records::number4;
 use votes::VoteSet;
-use wire::ReadEvent;
-use wire::number4;
 ghost use mathlib.Core.Path.{_≡_};
 ghost use Prim.Native.Nat.{_+_, _≤_};
 ghost use lib.ListN.{length};
@@ -38,7 +38,7 @@ fn word(x: &[u8], at: usize) -> u32
 fn message_line(x: &[u8], out: &mut [u8]) -> Line
     requires { ⌜ length (now x) ≡ 38 ⌝ }
 {
-    if !wire::is_kind(x[0]) {
+    if !records::is_kind(x[0]) {
         return unlisted();
     }
     let votes = VoteSet {
@@ -46,7 +46,7 @@ fn message_line(x: &[u8], out: &mut [u8]) -> Line
         willing: word(x, 13),
     };
     let m = Message {
-        kind: wire::kind_of(x[0]),
+        kind: records::kind_of(x[0]),
         n: x[1],
         f: x[2],
         from: x[3],
@@ -54,25 +54,25 @@ fn message_line(x: &[u8], out: &mut [u8]) -> Line
         order: word(x, 5),
         votes,
     };
-    let q = message_wire::write_message(out, m);
+    let q = message_record::write_message(out, m);
     written(q, out)
 }
 
 fn checkpoint_line(x: &[u8], out: &mut [u8]) -> Line
     requires { ⌜ length (now x) ≡ 38 ⌝ }
 {
-    if !wire::is_outcome(x[3]) {
+    if !records::is_outcome(x[3]) {
         return unlisted();
     }
     let p = Checkpoint {
         id: x[0],
         n: x[1],
         f: x[2],
-        outcome: wire::outcome_of(x[3]),
+        outcome: records::outcome_of(x[3]),
         order: word(x, 4),
         position: word(x, 8),
     };
-    let q = checkpoint_wire::write_checkpoint(out, p);
+    let q = checkpoint_record::write_checkpoint(out, p);
     written(q, out)
 }
 
@@ -81,10 +81,10 @@ fn event_line(x: &[u8], out: &mut [u8]) -> Line
     requires { ⌜ length (now x) ≡ 38 ⌝ }
 {
     let record = [0x4Cu8, 0x45, x[0], x[1], x[2], x[3], x[4], x[5], x[6], x[7]];
-    let ReadEvent::Read(e) = wire::read_event(&record) else {
+    let ReadEvent::Read(e) = event_record::read_event(&record) else {
         return unlisted();
     };
-    let q = wire::write_event(out, e);
+    let q = event_record::write_event(out, e);
     written(q, out)
 }
 

@@ -2,8 +2,10 @@
 ghost use mathlib.Core.Path.{_≡_};
 ghost use mathlib.Core.Bool.{cond};
 ghost use Prim.Native.Nat.{min};
+ghost use Rattle.ground.specs.Limit.{limit};
 ghost use Rattle.ground.specs.Mask.{has};
 ghost use Rattle.votes.specs.VoteSets.{empty, single, join, complete, unanimous, joinAll};
+use ground::LIMIT;
 use ground::full_to;
 use ground::has;
 use ground::insert;
@@ -65,12 +67,12 @@ pub fn unanimous(s: VoteSet, n: u8) -> bool
     false
 }
 
-// The join of the sheets of those senders of 1..m that are in a set. Only 16 have a sheet.
-pub fn join_all(m: u8, from: u32, sheets: [VoteSet; 16]) -> VoteSet
+// The join of the sheets of those senders of 1..m that are in a set. Only as many as the limit have a sheet.
+pub fn join_all(m: u8, from: u32, sheets: [VoteSet; LIMIT]) -> VoteSet
     ensures { λ r. ⌜ r ≡ joinAll m from sheets ⌝ }
 {
     let mut joined = empty_set();
-    let end = at_most_16(m);
+    let end = up_to_limit(m);
     let mut k: u8 = 0;
     while k < end {
         let at = k as usize;
@@ -81,14 +83,14 @@ pub fn join_all(m: u8, from: u32, sheets: [VoteSet; 16]) -> VoteSet
     joined
 }
 
-// The smaller of m and 16.
-fn at_most_16(m: u8) -> u8
-    ensures { λ r. ⌜ r ≡ min m 16 ⌝ }
+// The smaller of m and the limit.
+fn up_to_limit(m: u8) -> u8
+    ensures { λ r. ⌜ r ≡ min m limit ⌝ }
 {
-    if m < 16 {
+    if (m as usize) < LIMIT {
         return m;
     }
-    16
+    LIMIT as u8
 }
 
 // The sheet joined with that of sender k, if k is in the set.

@@ -1,8 +1,10 @@
-use Prim.Native.Nat.{_≤_}
+-- `program_bench::main` is proved to return; its buffer for the text is long enough for every output.
+use Prim.Native.Nat.{ℕ, _≤_}
 use mathlib.Core.Path.{sym}
-use lib.ListN.{length}
+use lib.ListN.{length, length-replicate}
 use lib.Seq.{length-take-le}
-use Rattle.text.specs.WritingLaws.{within-buffer}
+use Rattle.bench_report.specs.Limits.{longestOutput}
+use Rattle.bench_output.proofs.Texts.{within-longest}
 use borrow.Author.Needs.{needs}
 use Rattle.program_bench.proofs.main.Statement.{statement}
 use Rattle.program_bench.proofs.main.Tie as tie
@@ -16,17 +18,18 @@ read-full-requires c κs = search needs
 array-share-prefix-input : tie.Need-array-share-prefix-input
 array-share-prefix-input c = search needs
 
-slice-aggregate-print : tie.Need-slice-aggregate-print
-slice-aggregate-print c = search needs
+slice-aggregate-render : tie.Need-slice-aggregate-render
+slice-aggregate-render c = search needs
 
-slice-aggregate-print-2 : tie.Need-slice-aggregate-print-2
-slice-aggregate-print-2 c = search needs
+slice-aggregate-render-2 : tie.Need-slice-aggregate-render-2
+slice-aggregate-render-2 c = search needs
 
-print-requires : tie.Need-print-requires
-print-requires c κs = search needs
+render-requires : tie.Need-render-requires
+render-requires c κs = search needs
 
-fits : (c : tie.After-print) → c .print .result ≤ length (c .print .last .1 .0)
-fits c = within-buffer _ _ _ (c .print .last .1 .0) (c .print .ensures .0) (c .print .kept .1 .0)
+-- the program prints always: its buffer holds whatever the schedule gives
+fits : (c : tie.After-render) → c .render .result ≤ length (c .render .last .1 .0)
+fits c = within-longest _ _ (c .render .last .1 .0) _ (length-replicate {A = ℕ} longestOutput 0) (c .render .ensures .0) (c .render .kept .1 .0)
 
 array-share-prefix-text : tie.Need-array-share-prefix-text
 array-share-prefix-text c = fits (c .before)
@@ -47,9 +50,9 @@ main-spec =
     slice-aggregate-read-full
     read-full-requires
     array-share-prefix-input
-    slice-aggregate-print
-    slice-aggregate-print-2
-    print-requires
+    slice-aggregate-render
+    slice-aggregate-render-2
+    render-requires
     array-share-prefix-text
     slice-aggregate-write-all
     write-all-requires

@@ -1,7 +1,7 @@
 -- `protocol::clean_orders_exist` meets its contract: the theorem of CleanExists.antt. Assumes nothing.
 use Rattle.protocol.proofs.clean_orders_exist.Statement.{statement}
 use Rattle.protocol.proofs.clean_orders_exist.Tie as tie
-use Rattle.protocol.proofs.CleanExists.{not-hollow}
+use Rattle.protocol.proofs.clean.Exists.{not-hollow}
 
 returns : tie.Need-returns
 returns c = not-hollow

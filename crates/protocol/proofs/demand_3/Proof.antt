@@ -1,7 +1,7 @@
 -- `protocol::demand_3` meets its contract: the theorem of Theorem.antt. Assumes nothing.
 use Rattle.protocol.proofs.demand_3.Statement.{statement}
 use Rattle.protocol.proofs.demand_3.Tie as tie
-use Rattle.protocol.proofs.Theorem.{demand-3}
+use Rattle.protocol.proofs.claim.Theorem.{demand-3}
 
 returns : tie.Need-returns
 returns c = demand-3

@@ -1,3 +1,4 @@
+-- Safety alone: a chunk holds whole commands.
 use Prim.Native.Nat.{_≤_, _-_}
 use mathlib.Core.Path.{_≡_}
 use lib.ListN.{length}

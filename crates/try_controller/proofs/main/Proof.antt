@@ -1,3 +1,4 @@
+-- Safety alone: the program answers command after command, and its contract promises nothing more.
 use Prim.Native.Nat.{_≤_, _-_}
 use mathlib.Core.Path.{_≡_}
 use lib.ListN.{length}

@@ -1,3 +1,4 @@
+-- Safety alone: a frame's line is made by its kind.
 use mathlib.Core.Path.{sym}
 use native.Mathlib.Omega.{arith}
 use lib.Seq.{length-take-le}

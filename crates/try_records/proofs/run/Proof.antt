@@ -1,3 +1,4 @@
+-- Safety alone: frame after frame, as long as whole ones are left.
 use Prim.Native.Nat.{_≤_, _-_}
 use lib.ListN.{length, length-take, length-drop}
 use native.Mathlib.Omega.{arith}

@@ -20,8 +20,8 @@ abbrev μ-loop : tie.MeasureT-loop
 empty-set-requires : tie.Need-empty-set-requires Inv-loop μ-loop
 empty-set-requires c κs = search needs
 
-at-most-16-requires : tie.Need-at-most-16-requires Inv-loop μ-loop
-at-most-16-requires c κs = search needs
+up-to-limit-requires : tie.Need-up-to-limit-requires Inv-loop μ-loop
+up-to-limit-requires c κs = search needs
 
 loop-holds : tie.Need-loop-holds Inv-loop μ-loop
 unfolding joinAll
@@ -63,7 +63,7 @@ join-all-spec =
     Inv-loop
     μ-loop
     empty-set-requires
-    at-most-16-requires
+    up-to-limit-requires
     loop-holds
     cast-at
     mul-s

@@ -1,5 +1,5 @@
+use borrow.Author.Tests.{eq-eqb, ne-eqb, not-false, not-true}
 use Rattle.protocol.specs.Calls.{addressed}
-use borrow.Author.Tests.{eq-eqb, ne-eqb, not-true, not-false}
 use borrow.Author.Needs.{needs}
 use Rattle.controller.proofs.calls.addressed.Statement.{statement}
 use Rattle.controller.proofs.calls.addressed.Tie as tie
@@ -20,19 +20,19 @@ returns-4 : tie.Need-returns-4
 unfolding addressed
 returns-4 c = simp (eq-eqb _ _ (c .before .before .before .before .before .before .before .before .before .if1 .left), eq-eqb _ _ (c .before .before .before .before .before .before .if2 .left), eq-eqb _ _ (c .before .before .before .if3 .left), ne-eqb _ _ (c .if4 .taken))
 
-member-requires : tie.Need-member-requires
-member-requires c κs = search needs
+is-controller-requires : tie.Need-is-controller-requires
+is-controller-requires c κs = search needs
 
 returns-5 : tie.Need-returns-5
 unfolding addressed
-returns-5 c = simp (eq-eqb _ _ (c .before .before .before .before .before .before .before .before .before .before .before .if1 .left), eq-eqb _ _ (c .before .before .before .before .before .before .before .before .if2 .left), eq-eqb _ _ (c .before .before .before .before .before .if3 .left), eq-eqb _ _ (c .before .before .if4 .left), ← c .before .member .ensures, not-true (c .before .member .result) (c .if5 .taken))
+returns-5 c = simp (eq-eqb _ _ (c .before .before .before .before .before .before .before .before .before .before .before .if1 .left), eq-eqb _ _ (c .before .before .before .before .before .before .before .before .if2 .left), eq-eqb _ _ (c .before .before .before .before .before .if3 .left), eq-eqb _ _ (c .before .before .if4 .left), ← c .before .is-controller .ensures, not-true (c .before .is-controller .result) (c .if5 .taken))
 
 route-requires : tie.Need-route-requires
 route-requires c κs = search needs
 
 returns-6 : tie.Need-returns-6
 unfolding addressed
-returns-6 c = simp (eq-eqb _ _ (c .before .before .before .before .before .before .before .before .before .before .before .before .if1 .left), eq-eqb _ _ (c .before .before .before .before .before .before .before .before .before .if2 .left), eq-eqb _ _ (c .before .before .before .before .before .before .if3 .left), eq-eqb _ _ (c .before .before .before .if4 .left), ← c .before .before .member .ensures, not-false (c .before .before .member .result) (c .before .if5 .left), c .route .ensures)
+returns-6 c = simp (eq-eqb _ _ (c .before .before .before .before .before .before .before .before .before .before .before .before .if1 .left), eq-eqb _ _ (c .before .before .before .before .before .before .before .before .before .if2 .left), eq-eqb _ _ (c .before .before .before .before .before .before .if3 .left), eq-eqb _ _ (c .before .before .before .if4 .left), ← c .before .before .is-controller .ensures, not-false (c .before .before .is-controller .result) (c .before .if5 .left), c .route .ensures)
 
 pub addressed-spec : {M : Type 1} → statement M
 addressed-spec =
@@ -42,7 +42,7 @@ addressed-spec =
     returns-2
     returns-3
     returns-4
-    member-requires
+    is-controller-requires
     returns-5
     route-requires
     returns-6)

@@ -3,28 +3,34 @@ use borrow.Author.Needs.{needs}
 use Rattle.controller.proofs.lifecycle.awaits_decision.Statement.{statement}
 use Rattle.controller.proofs.lifecycle.awaits_decision.Tie as tie
 
-stands-by-requires : tie.Need-stands-by-requires
-stands-by-requires c κs = search needs
+is-standby-requires : tie.Need-is-standby-requires
+is-standby-requires c κs = search needs
 
 returns : tie.Need-returns
 unfolding awaitsDecision
-returns c = simp (← c .before .stands-by .ensures, c .if1 .taken)
+returns c = simp (← c .before .is-standby .ensures, c .if1 .taken)
 
-runs-requires : tie.Need-runs-requires
-runs-requires c κs = search needs
+is-running-requires : tie.Need-is-running-requires
+is-running-requires c κs = search needs
 
-phase-requires : tie.Need-phase-requires
-phase-requires c κs = search needs
+phase-in-requires : tie.Need-phase-in-requires
+phase-in-requires c κs = search needs
 
 returns-2 : tie.Need-returns-2
 unfolding awaitsDecision
-returns-2 c = simp (← c .before .before .before .before .stands-by .ensures, c .before .before .before .if1 .left, ← c .before .before .runs .ensures, c .before .if2 .taken, c .phase .ensures)
+returns-2 c = simp (← c .before .before .before .before .is-standby .ensures, c .before .before .before .if1 .left, ← c .before .before .is-running .ensures, c .before .if2 .taken, c .phase-in .ensures)
 
 returns-3 : tie.Need-returns-3
 unfolding awaitsDecision
-returns-3 c = simp (← c .before .before .before .stands-by .ensures, c .before .before .if1 .left, ← c .before .runs .ensures, c .if2 .left)
+returns-3 c = simp (← c .before .before .before .is-standby .ensures, c .before .before .if1 .left, ← c .before .is-running .ensures, c .if2 .left)
 
 pub awaits-decision-spec : {M : Type 1} → statement M
 awaits-decision-spec =
     tie.close
-    (tie.spec stands-by-requires returns runs-requires phase-requires returns-2 returns-3)
+    (tie.spec
+    is-standby-requires
+    returns
+    is-running-requires
+    phase-in-requires
+    returns-2
+    returns-3)

@@ -12,19 +12,19 @@ word-of-requires c κs = search needs
 conclude-requires : tie.Need-conclude-requires
 conclude-requires c κs = search needs
 
-quiet-requires : tie.Need-quiet-requires
-quiet-requires c κs = search needs
+becomes-requires : tie.Need-becomes-requires
+becomes-requires c κs = search needs
 
 returns : tie.Need-returns
 unfolding decide
-returns c = simp (← c .before .before .before .before .awaits-decision .ensures, c .before .before .before .if1 .taken, ← c .before .before .word-of .ensures, ← c .before .conclude .ensures, c .quiet .ensures)
+returns c = simp (← c .before .before .before .before .awaits-decision .ensures, c .before .before .before .if1 .taken, c .before .before .word-of .ensures, c .before .conclude .ensures, c .becomes .ensures)
 
-passed-requires : tie.Need-passed-requires
-passed-requires c κs = search needs
+passed-over-requires : tie.Need-passed-over-requires
+passed-over-requires c κs = search needs
 
 returns-2 : tie.Need-returns-2
 unfolding decide
-returns-2 c = simp (← c .before .before .awaits-decision .ensures, c .before .if1 .left, c .passed .ensures)
+returns-2 c = simp (← c .before .before .awaits-decision .ensures, c .before .if1 .left, c .passed-over .ensures)
 
 pub decide-spec : {M : Type 1} → statement M
 decide-spec =
@@ -33,7 +33,7 @@ decide-spec =
     awaits-decision-requires
     word-of-requires
     conclude-requires
-    quiet-requires
+    becomes-requires
     returns
-    passed-requires
+    passed-over-requires
     returns-2)

@@ -9,21 +9,27 @@ is-up-requires c κs = search needs
 cleared-requires : tie.Need-cleared-requires
 cleared-requires c κs = search needs
 
-quiet-requires : tie.Need-quiet-requires
-quiet-requires c κs = search needs
+becomes-requires : tie.Need-becomes-requires
+becomes-requires c κs = search needs
 
 returns : tie.Need-returns
 unfolding stop
-returns c = simp (← c .before .before .before .is-up .ensures, c .before .before .if1 .taken, ← c .before .cleared .ensures, c .quiet .ensures)
+returns c = simp (← c .before .before .before .is-up .ensures, c .before .before .if1 .taken, c .before .cleared .ensures, c .becomes .ensures)
 
-passed-requires : tie.Need-passed-requires
-passed-requires c κs = search needs
+passed-over-requires : tie.Need-passed-over-requires
+passed-over-requires c κs = search needs
 
 returns-2 : tie.Need-returns-2
 unfolding stop
-returns-2 c = simp (← c .before .before .is-up .ensures, c .before .if1 .left, c .passed .ensures)
+returns-2 c = simp (← c .before .before .is-up .ensures, c .before .if1 .left, c .passed-over .ensures)
 
 pub stop-spec : {M : Type 1} → statement M
 stop-spec =
     tie.close
-    (tie.spec is-up-requires cleared-requires quiet-requires returns passed-requires returns-2)
+    (tie.spec
+    is-up-requires
+    cleared-requires
+    becomes-requires
+    returns
+    passed-over-requires
+    returns-2)

@@ -1,3 +1,4 @@
+-- Each kind by its own route.
 use borrow.Author.Needs.{needs}
 use Rattle.model.specs.Routes.{route}
 use Rattle.model.proofs.routes.route.Statement.{statement}

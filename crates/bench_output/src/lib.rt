@@ -1,0 +1,40 @@
+// The bench program but for its reading and writing: from the bytes of a schedule to the bytes that are printed, in a lent buffer.
+use bench_report::MOST_ANSWERS;
+use bench_report::is_too_long;
+use bench_report::write_report;
+use bench_report::write_too_long;
+use bench_run::run;
+use bench_summary::summary_of;
+ghost use mathlib.Core.Path.{_≡_};
+ghost use Rattle.text.specs.Writing.{fitted, fittedLength};
+ghost use Rattle.bench_output.specs.Output.{outputOf};
+ghost use Rattle.bench_output.specs.AlwaysPrints.{AlwaysPrints};
+
+// Writes the program's whole output for a schedule to the front of the buffer and answers its length; 0, and nothing written, if it does not fit.
+pub fn render(s: &[u8], out: &mut [u8]) -> usize
+    ensures { λ r. ⌜ r ≡ fittedLength (outputOf (now (s .entry))) (now (out .entry)) ⌝ }
+    ensures { λ r. ⌜ now (out .exit) ≡ fitted (outputOf (now (s .entry))) (now (out .entry)) ⌝ }
+{
+    if is_too_long(s.len()) {
+        return write_too_long(&mut *out);
+    }
+    let mut answers = [0u8; MOST_ANSWERS];
+    let r = run(s, &mut answers);
+    let count = r.count;
+    let summary = summary_of(r.bench);
+    write_report(&mut *out, &answers[..count], summary)
+}
+
+// The same for programs in other languages: a slice passes as pointer and length.
+#[no_mangle]
+pub extern "C" fn bench_render(s: &[u8], out: &mut [u8]) -> usize
+    ensures { λ r. ⌜ r ≡ fittedLength (outputOf (now (s .entry))) (now (out .entry)) ⌝ }
+    ensures { λ r. ⌜ now (out .exit) ≡ fitted (outputOf (now (s .entry))) (now (out .entry)) ⌝ }
+{
+    render(s, &mut *out)
+}
+
+// A buffer of `bench_report::LONGEST_OUTPUT` bytes holds every output of every input, as a contract.
+pub fn always_prints()
+    ensures { λ _. ⌜ AlwaysPrints ⌝ }
+{}

@@ -1,0 +1,117 @@
+// What an accepted event of one controller leaves.
+use crate::calls::identity;
+use crate::calls::message;
+use crate::calls::restore_from;
+use crate::sends::sent_after;
+use controller::decide;
+use controller::receive;
+use controller::save;
+use controller::stop;
+use controller::timeout;
+use controller::vote;
+use model::Event;
+use model::Outcome;
+use model::is_move;
+use model::is_stay;
+use model::word_of;
+use protocol::Answer;
+use protocol::Consensus;
+use protocol::Effect;
+use protocol::Saved;
+use protocol::Sent;
+use protocol::Shared;
+use protocol::Station;
+ghost use mathlib.Core.Path.{_≡_};
+ghost use Rattle.protocol.specs.Steps.{proposedTo, decidedAs, stationAfter, answering, keeping, effect};
+
+// What is shared, after a word was put, if any.
+fn proposed_to(m: Shared, proposal: Outcome) -> Shared
+    ensures { λ r. ⌜ r ≡ proposedTo m proposal ⌝ }
+{
+    let old = m.consensus;
+    let decision = old.decision;
+    let consensus = Consensus {
+        move_proposed: old.move_proposed | is_move(proposal),
+        stay_proposed: old.stay_proposed | is_stay(proposal),
+        decision,
+    };
+    Shared { consensus, ..m }
+}
+
+// What is shared, with the choice of the consensus.
+fn decided_as(m: Shared, to_move: bool) -> Shared
+    ensures { λ r. ⌜ r ≡ decidedAs m «to_move» ⌝ }
+{
+    let old = m.consensus;
+    let decision = word_of(to_move);
+    let consensus = Consensus { decision, ..old };
+    Shared { consensus, ..m }
+}
+
+// A station after its controller's answer.
+fn station_after(s: Station, a: Answer) -> Station
+    ensures { λ r. ⌜ r ≡ stationAfter s a ⌝ }
+{
+    let sent = sent_after(s.sent, a.sends);
+    let controller = a.controller;
+    let saved = s.saved;
+    Station {
+        controller,
+        sent,
+        saved,
+    }
+}
+
+fn answering(m: Shared, s: Station, a: Answer) -> Effect
+    ensures { λ r. ⌜ r ≡ answering m s a ⌝ }
+{
+    let proposal = a.proposal;
+    let shared = proposed_to(m, proposal);
+    let station = station_after(s, a);
+    Effect { shared, station }
+}
+
+// A station with a new checkpoint.
+fn keeping(s: Station, saved: Saved) -> Station
+    ensures { λ r. ⌜ r ≡ keeping s saved ⌝ }
+{
+    Station { saved, ..s }
+}
+
+// `s` is the station of the controller that the event concerns; `sent` is what its source has sent.
+pub(crate) fn effect(m: Shared, e: Event, sent: Sent, s: Station) -> Effect
+    ensures { λ r. ⌜ r ≡ effect m e sent s ⌝ }
+{
+    let c = s.controller;
+    match e {
+        Event::Lock { .. } => Effect {
+            shared: m,
+            station: s,
+        },
+        Event::Order { .. } => Effect {
+            shared: m,
+            station: s,
+        },
+        Event::Cast {
+            id,
+            willing,
+            target,
+        } => answering(m, s, vote(identity(m, id), willing, target, c)),
+        Event::Deliver { from, to, kind } => answering(
+            m,
+            s,
+            receive(identity(m, to), message(m, kind, from, to, sent), c),
+        ),
+        Event::Timeout { id } => answering(m, s, timeout(identity(m, id), c)),
+        Event::Decide { to_move, .. } => answering(decided_as(m, to_move), s, decide(to_move, c)),
+        Event::Stop { .. } => answering(m, s, stop(c)),
+        Event::Save { id } => {
+            let station = keeping(s, save(identity(m, id), c));
+            Effect { shared: m, station }
+        }
+        Event::Restore { id } => {
+            let saved = s.saved;
+            answering(m, s, restore_from(identity(m, id), saved, c))
+        }
+    }
+}

@@ -1,0 +1,45 @@
+// The one function that plays an event of one controller.
+use crate::Played;
+use crate::effects::effect;
+use bench_questions::concerns_one;
+use bench_questions::facts_of;
+use bench_questions::question;
+use model::Event;
+use protocol::Sent;
+use protocol::Shared;
+use protocol::Station;
+ghost use mathlib.Core.Path.{_≡_};
+ghost use Rattle.protocol.specs.Questions.{number};
+ghost use Rattle.bench_play.specs.Plays.{replyOfOne, play};
+
+// The number of the first "no", or 0.
+fn answer_of_one(m: Shared, e: Event, sent: Sent, s: Station) -> u8
+    ensures { λ r. ⌜ r ≡ number (replyOfOne m e sent s) ⌝ }
+{
+    if concerns_one(e) {
+        return question(facts_of(m, e, s, sent, false), e);
+    }
+    7
+}
+
+// `s` is the station of the controller that the event concerns; `sent` is what its source has sent.
+pub fn play(m: Shared, e: Event, sent: Sent, s: Station) -> Played
+    ensures { λ r. ⌜ r ≡ play m e sent s ⌝ }
+{
+    let answer = answer_of_one(m, e, sent, s);
+    if answer != 0 {
+        return Played {
+            answer,
+            shared: m,
+            station: s,
+        };
+    }
+    let t = effect(m, e, sent, s);
+    let shared = t.shared;
+    let station = t.station;
+    Played {
+        answer,
+        shared,
+        station,
+    }
+}

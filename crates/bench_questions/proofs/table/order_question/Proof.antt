@@ -1,0 +1,25 @@
+use Rattle.protocol.specs.Questions.{firstNo}
+use Rattle.bench_questions.proofs.Numbers.{number-unless}
+use borrow.Author.Needs.{needs}
+use Rattle.bench_questions.proofs.table.order_question.Statement.{statement}
+use Rattle.bench_questions.proofs.table.order_question.Tie as tie
+
+ask-requires : tie.Need-ask-requires
+ask-requires c κs = search needs
+
+ask-requires-2 : tie.Need-ask-requires-2
+ask-requires-2 c κs = search needs
+
+ask-requires-3 : tie.Need-ask-requires-3
+ask-requires-3 c κs = search needs
+
+ask-requires-4 : tie.Need-ask-requires-4
+ask-requires-4 c κs = search needs
+
+returns : tie.Need-returns
+unfolding firstNo
+returns c = simp (number-unless, ← c .before .before .before .ask .ensures, ← c .before .before .ask2 .ensures, ← c .before .ask3 .ensures, c .ask4 .ensures)
+
+pub order-question-spec : {M : Type 1} → statement M
+order-question-spec =
+    tie.close (tie.spec ask-requires ask-requires-2 ask-requires-3 ask-requires-4 returns)

@@ -1,0 +1,11 @@
+// The questions that the bench puts to an event, from what they look at.
+mod events;
+mod table;
+mod tests;
+
+pub use events::concerns_one;
+pub use events::facts_of;
+pub use events::of_kind;
+pub use events::source;
+pub use events::subject;
+pub use table::question;

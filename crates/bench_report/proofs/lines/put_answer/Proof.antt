@@ -1,0 +1,29 @@
+-- `bench_report::lines::put_answer` meets its contract.
+use borrow.Author.Needs.{needs}
+use Rattle.text.specs.WritingLaws.{put-then, put-length}
+use Rattle.bench_report.proofs.lines.put_answer.Statement.{statement}
+use Rattle.bench_report.proofs.lines.put_answer.Tie as tie
+
+put-number-requires : tie.Need-put-number-requires
+put-number-requires c κs = search needs
+
+put-field-requires : tie.Need-put-field-requires
+put-field-requires c κs = search needs
+
+put-byte-requires : tie.Need-put-byte-requires
+put-byte-requires c κs = search needs
+
+returns : tie.Need-returns
+returns c =
+    let third = c .before .before in
+    let second = third .before .before .before .before in
+    let first = second .before .before .before .before in
+    put-then (first .put-number .ensures) (put-then (second .put-field .ensures) (third .put-byte .ensures))
+
+same-length : tie.Need-same-length
+same-length c = put-length (returns c)
+
+pub put-answer-spec : {M : Type 1} → statement M
+put-answer-spec =
+    tie.close
+    (tie.spec put-number-requires put-field-requires put-byte-requires same-length returns)

@@ -1,0 +1,54 @@
+-- `bench_report::lines::put_controller` meets its contract.
+use borrow.Author.Needs.{needs}
+use Rattle.text.specs.WritingLaws.{put-then, put-length}
+use Rattle.bench_report.proofs.lines.put_controller.Statement.{statement}
+use Rattle.bench_report.proofs.lines.put_controller.Tie as tie
+
+put-byte-requires : tie.Need-put-byte-requires
+put-byte-requires c κs = search needs
+
+put-field-requires : tie.Need-put-field-requires
+put-field-requires c κs = search needs
+
+cast-put-field : tie.Need-cast-put-field
+cast-put-field c = search needs
+
+put-field-requires-2 : tie.Need-put-field-requires-2
+put-field-requires-2 c κs = search needs
+
+put-outcome-requires : tie.Need-put-outcome-requires
+put-outcome-requires c κs = search needs
+
+put-signed-field-requires : tie.Need-put-signed-field-requires
+put-signed-field-requires c κs = search needs
+
+put-byte-requires-2 : tie.Need-put-byte-requires-2
+put-byte-requires-2 c κs = search needs
+
+returns : tie.Need-returns
+returns c =
+    let sixth = c .before .before in
+    let fifth = sixth .before .before .before .before in
+    let fourth = fifth .before .before .before .before in
+    let third = fourth .before .before .before .before in
+    let second = third .before .before .before .before .before in
+    let first = second .before .before .before .before in
+    put-then (first .put-byte .ensures) (put-then (second .put-field .ensures) (put-then (third .put-field2 .ensures)
+    (put-then (fourth .put-outcome .ensures) (put-then (fifth .put-signed-field .ensures) (sixth .put-byte2 .ensures)))))
+
+same-length : tie.Need-same-length
+same-length c = put-length (returns c)
+
+pub put-controller-spec : {M : Type 1} → statement M
+put-controller-spec =
+    tie.close
+    (tie.spec
+    put-byte-requires
+    put-field-requires
+    cast-put-field
+    put-field-requires-2
+    put-outcome-requires
+    put-signed-field-requires
+    put-byte-requires-2
+    same-length
+    returns)

@@ -1,0 +1,50 @@
+-- `bench_report::lines::put_telegrams` meets its contract.
+use borrow.Author.Needs.{needs}
+use Rattle.text.specs.WritingLaws.{put-then, put-length}
+use Rattle.bench_report.proofs.lines.put_telegrams.Statement.{statement}
+use Rattle.bench_report.proofs.lines.put_telegrams.Tie as tie
+
+put-byte-requires : tie.Need-put-byte-requires
+put-byte-requires c κs = search needs
+
+put-field-requires : tie.Need-put-field-requires
+put-field-requires c κs = search needs
+
+put-field-requires-2 : tie.Need-put-field-requires-2
+put-field-requires-2 c κs = search needs
+
+put-field-requires-3 : tie.Need-put-field-requires-3
+put-field-requires-3 c κs = search needs
+
+put-field-requires-4 : tie.Need-put-field-requires-4
+put-field-requires-4 c κs = search needs
+
+put-byte-requires-2 : tie.Need-put-byte-requires-2
+put-byte-requires-2 c κs = search needs
+
+returns : tie.Need-returns
+returns c =
+    let sixth = c .before .before in
+    let fifth = sixth .before .before .before .before in
+    let fourth = fifth .before .before .before .before in
+    let third = fourth .before .before .before .before in
+    let second = third .before .before .before .before in
+    let first = second .before .before .before .before in
+    put-then (first .put-byte .ensures) (put-then (second .put-field .ensures) (put-then (third .put-field2 .ensures)
+    (put-then (fourth .put-field3 .ensures) (put-then (fifth .put-field4 .ensures) (sixth .put-byte2 .ensures)))))
+
+same-length : tie.Need-same-length
+same-length c = put-length (returns c)
+
+pub put-telegrams-spec : {M : Type 1} → statement M
+put-telegrams-spec =
+    tie.close
+    (tie.spec
+    put-byte-requires
+    put-field-requires
+    put-field-requires-2
+    put-field-requires-3
+    put-field-requires-4
+    put-byte-requires-2
+    same-length
+    returns)

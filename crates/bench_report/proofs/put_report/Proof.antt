@@ -1,0 +1,36 @@
+-- `bench_report::put_report` meets its contract.
+use borrow.Author.Needs.{needs}
+use Rattle.bench_report.specs.Lines.{reportOf}
+use Rattle.text.specs.WritingLaws.{put-then, put-length}
+use Rattle.bench_report.proofs.put_report.Statement.{statement}
+use Rattle.bench_report.proofs.put_report.Tie as tie
+
+put-answers-requires : tie.Need-put-answers-requires
+put-answers-requires c κs = search needs
+
+put-controllers-requires : tie.Need-put-controllers-requires
+put-controllers-requires c κs = search needs
+
+put-telegrams-requires : tie.Need-put-telegrams-requires
+put-telegrams-requires c κs = search needs
+
+returns : tie.Need-returns
+unfolding reportOf
+returns c =
+    let third = c .before .before in
+    let second = third .before .before .before .before in
+    let first = second .before .before .before .before in
+    put-then (put-then (first .put-answers .ensures) (second .put-controllers .ensures)) (third .put-telegrams .ensures)
+
+same-length : tie.Need-same-length
+same-length c = put-length (returns c)
+
+pub put-report-spec : {M : Type 1} → statement M
+put-report-spec =
+    tie.close
+    (tie.spec
+    put-answers-requires
+    put-controllers-requires
+    put-telegrams-requires
+    same-length
+    returns)

@@ -1,0 +1,46 @@
+-- A whole schedule on a new bench: the bench at its end, and an answer for each record.
+use Prim.Native.Nat.{ℕ, zero, suc}
+use mathlib.Core.Bool.{Bool, true, false, cond}
+use mathlib.Core.List.{List, [], _∷_, _++_}
+use lib.Dec.{leb}
+use lib.ListN.{length, drop}
+use Rattle.event_record.specs.Events.{readEvent}
+use Rattle.event_record.specs.declared.ReadEvent.{ReadEvent}
+use Rattle.event_record.specs.declared.ReadEvent.the-variants.{Read, Refused}
+use Rattle.protocol.specs.declared.Bench.{Bench}
+use Rattle.protocol.specs.Benches.{newBench}
+use Rattle.protocol.specs.Questions.{number, reply}
+use Rattle.protocol.specs.Steps.{run}
+use Rattle.bench_run.specs.Schedule.{piece, count, eventsTo, events}
+use Rattle.bench_run.specs.declared.RunResult.{RunResult}
+
+-- a record's answer: the number with which reading refused it, or the bench's answer
+abbrev pub answerTo : ReadEvent → Bench → ℕ
+answerTo (Read e) b = number (reply b e)
+answerTo (Refused q) b = q
+
+-- the answer to record k, which finds the bench that the records before it have left
+abbrev pub answerAt : List ℕ → ℕ → ℕ
+answerAt s k = answerTo (readEvent (piece s k)) (run newBench (eventsTo s k))
+
+unfoldable pub answersTo : List ℕ → ℕ → List ℕ
+answersTo s zero = []
+answersTo s (suc k) = answersTo s k ++ (answerAt s k ∷ [])
+
+abbrev pub answers : List ℕ → List ℕ
+answers s = answersTo s (count s)
+
+-- is there room for all answers?
+abbrev pub hasRoom : List ℕ → List ℕ → Bool
+hasRoom s out = leb (count s) (length out)
+
+-- the run of a schedule: the bench after the list of events that its bytes stand for; with too little room nothing is run
+abbrev pub notRun : RunResult
+notRun = record { complete = false; count = 0; bench = newBench }
+
+unfoldable pub runOf : List ℕ → List ℕ → RunResult
+runOf s out = cond (hasRoom s out) (record { complete = true; count = count s; bench = run newBench (events s) }) notRun
+
+-- the buffer afterwards: the answers at its front, and the rest as before
+unfoldable pub answered : List ℕ → List ℕ → List ℕ
+answered s out = cond (hasRoom s out) (answers s ++ drop (count s) out) out

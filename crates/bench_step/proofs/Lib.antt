@@ -1,0 +1,6 @@
+pub mod Defaults
+pub mod Ended
+pub mod Maps
+pub mod Outside
+pub mod Seen
+pub mod StepLaws

@@ -1,0 +1,17 @@
+use Rattle.protocol.specs.Steps.{perform, orderOpened}
+use borrow.Author.Needs.{needs}
+use Rattle.bench_step.proofs.orders.opened.Statement.{statement}
+use Rattle.bench_step.proofs.orders.opened.Tie as tie
+
+no-consensus-requires : tie.Need-no-consensus-requires
+no-consensus-requires c κs = search needs
+
+renew-all-requires : tie.Need-renew-all-requires
+renew-all-requires c κs = search needs
+
+returns : tie.Need-returns
+unfolding perform orderOpened
+returns c = simp (c .before .before .no-consensus .ensures, c .renew-all .ensures)
+
+pub opened-spec : {M : Type 1} → statement M
+opened-spec = tie.close (tie.spec no-consensus-requires renew-all-requires returns)

@@ -1,0 +1,71 @@
+-- The loop keeps that the stations before the index are renewed and the others as they were.
+use Rattle.ground.specs.Limit.{limit}
+use Prim.Native.Nat.{_≤_, _-_}
+use mathlib.Core.Path.{_≡_, _∙_}
+use mathlib.Core.List.{[]}
+use native.Mathlib.Omega.{arith}
+use lib.ListN.{length}
+use Rattle.protocol.specs.Benches.{freshStation, fresh, unsentAll}
+use Rattle.protocol.specs.Steps.{renewed}
+use Rattle.bench_step.proofs.Maps.{mapTo, map-none, map-more, map-all}
+use borrow.Author.Needs.{needs}
+use Rattle.bench_step.proofs.orders.renew_all.Statement.{statement}
+use Rattle.bench_step.proofs.orders.renew_all.Tie as tie
+
+abbrev Inv-loop : tie.InvT-loop
+Inv-loop all₀ at₀ all at = (at ≤ limit) × ((length all₀ ≡ limit) × (all ≡ mapTo renewed at all₀))
+
+abbrev μ-loop : tie.MeasureT-loop
+μ-loop all₀ at₀ all at = limit - at
+
+loop-holds : tie.Need-loop-holds Inv-loop μ-loop
+loop-holds c = (omega arith, (search needs, map-none renewed _))
+
+mul-s : tie.Need-mul-s Inv-loop μ-loop
+mul-s c = search needs
+
+array-copy-out-s : tie.Need-array-copy-out-s Inv-loop μ-loop
+array-copy-out-s c = search needs
+
+renewed-requires : tie.Need-renewed-requires Inv-loop μ-loop
+renewed-requires c κs = search needs
+
+mul-all : tie.Need-mul-all Inv-loop μ-loop
+mul-all c = search needs
+
+array-set-from-all : tie.Need-array-set-from-all Inv-loop μ-loop
+array-set-from-all c = search needs
+
+add-at : tie.Need-add-at Inv-loop μ-loop
+add-at c = search needs
+
+loop-less : tie.Need-loop-less Inv-loop μ-loop
+loop-less c = search needs
+
+loop-again : tie.Need-loop-again Inv-loop μ-loop
+unfolding freshStation fresh unsentAll
+loop-again c =
+    let l = c .before .before .before .loop in
+    (omega arith, (l .inv .1 .0, rw (c .renewed .ensures, l .inv .1 .1) (map-more renewed (l .at) (c .before .before .before .before .args .stations) (freshStation []) (omega arith))))
+
+returns : tie.Need-returns Inv-loop μ-loop
+returns c =
+    let l = c .before .loop in
+    l .inv .1 .1 ∙ map-all renewed (l .at) (c .before .before .args .stations) (omega arith)
+
+pub renew-all-spec : {M : Type 1} → statement M
+renew-all-spec =
+    tie.close
+    (tie.spec
+    Inv-loop
+    μ-loop
+    loop-holds
+    mul-s
+    array-copy-out-s
+    renewed-requires
+    mul-all
+    array-set-from-all
+    add-at
+    loop-less
+    loop-again
+    returns)

@@ -1,0 +1,94 @@
+// The parts of a bench: as they begin, and a station by its controller's number.
+use controller_state::fresh;
+use ground::LIMIT;
+use model::Outcome;
+use protocol::Bench;
+use protocol::Consensus;
+use protocol::Outgoing;
+use protocol::Saved;
+use protocol::Sent;
+use protocol::Shared;
+use protocol::Station;
+use votes::empty_set;
+ghost use mathlib.Core.Path.{_≡_};
+ghost use lib.ListN.{replicate};
+ghost use Rattle.ground.specs.Limit.{limit};
+ghost use Rattle.ground.specs.Lists.{nth};
+ghost use Rattle.votes.specs.VoteSets.{empty};
+ghost use Rattle.protocol.specs.Benches.{unsentAll, freshStation, noConsensus, benchOf, newBench};
+
+// Nothing sent yet.
+pub(crate) fn unsent_all() -> Sent
+    ensures { λ r. ⌜ r ≡ unsentAll ⌝ }
+{
+    let unsent = Outgoing {
+        to: 0,
+        votes: empty_set(),
+    };
+    Sent {
+        vote: unsent,
+        ack: unsent,
+        help: unsent,
+        helped: unsent,
+    }
+}
+
+pub(crate) fn fresh_station() -> Station
+    ensures { λ r. ⌜ r ≡ freshStation (replicate limit empty) ⌝ }
+{
+    Station {
+        controller: fresh(),
+        sent: unsent_all(),
+        saved: Saved::Nothing,
+    }
+}
+
+// No word put, no choice.
+pub(crate) fn no_consensus() -> Consensus
+    ensures { λ r. ⌜ r ≡ noConsensus ⌝ }
+{
+    Consensus {
+        move_proposed: false,
+        stay_proposed: false,
+        decision: Outcome::None,
+    }
+}
+
+// A bench whose controllers have just begun.
+pub(crate) fn bench_of(locked: bool, n: u8, f: u8) -> Bench
+    ensures { λ r. ⌜ r ≡ benchOf locked n f ⌝ }
+{
+    let consensus = no_consensus();
+    let shared = Shared {
+        locked,
+        n,
+        f,
+        order: 0,
+        consensus,
+    };
+    Bench {
+        shared,
+        stations: [fresh_station(); LIMIT],
+    }
+}
+
+// A bench without lock, order, telegrams, words or checkpoints.
+pub fn new_bench() -> Bench
+    ensures { λ r. ⌜ r ≡ newBench ⌝ }
+{
+    bench_of(false, 0, 0)
+}
+
+// Station i; a number that no controller has reads as a controller that has just begun.
+pub(crate) fn station_at(b: Bench, i: u8) -> Station
+    ensures { λ r. ⌜ r ≡ nth (freshStation (replicate limit empty)) (b .stations) i ⌝ }
+{
+    if i < 1 {
+        return fresh_station();
+    }
+    if LIMIT < i as usize {
+        return fresh_station();
+    }
+    let at = (i - 1) as usize;
+    b.stations[at]
+}

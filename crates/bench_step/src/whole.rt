@@ -1,0 +1,97 @@
+// One event on the whole bench.
+use crate::Stepped;
+use crate::orders::may_open;
+use crate::orders::opened;
+use crate::parts::bench_of;
+use crate::parts::fresh_station;
+use crate::parts::station_at;
+use crate::parts::unsent_all;
+use bench_play::play;
+use bench_questions::concerns_one;
+use bench_questions::facts_of;
+use bench_questions::question;
+use bench_questions::source;
+use bench_questions::subject;
+use ground::LIMIT;
+use model::Event;
+use protocol::Bench;
+ghost use mathlib.Core.Path.{_≡_};
+ghost use mathlib.Core.Bool.{true, false};
+ghost use Rattle.protocol.specs.Events.{concernsOne};
+ghost use Rattle.protocol.specs.Questions.{number, reply};
+ghost use Rattle.protocol.specs.Steps.{perform};
+ghost use Rattle.bench_step.specs.Steps.{stepped};
+
+// The answer to a lock or an order. Of a station they ask nothing: any would do.
+fn answer_whole(b: Bench, e: Event) -> u8
+    requires { ⌜ concernsOne e ≡ false ⌝ }
+    ensures { λ r. ⌜ r ≡ number (reply b e) ⌝ }
+{
+    let facts = facts_of(b.shared, e, fresh_station(), unsent_all(), may_open(b));
+    question(facts, e)
+}
+
+// What an accepted lock or order leaves.
+fn perform_whole(b: Bench, e: Event) -> Bench
+    requires { ⌜ concernsOne e ≡ false ⌝ }
+    ensures { λ r. ⌜ r ≡ perform b e ⌝ }
+{
+    match e {
+        Event::Lock { n, f } => bench_of(true, n, f),
+        Event::Order { number } => opened(b, number),
+        Event::Cast { .. } => b,
+        Event::Deliver { .. } => b,
+        Event::Timeout { .. } => b,
+        Event::Decide { .. } => b,
+        Event::Stop { .. } => b,
+        Event::Save { .. } => b,
+        Event::Restore { .. } => b,
+    }
+}
+
+fn step_whole(b: Bench, e: Event) -> Stepped
+    requires { ⌜ concernsOne e ≡ false ⌝ }
+    ensures { λ r. ⌜ r ≡ stepped b e ⌝ }
+{
+    let answer = answer_whole(b, e);
+    if answer != 0 {
+        return Stepped { answer, bench: b };
+    }
+    let bench = perform_whole(b, e);
+    Stepped { answer, bench }
+}
+
+fn step_one(b: Bench, e: Event) -> Stepped
+    requires { ⌜ concernsOne e ≡ true ⌝ }
+    ensures { λ r. ⌜ r ≡ stepped b e ⌝ }
+{
+    let id = subject(e);
+    let own = station_at(b, id);
+    let from = station_at(b, source(e));
+    let played = play(b.shared, e, from.sent, own);
+    let answer = played.answer;
+    if answer != 0 {
+        return Stepped { answer, bench: b };
+    }
+    // no lock has more controllers
+    if LIMIT < id as usize {
+        return Stepped { answer, bench: b };
+    }
+    let at = (id - 1) as usize;
+    let shared = played.shared;
+    let station = played.station;
+    let mut stations = b.stations;
+    stations[at] = station;
+    let bench = Bench { shared, stations };
+    Stepped { answer, bench }
+}
+
+// The answer, the number of the first question answered "no" or 0, and the bench; a refused event leaves it untouched.
+pub fn step(b: Bench, e: Event) -> Stepped
+    ensures { λ r. ⌜ r ≡ stepped b e ⌝ }
+{
+    if concerns_one(e) {
+        return step_one(b, e);
+    }
+    step_whole(b, e)
+}

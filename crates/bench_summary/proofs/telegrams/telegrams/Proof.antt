@@ -1,0 +1,72 @@
+-- `bench_summary::telegrams::telegrams` meets its contract. The invariant: the total is the sum over the first i controllers, at most 255 for each.
+use Prim.Native.Nat.{_*_, _-_, _≤_}
+use mathlib.Core.Path.{_≡_, _∙_, ap}
+use native.Mathlib.Omega.{arith}
+use borrow.Author.Needs.{needs}
+use Rattle.protocol.specs.Benches.{station}
+use Rattle.protocol.specs.Display.{telegrams, sentCount, sumTo}
+use Rattle.bench_summary.proofs.Sums.{no-sum, more-sum}
+use Rattle.bench_summary.proofs.telegrams.telegrams.Statement.{statement}
+use Rattle.bench_summary.proofs.telegrams.telegrams.Tie as tie
+
+abbrev Inv-loop : tie.InvT-loop
+Inv-loop b kind n end total₀ i₀ total i = (i ≤ end) × ((total ≤ i * 255) × (total ≡ sumTo i (sentCount b kind)))
+
+abbrev μ-loop : tie.MeasureT-loop
+μ-loop b kind n end total₀ i₀ total i = end - i
+
+cast-end : tie.Need-cast-end Inv-loop μ-loop
+cast-end c = search needs
+
+loop-holds : tie.Need-loop-holds Inv-loop μ-loop
+loop-holds c = (omega arith, (omega arith, no-sum _))
+
+receivers-at-requires : tie.Need-receivers-at-requires Inv-loop μ-loop
+receivers-at-requires c κs = search needs
+
+size-requires : tie.Need-size-requires Inv-loop μ-loop
+size-requires c κs = search needs
+
+cast-total : tie.Need-cast-total Inv-loop μ-loop
+cast-total c = search needs
+
+add-total : tie.Need-add-total Inv-loop μ-loop
+add-total c = omega arith
+
+add-i : tie.Need-add-i Inv-loop μ-loop
+add-i c = omega arith
+
+loop-less : tie.Need-loop-less Inv-loop μ-loop
+loop-less c = omega arith
+
+loop-again : tie.Need-loop-again Inv-loop μ-loop
+unfolding sentCount station
+loop-again c =
+    let a = c .before .before .before .before .before .args in
+    let l = c .before .before .before .before .loop in
+    (omega arith, (omega arith, more-sum (sentCount (a .b) (a .kind)) (l .i) (l .total) (c .size .result) (l .inv .1 .1) (rw (← c .before .receivers-at .ensures) (c .size .ensures))))
+
+returns : tie.Need-returns Inv-loop μ-loop
+unfolding telegrams
+returns c =
+    let a = c .before .before .args in
+    let l = c .before .loop in
+    let e : l .i ≡ a .b .shared .n = omega arith in
+    l .inv .1 .1 ∙ ap (λ k. sumTo k (sentCount (a .b) (a .kind))) e
+
+pub telegrams-spec : {M : Type 1} → statement M
+telegrams-spec =
+    tie.close
+    (tie.spec
+    Inv-loop
+    μ-loop
+    cast-end
+    loop-holds
+    receivers-at-requires
+    size-requires
+    cast-total
+    add-total
+    add-i
+    loop-less
+    loop-again
+    returns)

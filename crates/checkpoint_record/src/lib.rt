@@ -1,0 +1,128 @@
+// Checkpoint records, the cards of document 01: their reader and writer.
+use model::Checkpoint;
+use records::is_outcome;
+use records::low_byte;
+use records::number2;
+use records::number4;
+use records::outcome_of;
+ghost use mathlib.Core.Path.{_≡_};
+ghost use lib.ListN.{length};
+ghost use Rattle.model.specs.Questions.{firstNo, number};
+ghost use Rattle.records.specs.Codec.{recordLength, valueOn, bytesOf, reads, writeReply, writes};
+ghost use Rattle.records.specs.Promises.{Promises};
+ghost use Rattle.checkpoint_record.specs.Checkpoints.{aboutCheckpoint, answerOf, checkpoints};
+
+// A record, or the number of the first question that was answered "no".
+pub enum ReadCheckpoint {
+    Read(Checkpoint),
+    Refused(u8),
+}
+
+// The checkpoint as it stands on the record.
+fn checkpoint_in(s: &[u8]) -> Checkpoint
+    requires { ⌜ length (now s) ≡ recordLength checkpoints ⌝ }
+    ensures { λ r. ⌜ r ≡ valueOn checkpoints (now (s .entry)) ⌝ }
+{
+    Checkpoint {
+        id: s[2],
+        n: s[3],
+        f: s[4],
+        outcome: outcome_of(s[5]),
+        order: number4(s[6], s[7], s[8], s[9]),
+        position: number4(s[10], s[11], s[12], s[13]),
+    }
+}
+
+// Questions 4, 7, 8 and 11: 0, or the number of the first that is answered "no".
+fn question(p: Checkpoint) -> u8
+    ensures { λ r. ⌜ r ≡ number (firstNo (aboutCheckpoint p)) ⌝ }
+{
+    if !model::sizes_in_range(p.n, p.f) {
+        return 4;
+    }
+    if !model::is_controller(p.n, p.id) {
+        return 7;
+    }
+    if p.order < 1 {
+        return 8;
+    }
+    if !model::position_in_range(p.position) {
+        return 11;
+    }
+    0
+}
+
+// The questions of reading, in their sequence: 1, 2 and 3 here, the rest of the checkpoint.
+pub fn read_checkpoint(s: &[u8]) -> ReadCheckpoint
+    ensures { λ r. ⌜ r ≡ reads checkpoints (now (s .entry)) ⌝ }
+{
+    if s.len() != Checkpoint::LENGTH {
+        return ReadCheckpoint::Refused(1);
+    }
+    if number2(s[0], s[1]) != Checkpoint::MARK {
+        return ReadCheckpoint::Refused(2);
+    }
+    if !is_outcome(s[5]) {
+        return ReadCheckpoint::Refused(3);
+    }
+    let p = checkpoint_in(s);
+    let q = question(p);
+    if q != 0 {
+        return ReadCheckpoint::Refused(q);
+    }
+    ReadCheckpoint::Read(p)
+}
+
+// The fourteen bytes of a checkpoint.
+fn checkpoint_bytes(p: Checkpoint) -> [u8; 14]
+    ensures { λ r. ⌜ r ≡ bytesOf checkpoints p ⌝ }
+{
+    let outcome = p.outcome;
+    [
+        low_byte(Checkpoint::MARK / 256),
+        low_byte(Checkpoint::MARK),
+        p.id,
+        p.n,
+        p.f,
+        model::outcome_number(outcome),
+        low_byte(p.order / 65536 / 256),
+        low_byte(p.order / 65536),
+        low_byte(p.order / 256),
+        low_byte(p.order),
+        low_byte(p.position / 65536 / 256),
+        low_byte(p.position / 65536),
+        low_byte(p.position / 256),
+        low_byte(p.position),
+    ]
+}
+
+// Answers 0, or the number of the first question that was answered "no"; then the buffer is untouched.
+pub fn write_checkpoint(out: &mut [u8], p: Checkpoint) -> u8
+    ensures { λ r. ⌜ (r ≡ number (writeReply checkpoints (now (out .entry)) p)) × (now (out .exit) ≡ writes checkpoints (now (out .entry)) p) ⌝ }
+{
+    if out.len() != Checkpoint::LENGTH {
+        return 1;
+    }
+    let no = question(p);
+    if no != 0 {
+        return no;
+    }
+    let record = checkpoint_bytes(p);
+    bytes::copy(&record, out);
+    0
+}
+
+// Document 01's number for a reader's answer: 0 for a record.
+pub fn answer_of(read: ReadCheckpoint) -> u8
+    ensures { λ r. ⌜ r ≡ answerOf read .number ⌝ }
+{
+    match read {
+        ReadCheckpoint::Read(_) => 0,
+        ReadCheckpoint::Refused(q) => q,
+    }
+}
+
+// What is promised of these records: reading answers as the questions do, both round trips, and a refused write's buffer.
+pub fn round_trips()
+    ensures { λ _. ⌜ Promises checkpoints ⌝ }
+{}

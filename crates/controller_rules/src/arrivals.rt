@@ -1,0 +1,107 @@
+// What arrives: votes, acknowledgements, help calls and help answers.
+use controller_state::answered;
+use controller_state::becomes;
+use controller_state::helps;
+use controller_state::keep_ack;
+use controller_state::keep_helped;
+use controller_state::learn;
+use controller_state::passed_over;
+use controller_state::phase_in;
+use controller_state::sending;
+use controller_verdicts::propose_if_sufficient;
+use ground::has;
+use ground::insert;
+use model::Kind;
+use protocol::Answer;
+use protocol::Controller;
+use protocol::Send;
+use votes::VoteSet;
+ghost use mathlib.Core.Path.{_≡_};
+ghost use mathlib.Core.Bool.{_||_};
+ghost use lib.Dec.{leb};
+ghost use Rattle.protocol.specs.Controllers.{phase};
+ghost use Rattle.protocol.specs.Rules.{voteArrives, ackArrives, helpedArrives, answersCall, helpArrives};
+ghost use Rattle.protocol.specs.Calls.{arrives};
+
+// A vote: at stage 0 or 1 it goes on the sheet.
+fn vote_arrives(s: VoteSet, c: Controller) -> Answer
+    ensures { λ r. ⌜ r ≡ voteArrives s c ⌝ }
+{
+    let condition = c.condition;
+    if phase_in(condition) <= 1 {
+        return becomes(learn(c, s));
+    }
+    passed_over(c)
+}
+
+// Acknowledgements are kept until a word is put or an outcome is there.
+fn keeps_acks(c: Controller) -> bool
+    ensures { λ r. ⌜ r ≡ (leb (phase c) 2 || c .help .waiting) ⌝ }
+{
+    let condition = c.condition;
+    if phase_in(condition) <= 2 {
+        return true;
+    }
+    c.help.waiting
+}
+
+// An acknowledgement: kept, one per sender.
+fn ack_arrives(n: u8, f: u8, j: u8, s: VoteSet, c: Controller) -> Answer
+    ensures { λ r. ⌜ r ≡ ackArrives n f j s c ⌝ }
+{
+    if has(c.acks.from, j) {
+        return passed_over(c);
+    }
+    if keeps_acks(c) {
+        return propose_if_sufficient(n, f, becomes(keep_ack(c, j, s)));
+    }
+    passed_over(c)
+}
+
+// A help answer: counted while it waits, one per sender.
+fn helped_arrives(n: u8, f: u8, j: u8, s: VoteSet, c: Controller) -> Answer
+    ensures { λ r. ⌜ r ≡ helpedArrives n f j s c ⌝ }
+{
+    if has(c.helped.from, j) {
+        return passed_over(c);
+    }
+    if c.help.waiting {
+        return propose_if_sufficient(n, f, becomes(keep_helped(c, j, s)));
+    }
+    passed_over(c)
+}
+
+// The help sheet is sent back to a caller.
+fn answers_call(j: u8, c: Controller) -> Answer
+    ensures { λ r. ⌜ r ≡ answersCall j c ⌝ }
+{
+    let votes = c.help.votes;
+    let to = insert(0, j);
+    sending(answered(c, j), helps(Send::Nothing, Send::To(to, votes)))
+}
+
+// A help call: at stage 3 it is answered, once per caller.
+fn help_arrives(j: u8, c: Controller) -> Answer
+    ensures { λ r. ⌜ r ≡ helpArrives j c ⌝ }
+{
+    let condition = c.condition;
+    if phase_in(condition) != 3 {
+        return passed_over(c);
+    }
+    if has(c.help.answered, j) {
+        return passed_over(c);
+    }
+    answers_call(j, c)
+}
+
+// A telegram of each kind.
+pub fn arrives(kind: Kind, n: u8, f: u8, from: u8, s: VoteSet, c: Controller) -> Answer
+    ensures { λ r. ⌜ r ≡ arrives kind n f from s c ⌝ }
+{
+    match kind {
+        Kind::Vote => vote_arrives(s, c),
+        Kind::Ack => ack_arrives(n, f, from, s, c),
+        Kind::Help => help_arrives(from, c),
+        Kind::Helped => helped_arrives(n, f, from, s, c),
+    }
+}

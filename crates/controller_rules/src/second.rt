@@ -1,0 +1,56 @@
+// The second timeout.
+use controller_state::advance;
+use controller_state::await_help;
+use controller_state::conclude;
+use controller_state::freeze;
+use controller_state::helps;
+use controller_state::keep_helped;
+use controller_state::proposing;
+use controller_state::sending;
+use controller_verdicts::ack_join;
+use controller_verdicts::decides;
+use controller_verdicts::propose_if_sufficient;
+use controller_verdicts::verdict;
+use model::Kind;
+use model::recipients;
+use protocol::Answer;
+use protocol::Controller;
+use protocol::Send;
+use votes::VoteSet;
+use votes::empty_set;
+use votes::join;
+ghost use mathlib.Core.Path.{_≡_};
+ghost use Rattle.protocol.specs.Rules.{ready, callsHelp, secondTimeout};
+
+// The help sheet is ready from now on for those who call.
+fn ready(s: VoteSet, next: Controller) -> Answer
+    ensures { λ r. ⌜ r ≡ ready s next ⌝ }
+{
+    sending(next, helps(Send::Nothing, Send::To(0, s)))
+}
+
+// It waits, calls for help, and counts its own help sheet as an answer.
+fn calls_help(n: u8, f: u8, i: u8, s: VoteSet, c: Controller) -> Answer
+    ensures { λ r. ⌜ r ≡ callsHelp n f i s c ⌝ }
+{
+    let next = keep_helped(await_help(c), i, s);
+    let to = recipients(n, f, Kind::Help, i);
+    sending(next, helps(Send::To(to, empty_set()), Send::To(0, s)))
+}
+
+// To stage 3 with the help sheet frozen: the outcome, or else a word put, or else it waits.
+pub fn second_timeout(n: u8, f: u8, i: u8, c: Controller) -> Answer
+    ensures { λ r. ⌜ r ≡ secondTimeout n f i c ⌝ }
+{
+    let own = c.votes;
+    let joined = ack_join(n, c);
+    let help = join(own, joined);
+    let next = freeze(advance(c, 3), help);
+    if decides(n, f, i, c) {
+        return ready(help, conclude(next, verdict(n, joined)));
+    }
+    if 0 < c.acks.cnt.0 {
+        return proposing(ready(help, next), verdict(n, joined));
+    }
+    propose_if_sufficient(n, f, calls_help(n, f, i, help, next))
+}

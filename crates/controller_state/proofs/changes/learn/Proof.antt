@@ -1,0 +1,14 @@
+use Rattle.protocol.specs.Controllers.{learn}
+use borrow.Author.Needs.{needs}
+use Rattle.controller_state.proofs.changes.learn.Statement.{statement}
+use Rattle.controller_state.proofs.changes.learn.Tie as tie
+
+join-requires : tie.Need-join-requires
+join-requires c κs = search needs
+
+returns : tie.Need-returns
+unfolding learn
+returns c = simp (c .join .ensures)
+
+pub learn-spec : {M : Type 1} → statement M
+learn-spec = tie.close (tie.spec join-requires returns)

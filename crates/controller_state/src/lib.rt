@@ -1,0 +1,30 @@
+// A controller's parts, the small changes that its rules are made of, and what it may answer. Each function is equal to the definition of its name.
+mod answers;
+mod changes;
+mod conditions;
+mod holdings;
+
+pub use answers::acks_to;
+pub use answers::becomes;
+pub use answers::helps;
+pub use answers::passed_over;
+pub use answers::proposing;
+pub use answers::sending;
+pub use answers::votes_to;
+pub use changes::advance;
+pub use changes::aim;
+pub use changes::answered;
+pub use changes::await_help;
+pub use changes::cleared;
+pub use changes::conclude;
+pub use changes::freeze;
+pub use changes::fresh;
+pub use changes::learn;
+pub use conditions::in_phase;
+pub use conditions::is_running;
+pub use conditions::is_standby;
+pub use conditions::is_stopped;
+pub use conditions::outcome_in;
+pub use conditions::phase_in;
+pub use holdings::keep_ack;
+pub use holdings::keep_helped;

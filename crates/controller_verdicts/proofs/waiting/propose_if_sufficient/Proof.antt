@@ -1,0 +1,35 @@
+use Rattle.protocol.specs.Rules.{proposeIfSufficient}
+use borrow.Author.Needs.{needs}
+use Rattle.controller_verdicts.proofs.waiting.propose_if_sufficient.Statement.{statement}
+use Rattle.controller_verdicts.proofs.waiting.propose_if_sufficient.Tie as tie
+
+sufficient-requires : tie.Need-sufficient-requires
+sufficient-requires c κs = search needs
+
+answers-join-requires : tie.Need-answers-join-requires
+answers-join-requires c κs = search needs
+
+verdict-requires : tie.Need-verdict-requires
+verdict-requires c κs = search needs
+
+proposing-requires : tie.Need-proposing-requires
+proposing-requires c κs = search needs
+
+returns : tie.Need-returns
+unfolding proposeIfSufficient
+returns c = simp (← c .before .before .before .before .sufficient .ensures, c .before .before .before .if1 .taken, c .before .before .answers-join .ensures, c .before .verdict .ensures, c .proposing .ensures)
+
+returns-2 : tie.Need-returns-2
+unfolding proposeIfSufficient
+returns-2 c = simp (← c .before .sufficient .ensures, c .if1 .left)
+
+pub propose-if-sufficient-spec : {M : Type 1} → statement M
+propose-if-sufficient-spec =
+    tie.close
+    (tie.spec
+    sufficient-requires
+    answers-join-requires
+    verdict-requires
+    proposing-requires
+    returns
+    returns-2)

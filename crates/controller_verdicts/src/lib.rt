@@ -1,0 +1,8 @@
+// What the sheets that a controller holds say: their word, whether they decide, and whether they suffice to put a word.
+mod deciding;
+mod waiting;
+
+pub use deciding::decides;
+pub use waiting::ack_join;
+pub use waiting::propose_if_sufficient;
+pub use waiting::verdict;

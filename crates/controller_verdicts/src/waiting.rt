@@ -1,0 +1,58 @@
+// The word of what is held, and the count that ends waiting.
+use controller_state::proposing;
+use model::Outcome;
+use model::word_of;
+use protocol::Answer;
+use protocol::Controller;
+use votes::VoteSet;
+use votes::join_all;
+use votes::unanimous;
+ghost use mathlib.Core.Path.{_≡_};
+ghost use Rattle.protocol.specs.Rules.{verdict, ackJoin, sufficient, answersJoin, proposeIfSufficient};
+
+// The word of a sheet.
+pub fn verdict(n: u8, s: VoteSet) -> Outcome
+    ensures { λ r. ⌜ r ≡ verdict n s ⌝ }
+{
+    word_of(unanimous(s, n))
+}
+
+// The join of the acknowledgements held.
+pub fn ack_join(n: u8, c: Controller) -> VoteSet
+    ensures { λ r. ⌜ r ≡ ackJoin n c ⌝ }
+{
+    let sets = c.acks.sets;
+    join_all(n, c.acks.from, sets)
+}
+
+// It waits, and the two counts add up to n - f or more.
+fn sufficient(n: u8, f: u8, c: Controller) -> bool
+    ensures { λ r. ⌜ r ≡ sufficient n f c ⌝ }
+{
+    if c.help.waiting {
+        let counted = (c.acks.cnt.0 as u32) + (c.helped.cnt_help.0 as u32) + (f as u32);
+        return (n as u32) <= counted;
+    }
+    false
+}
+
+// What a word is put of: the acknowledgements if it holds any, else the help answers.
+fn answers_join(n: u8, c: Controller) -> VoteSet
+    ensures { λ r. ⌜ r ≡ answersJoin n c ⌝ }
+{
+    if 0 < c.acks.cnt.0 {
+        return ack_join(n, c);
+    }
+    c.helped.votes
+}
+
+// An answer after which the count may be complete: then a word is put.
+pub fn propose_if_sufficient(n: u8, f: u8, a: Answer) -> Answer
+    ensures { λ r. ⌜ r ≡ proposeIfSufficient n f a ⌝ }
+{
+    let c = a.controller;
+    if sufficient(n, f, c) {
+        return proposing(a, verdict(n, answers_join(n, c)));
+    }
+    a
+}

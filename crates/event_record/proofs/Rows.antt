@@ -1,0 +1,39 @@
+-- The rows of the table of events, by the kind.
+use Prim.Native.Nat.{ℕ, zero, suc, _≤_, _<_}
+use mathlib.Core.Path.{_≡_, ap}
+use mathlib.Core.Bool.{false}
+use native.Mathlib.Omega.{arith}
+use borrow.Author.Tests.{ne-eqb}
+use Rattle.model.specs.declared.Event.the-variants.{Lock}
+use Rattle.records.specs.Rows.{row, rowOf}
+use Rattle.event_record.specs.Events.{rows, rowFor}
+use Rattle.event_record.specs.declared.Fields.{Fields}
+
+pub row-at : (x : Fields) (k : ℕ) → x .kind ≡ k → rowFor x ≡ rowOf (Lock 0 0) k (rows x)
+unfolding rowFor
+row-at x k e = ap (λ (k : ℕ). rowOf (Lock 0 0) k (rows x)) e
+
+-- what a match knows after the arms 0 to m - 1
+abbrev pub NoneOf : ℕ → ℕ → Type 0
+NoneOf zero k = Unit
+NoneOf (suc m) k = NoneOf m k × (k ≡ m → ⊥)
+
+pub above : (m k : ℕ) → NoneOf m k → m ≤ k
+above zero k h = omega arith
+above (suc m) k h = let i : m ≤ k = above m k (h .0) in let n : k ≡ m → ⊥ = h .1 in omega arith
+
+-- no kind is above 8
+pub no-row : (x : Fields) → 8 < x .kind → rowFor x ≡ row (x .kind) false (Lock 0 0)
+unfolding rowFor rowOf rows
+no-row x h =
+    simp (
+      ne-eqb (x .kind) 0 (λ e. omega arith),
+      ne-eqb (x .kind) 1 (λ e. omega arith),
+      ne-eqb (x .kind) 2 (λ e. omega arith),
+      ne-eqb (x .kind) 3 (λ e. omega arith),
+      ne-eqb (x .kind) 4 (λ e. omega arith),
+      ne-eqb (x .kind) 5 (λ e. omega arith),
+      ne-eqb (x .kind) 6 (λ e. omega arith),
+      ne-eqb (x .kind) 7 (λ e. omega arith),
+      ne-eqb (x .kind) 8 (λ e. omega arith),
+    )

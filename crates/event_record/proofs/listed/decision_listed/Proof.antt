@@ -1,0 +1,18 @@
+use borrow.Author.Needs.{needs}
+use Rattle.event_record.proofs.listed.decision_listed.Statement.{statement}
+use Rattle.event_record.proofs.listed.decision_listed.Tie as tie
+
+is-flag-requires : tie.Need-is-flag-requires
+is-flag-requires c κs = search needs
+
+lock-listed-requires : tie.Need-lock-listed-requires
+lock-listed-requires c κs = search needs
+
+returns : tie.Need-returns
+returns c = simp (← c .before .before .is-flag .ensures, c .before .if1 .taken, c .lock-listed .ensures)
+
+returns-2 : tie.Need-returns-2
+returns-2 c = simp (← c .before .is-flag .ensures, c .if1 .left)
+
+pub decision-listed-spec : {M : Type 1} → statement M
+decision-listed-spec = tie.close (tie.spec is-flag-requires lock-listed-requires returns returns-2)

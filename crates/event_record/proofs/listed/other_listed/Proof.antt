@@ -1,0 +1,16 @@
+use borrow.Author.Tests.{eq-eqb, ne-eqb}
+use borrow.Author.Needs.{needs}
+use Rattle.event_record.proofs.listed.other_listed.Statement.{statement}
+use Rattle.event_record.proofs.listed.other_listed.Tie as tie
+
+lock-listed-requires : tie.Need-lock-listed-requires
+lock-listed-requires c κs = search needs
+
+returns : tie.Need-returns
+returns c = simp (eq-eqb _ _ (c .before .if1 .taken), c .lock-listed .ensures)
+
+returns-2 : tie.Need-returns-2
+returns-2 c = simp (ne-eqb _ _ (c .if1 .left))
+
+pub other-listed-spec : {M : Type 1} → statement M
+other-listed-spec = tie.close (tie.spec lock-listed-requires returns returns-2)

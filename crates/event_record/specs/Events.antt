@@ -1,0 +1,84 @@
+-- Event records.
+use Prim.Native.Nat.{ℕ}
+use mathlib.Core.Bool.{_&&_}
+use mathlib.Core.List.{List, [], _∷_}
+use lib.ListN.{getD}
+use Rattle.model.specs.Numbers.{kindNumber}
+use Rattle.model.specs.declared.Event.{Event}
+use Rattle.model.specs.declared.Event.the-variants.{Lock, Order, Cast, Deliver, Timeout, Decide, Stop, Save, Restore}
+use Rattle.records.specs.Bytes.{one, four}
+use Rattle.records.specs.Codes.{isKind, kindOf, isFlag, flagOf, flagNumber, unused}
+use Rattle.records.specs.Codec.{marked, Answer, isRecord, isRefusal, Codec, recordLength, bytesOf, reads}
+use Rattle.records.specs.Rows.{Row, row, rowOf}
+use Rattle.event_record.specs.declared.Fields.{Fields}
+use Rattle.event_record.specs.declared.ReadEvent.{ReadEvent}
+use Rattle.event_record.specs.declared.ReadEvent.the-variants.{Read, Refused}
+
+-- what the reader's answer says
+abbrev pub answerOf : ReadEvent → Answer Event
+answerOf (Read e) = isRecord e
+answerOf (Refused q) = isRefusal q
+
+-- "kind; a; b; c; value", as the code has them and as numbers
+abbrev pub fields : ℕ → ℕ → ℕ → ℕ → ℕ → Fields
+fields k a b c v = record { kind = k; a = a; b = b; c = c; value = v }
+
+unfoldable pub fieldsIn : List ℕ → Fields
+fieldsIn v = fields (getD v 0 0) (getD v 1 0) (getD v 2 0) (getD v 3 0) (getD v 4 0)
+
+abbrev pub numbersIn : Fields → List ℕ
+numbersIn x = x .kind ∷ x .a ∷ x .b ∷ x .c ∷ x .value ∷ []
+
+-- the fields of an event: "Unused fields are 0."
+unfoldable pub fieldsOf : Event → Fields
+fieldsOf (Lock n f) = fields 0 n f 0 0
+fieldsOf (Order number) = fields 1 0 0 0 number
+fieldsOf (Cast id willing target) = fields 2 id (flagNumber willing) 0 target
+fieldsOf (Deliver from to kind) = fields 3 from to (kindNumber kind) 0
+fieldsOf (Timeout id) = fields 4 id 0 0 0
+fieldsOf (Decide id move) = fields 5 id (flagNumber move) 0 0
+fieldsOf (Stop id) = fields 6 id 0 0 0
+fieldsOf (Save id) = fields 7 id 0 0 0
+fieldsOf (Restore id) = fields 8 id 0 0 0
+
+-- "0 lock (a = n, b = f); 1 order (value = number); 2 vote (a, b = 1 willing or 0, value = target, two's complement); 3 deliver (a = from, b = to,
+-- c = telegram kind); 4 bell (a); 5 arbiter (a, b = 0 Stay or 1 Move); 6 stop (a); 7 save (a); 8 restore (a). Unused fields are 0."
+unfoldable pub rows : Fields → List (Row Event)
+rows x =
+    row 0 (unused (x .c) && unused (x .value)) (Lock (x .a) (x .b))
+    ∷ row 1 (unused (x .a) && unused (x .b) && unused (x .c)) (Order (x .value))
+    ∷ row 2 (isFlag (x .b) && unused (x .c)) (Cast (x .a) (flagOf (x .b)) (x .value))
+    ∷ row 3 (isKind (x .c) && unused (x .value)) (Deliver (x .a) (x .b) (kindOf (x .c)))
+    ∷ row 4 (unused (x .b) && unused (x .c) && unused (x .value)) (Timeout (x .a))
+    ∷ row 5 (isFlag (x .b) && unused (x .c) && unused (x .value)) (Decide (x .a) (flagOf (x .b)))
+    ∷ row 6 (unused (x .b) && unused (x .c) && unused (x .value)) (Stop (x .a))
+    ∷ row 7 (unused (x .b) && unused (x .c) && unused (x .value)) (Save (x .a))
+    ∷ row 8 (unused (x .b) && unused (x .c) && unused (x .value)) (Restore (x .a))
+    ∷ []
+
+unfoldable pub rowFor : Fields → Row Event
+rowFor x = rowOf (Lock 0 0) (x .kind) (rows x)
+
+-- "Event, 10 bytes: 4C 45; kind; a; b; c; value (4)." "Reading an event record puts 1 to 3", and writing 1.
+abbrev pub events : Codec Event ReadEvent
+events = record {
+  mark = marked 0x4C45;
+  widths = one ∷ one ∷ one ∷ one ∷ four ∷ [];
+  fields = λ e. numbersIn (fieldsOf e);
+  value = λ v. rowFor (fieldsIn v) .value;
+  listed = λ v. rowFor (fieldsIn v) .listed;
+  asked = λ e. [];
+  read = Read;
+  refusal = Refused;
+  answer = answerOf;
+}
+
+-- short names for those who read schedules
+abbrev pub eventLength : ℕ
+eventLength = recordLength events
+
+abbrev pub readEvent : List ℕ → ReadEvent
+readEvent s = reads events s
+
+abbrev pub eventBytes : Event → List ℕ
+eventBytes e = bytesOf events e

@@ -1,0 +1,195 @@
+// Event records: their reader and writer.
+use crate::Fields;
+use crate::ReadEvent;
+use crate::listed::listed;
+use model::Event;
+use model::kind_number;
+use records::flag_number;
+use records::flag_of;
+use records::kind_of;
+use records::low_byte;
+use records::number2;
+use records::number4;
+ghost use mathlib.Core.Path.{_≡_};
+ghost use lib.ListN.{length};
+ghost use Rattle.model.specs.Questions.{number};
+ghost use Rattle.records.specs.Codec.{fieldsOn, writeReply, writes};
+ghost use Rattle.records.specs.Promises.{Promises};
+ghost use Rattle.event_record.specs.Events.{answerOf, fieldsIn, fieldsOf, rowFor, events, eventLength, readEvent, eventBytes};
+
+// The fields as they stand on the record.
+fn fields_in(s: &[u8]) -> Fields
+    requires { ⌜ length (now s) ≡ eventLength ⌝ }
+    ensures { λ r. ⌜ r ≡ fieldsIn (fieldsOn events (now (s .entry))) ⌝ }
+{
+    Fields {
+        kind: s[2],
+        a: s[3],
+        b: s[4],
+        c: s[5],
+        value: number4(s[6], s[7], s[8], s[9]),
+    }
+}
+
+// The event that the fields stand for.
+fn event_of(x: Fields) -> Event
+    ensures { λ r. ⌜ r ≡ rowFor x .value ⌝ }
+{
+    let kind = x.kind;
+    match kind {
+        0 => Event::Lock { n: x.a, f: x.b },
+        1 => Event::Order { number: x.value },
+        2 => Event::Cast {
+            id: x.a,
+            willing: flag_of(x.b),
+            target: x.value,
+        },
+        3 => Event::Deliver {
+            from: x.a,
+            to: x.b,
+            kind: kind_of(x.c),
+        },
+        4 => Event::Timeout { id: x.a },
+        5 => Event::Decide {
+            id: x.a,
+            to_move: flag_of(x.b),
+        },
+        6 => Event::Stop { id: x.a },
+        7 => Event::Save { id: x.a },
+        8 => Event::Restore { id: x.a },
+        _ => Event::Lock { n: 0, f: 0 },
+    }
+}
+
+// The questions of reading, in their sequence: 1, 2 and 3.
+pub fn read_event(s: &[u8]) -> ReadEvent
+    ensures { λ r. ⌜ r ≡ readEvent (now (s .entry)) ⌝ }
+{
+    if s.len() != Event::LENGTH {
+        return ReadEvent::Refused(1);
+    }
+    if number2(s[0], s[1]) != Event::MARK {
+        return ReadEvent::Refused(2);
+    }
+    let x = fields_in(s);
+    if !listed(x) {
+        return ReadEvent::Refused(3);
+    }
+    let e = event_of(x);
+    ReadEvent::Read(e)
+}
+
+// The fields of an event.
+pub fn fields_of(e: Event) -> Fields
+    ensures { λ r. ⌜ r ≡ fieldsOf e ⌝ }
+{
+    let unused = Fields {
+        kind: 0,
+        a: 0,
+        b: 0,
+        c: 0,
+        value: 0,
+    };
+    match e {
+        Event::Lock { n, f } => Fields {
+            a: n,
+            b: f,
+            ..unused
+        },
+        Event::Order { number } => Fields {
+            kind: 1,
+            value: number,
+            ..unused
+        },
+        Event::Cast {
+            id,
+            willing,
+            target,
+        } => Fields {
+            kind: 2,
+            a: id,
+            b: flag_number(willing),
+            value: target,
+            ..unused
+        },
+        Event::Deliver { from, to, kind } => Fields {
+            kind: 3,
+            a: from,
+            b: to,
+            c: kind_number(kind),
+            ..unused
+        },
+        Event::Timeout { id } => Fields {
+            kind: 4,
+            a: id,
+            ..unused
+        },
+        Event::Decide { id, to_move } => Fields {
+            kind: 5,
+            a: id,
+            b: flag_number(to_move),
+            ..unused
+        },
+        Event::Stop { id } => Fields {
+            kind: 6,
+            a: id,
+            ..unused
+        },
+        Event::Save { id } => Fields {
+            kind: 7,
+            a: id,
+            ..unused
+        },
+        Event::Restore { id } => Fields {
+            kind: 8,
+            a: id,
+            ..unused
+        },
+    }
+}
+
+// The ten bytes of an event.
+fn event_bytes(e: Event) -> [u8; 10]
+    ensures { λ r. ⌜ r ≡ eventBytes e ⌝ }
+{
+    let x = fields_of(e);
+    [
+        low_byte(Event::MARK / 256),
+        low_byte(Event::MARK),
+        x.kind,
+        x.a,
+        x.b,
+        x.c,
+        low_byte(x.value / 65536 / 256),
+        low_byte(x.value / 65536),
+        low_byte(x.value / 256),
+        low_byte(x.value),
+    ]
+}
+
+// Answers 0, or the number of the first question that was answered "no"; then the buffer is untouched.
+pub fn write_event(out: &mut [u8], e: Event) -> u8
+    ensures { λ r. ⌜ (r ≡ number (writeReply events (now (out .entry)) e)) × (now (out .exit) ≡ writes events (now (out .entry)) e) ⌝ }
+{
+    if out.len() != Event::LENGTH {
+        return 1;
+    }
+    let record = event_bytes(e);
+    bytes::copy(&record, out);
+    0
+}
+
+// Document 01's number for a reader's answer: 0 for a record.
+pub fn answer_of(read: ReadEvent) -> u8
+    ensures { λ r. ⌜ r ≡ answerOf read .number ⌝ }
+{
+    match read {
+        ReadEvent::Read(_) => 0,
+        ReadEvent::Refused(q) => q,
+    }
+}
+
+// What is promised of these records: reading answers as the questions do, both round trips, and a refused write's buffer.
+pub fn round_trips()
+    ensures { λ _. ⌜ Promises events ⌝ }
+{}

@@ -1,0 +1,25 @@
+// Event records: their reader and writer.
+mod event;
+mod listed;
+
+pub use event::answer_of;
+pub use event::fields_of;
+pub use event::read_event;
+pub use event::round_trips;
+pub use event::write_event;
+use model::Event;
+
+// What stands in an event record after its mark.
+pub struct Fields {
+    pub kind: u8,
+    pub a: u8,
+    pub b: u8,
+    pub c: u8,
+    pub value: u32,
+}
+
+// A record, or the number of the first question that was answered "no".
+pub enum ReadEvent {
+    Read(Event),
+    Refused(u8),
+}

@@ -1,0 +1,10 @@
+-- No question has the number 0.
+use mathlib.Core.Path.{_≡_, refl}
+use mathlib.Core.Bool.{true}
+use Rattle.model.specs.QuestionLaws.{numbered}
+use Rattle.model.specs.declared.Message.{Message}
+use Rattle.message_record.specs.Messages.{aboutMessage}
+
+pub message-numbered : (x : Message) → numbered (aboutMessage x) ≡ true
+unfolding aboutMessage
+message-numbered x = refl

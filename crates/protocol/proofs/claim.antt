@@ -1,0 +1,11 @@
+-- From the statement's moments to the arguments, and all of it together.
+pub mod Moments
+pub mod Bound
+pub mod Start
+pub mod OrderNumbers
+pub mod Reach
+pub mod Sends
+pub mod Counted
+pub mod Ranges
+pub mod Reached
+pub mod Theorem

@@ -1,0 +1,178 @@
+-- The T line follows the sends: over every list, event by event, the sizes of the sets of receivers grow by what the event sends.
+use Prim.Native.Nat.{ℕ, zero, suc, _+_, _≤_}
+use mathlib.Core.Path.{_≡_, refl, sym, _∙_, ap, subst}
+use mathlib.Core.Bool.{Bool, true, false, cond, false≢true}
+use mathlib.Core.List.{List, [], _∷_}
+use native.Mathlib.Omega.{arith}
+use mathlib.Core.Logic.{inl, inr}
+use borrow.Author.Tests.{leb-true}
+use Rattle.ground.specs.Tests.{no-both, split, and-l, and-r}
+use Rattle.ground.specs.Quantify.{countTo}
+use Rattle.ground.specs.Mask.{has}
+use Rattle.ground.specs.MaskLaws.{has-none}
+use Rattle.model.specs.Ranges.{isController}
+use Rattle.model.specs.declared.Kind.{Kind}
+use Rattle.model.specs.declared.Kind.the-variants.{Vote, Ack, Help, Helped}
+use Rattle.model.specs.declared.Event.{Event}
+use Rattle.model.specs.declared.Event.the-variants.{Lock, Order, Cast, Deliver, Timeout, Decide, Stop, Save, Restore}
+use Rattle.protocol.specs.declared.Answer.{Answer}
+use Rattle.protocol.specs.declared.Send.the-variants.{Nothing}
+use Rattle.protocol.specs.declared.Sent.{Sent}
+use Rattle.protocol.specs.declared.Bench.{Bench}
+use Rattle.protocol.specs.Rules.{passedOver}
+use Rattle.protocol.specs.Benches.{newBench, benchOf, unsentAll, station, sentBy, ofKind}
+use Rattle.protocol.specs.Events.{subject, source, concernsOne}
+use Rattle.protocol.specs.Questions.{accepted, isAccepted, firstNo, reply}
+use Rattle.protocol.specs.Steps.{answerTo, perform, step, run, renewed}
+use Rattle.protocol.specs.Display.{sumTo, sentCount, telegrams}
+use Rattle.protocol.specs.Claim.{after}
+use Rattle.protocol.specs.SentOnce.{receiversOf, sendOf, receiversAt, sendsAt, countAccepted, countSends, SentOnce}
+use Rattle.protocol.proofs.view.View.{View, openedV, accepts, ask-l, ask-r}
+use Rattle.protocol.proofs.view.Performed.{commitV, chosen, savedV, ruleAnswer, answerV, answered-by-rule, performV, stepV}
+use Rattle.protocol.proofs.view.Simulation.{view, reply-sim, step-steps, step-sim}
+use Rattle.protocol.proofs.invariant.Arrivals.{count-zero}
+use Rattle.protocol.proofs.claim.Moments.{accepted-is, lock-refused}
+use Rattle.protocol.proofs.claim.Start.{unlocked, freshes}
+use Rattle.protocol.proofs.claim.Sends.{New, rule-new, telegramsV, commit-counted}
+use Rattle.protocol.proofs.claim.Reach.{Alive, Reached, step-reached, reached}
+
+-- a bench on which nothing was sent
+sum-zero : (m : ℕ) (g : ℕ → ℕ) → ((k : ℕ) → g k ≡ 0) → sumTo m g ≡ 0
+unfolding sumTo
+sum-zero zero g h = refl
+sum-zero (suc m) g h = rw (h (suc m), sum-zero m g h)
+
+pub unsent-kind : (kind : Kind) → (ofKind kind unsentAll) .to ≡ 0
+unfolding unsentAll
+unsent-kind Vote = refl
+unsent-kind Ack = refl
+unsent-kind Help = refl
+unsent-kind Helped = refl
+
+unsent-size : (n : ℕ) (kind : Kind) (l : Sent) → l ≡ unsentAll → countTo n (has ((ofKind kind l) .to)) ≡ 0
+unsent-size n kind l e = ap (λ (x : Sent). countTo n (has ((ofKind kind x) .to))) e ∙ ap (λ (m : ℕ). countTo n (has m)) (unsent-kind kind) ∙ count-zero n
+
+silent : (kind : Kind) (b : Bench) → ((k : ℕ) → sentBy b k ≡ unsentAll) → telegrams b kind ≡ 0
+unfolding telegrams sentCount
+silent kind b h = sum-zero (b .shared .n) _ (λ k. unsent-size (b .shared .n) kind (sentBy b k) (h k))
+
+fresh-silent : (kind : Kind) (locked : Bool) (n f : ℕ) → telegrams (benchOf locked n f) kind ≡ 0
+fresh-silent kind locked n f = silent kind (benchOf locked n f) (λ k. freshes locked n f k .sent)
+
+-- telegrams, of the view
+as-view : (b : Bench) (n f : ℕ) (kind : Kind) → b .shared .n ≡ n → telegrams b kind ≡ telegramsV n f (view b) kind
+unfolding telegrams sentCount view
+as-view b n f kind e = ap (λ (m : ℕ). sumTo m (λ i. countTo m (has ((ofKind kind (sentBy b i)) .to)))) e
+
+module _ (b : Bench) (a : Alive b) where
+  abbrev n : ℕ
+  n = b .shared .n
+
+  abbrev f : ℕ
+  f = b .shared .f
+
+  -- the answer that an accepted event is given is the rule's
+  answer-sim : (e : Event) → answerTo (b .shared) e (sentBy b (source e)) (station b (subject e)) ≡ answerV n f (view b) e
+  answer-sim e = unfold view in rw (a .sound .locked)
+
+  rule-sim : (e : Event) → accepts n f (view b) e ≡ true → answerTo (b .shared) e (sentBy b (source e)) (station b (subject e)) ≡ ruleAnswer n f (view b) e
+  rule-sim e q = answer-sim e ∙ answered-by-rule n f (a .sound .sized) (view b) e q
+
+  adds : (e : Event) → accepts n f (view b) e ≡ true → New (sentBy b (subject e)) (answerTo (b .shared) e (sentBy b (source e)) (station b (subject e)))
+  adds e q = subst (New (sentBy b (subject e))) (sym (rule-sim e q)) (unfold view in rule-new n f (view b) (a .inv) e q)
+
+  -- what an accepted event leaves
+  module _ (kind : Kind) (e : Event) (q : accepts n f (view b) e ≡ true) where
+    abbrev sends : Answer → ℕ
+    sends x = countTo n (has (receiversOf (sendOf kind (x .sends))))
+
+    after-view : telegrams (step b e) kind ≡ telegramsV n f (performV n f (view b) e) kind
+    after-view = as-view (step b e) n f kind (step-steps b (a .sound) e .same-n) ∙ ap (λ (v : View). telegramsV n f v kind) (step-sim b (a .sound) e ∙ stepped)
+      where
+        stepped : stepV n f (view b) e ≡ performV n f (view b) e
+        stepped = unfold stepV in rw q
+
+    by-rule : telegramsV n f (view b) kind + sends (ruleAnswer n f (view b) e) ≡ telegrams b kind + sendsAt b e kind
+    by-rule = rw (as-view b n f kind refl, rule-sim e q)
+
+    counted-by : telegramsV n f (performV n f (view b) e) kind ≡ telegramsV n f (view b) kind + sends (ruleAnswer n f (view b) e) → telegrams (step b e) kind ≡ telegrams b kind + sendsAt b e kind
+    counted-by h = after-view ∙ h ∙ by-rule
+
+  -- a delivered telegram has a receiver among the controllers, and so on: the controller that an accepted event concerns is one of them
+  place : (e : Event) → concernsOne e ≡ true → accepts n f (view b) e ≡ true → (1 ≤ subject e) × (subject e ≤ n)
+  unfolding accepts firstNo isController
+  place (Lock x y) c q = absurd (false≢true c)
+  place (Order o) c q = absurd (false≢true c)
+  place (Cast i w t) c q = (leb-true _ _ (search (ask-l, ask-r, and-l, and-r) depth 14), leb-true _ _ (search (ask-l, ask-r, and-l, and-r) depth 14))
+  place (Deliver i j k) c q = (leb-true _ _ (search (ask-l, ask-r, and-l, and-r) depth 14), leb-true _ _ (search (ask-l, ask-r, and-l, and-r) depth 14))
+  place (Timeout i) c q = (leb-true _ _ (search (ask-l, ask-r, and-l, and-r) depth 14), leb-true _ _ (search (ask-l, ask-r, and-l, and-r) depth 14))
+  place (Decide i w) c q = (leb-true _ _ (search (ask-l, ask-r, and-l, and-r) depth 14), leb-true _ _ (search (ask-l, ask-r, and-l, and-r) depth 14))
+  place (Stop i) c q = (leb-true _ _ (search (ask-l, ask-r, and-l, and-r) depth 14), leb-true _ _ (search (ask-l, ask-r, and-l, and-r) depth 14))
+  place (Save i) c q = (leb-true _ _ (search (ask-l, ask-r, and-l, and-r) depth 14), leb-true _ _ (search (ask-l, ask-r, and-l, and-r) depth 14))
+  place (Restore i) c q = (leb-true _ _ (search (ask-l, ask-r, and-l, and-r) depth 14), leb-true _ _ (search (ask-l, ask-r, and-l, and-r) depth 14))
+
+  committed : (kind : Kind) (e : Event) → concernsOne e ≡ true → accepts n f (view b) e ≡ true
+      → telegramsV n f (commitV (view b) (subject e) (ruleAnswer n f (view b) e)) kind ≡ telegramsV n f (view b) kind + countTo n (has (receiversOf (sendOf kind ((ruleAnswer n f (view b) e) .sends))))
+  committed kind e c q = let p : (1 ≤ subject e) × (subject e ≤ n) = place e c q in commit-counted n f (view b) (subject e) (ruleAnswer n f (view b) e) kind (p .0) (p .1) (rule-new n f (view b) (a .inv) e q)
+
+  step-counted : (kind : Kind) (e : Event) → accepts n f (view b) e ≡ true → telegrams (step b e) kind ≡ countAccepted kind b e (telegrams b kind)
+  step-counted kind (Lock x y) q = absurd (no-both _ (reply-sim b (a .sound) (Lock x y) ∙ q) (lock-refused b x y (a .sound .locked)))
+  step-counted kind (Order o) q = after-view kind (Order o) q ∙ sum-zero n (λ k. countTo n (has ((ofKind kind ((performV n f (view b) (Order o)) .state .sent k)) .to)))
+      (λ k. unsent-size n kind ((performV n f (view b) (Order o)) .state .sent k) (unfold performV openedV renewed in refl))
+  step-counted kind (Cast i w t) q = counted-by kind (Cast i w t) q (unfold performV ruleAnswer in committed kind (Cast i w t) refl q)
+  step-counted kind (Deliver i j k) q = counted-by kind (Deliver i j k) q (unfold performV ruleAnswer in committed kind (Deliver i j k) refl q)
+  step-counted kind (Timeout i) q = counted-by kind (Timeout i) q (unfold performV ruleAnswer in committed kind (Timeout i) refl q)
+  step-counted kind (Decide i w) q = counted-by kind (Decide i w) q (unfold performV ruleAnswer commitV chosen in committed kind (Decide i w) refl q)
+  step-counted kind (Stop i) q = counted-by kind (Stop i) q (unfold performV ruleAnswer in committed kind (Stop i) refl q)
+  step-counted kind (Save i) q = counted-by kind (Save i) q (unfold performV savedV ruleAnswer passedOver in saves kind)
+    where
+      saves : (kind : Kind) → telegramsV n f (view b) kind ≡ telegramsV n f (view b) kind + countTo n (has (receiversOf (sendOf kind (record { vote = Nothing; ack = Nothing; help = Nothing; helped = Nothing }))))
+      saves Vote = let z : countTo n (has 0) ≡ 0 = count-zero n in omega arith
+      saves Ack = let z : countTo n (has 0) ≡ 0 = count-zero n in omega arith
+      saves Help = let z : countTo n (has 0) ≡ 0 = count-zero n in omega arith
+      saves Helped = let z : countTo n (has 0) ≡ 0 = count-zero n in omega arith
+  step-counted kind (Restore i) q = counted-by kind (Restore i) q (unfold performV ruleAnswer in committed kind (Restore i) refl q)
+
+-- from the new bench the lock alone is accepted, and nothing is sent
+new-counted : (kind : Kind) (e : Event) → isAccepted (reply newBench e) ≡ true → telegrams (step newBench e) kind ≡ countAccepted kind newBench e (telegrams newBench kind)
+new-counted kind (Lock n f) q = ap (λ (b : Bench). telegrams b kind) locks ∙ fresh-silent kind true n f
+  where
+    locks : step newBench (Lock n f) ≡ benchOf true n f
+    locks = unfold step perform in rw q
+new-counted kind (Order o) q = absurd (no-both _ q (unlocked (Order o) tt))
+new-counted kind (Cast i w t) q = absurd (no-both _ q (unlocked (Cast i w t) tt))
+new-counted kind (Deliver i j k) q = absurd (no-both _ q (unlocked (Deliver i j k) tt))
+new-counted kind (Timeout i) q = absurd (no-both _ q (unlocked (Timeout i) tt))
+new-counted kind (Decide i w) q = absurd (no-both _ q (unlocked (Decide i w) tt))
+new-counted kind (Stop i) q = absurd (no-both _ q (unlocked (Stop i) tt))
+new-counted kind (Save i) q = absurd (no-both _ q (unlocked (Save i) tt))
+new-counted kind (Restore i) q = absurd (no-both _ q (unlocked (Restore i) tt))
+
+accepted-counted : (kind : Kind) (b : Bench) (e : Event) → Reached b → isAccepted (reply b e) ≡ true → telegrams (step b e) kind ≡ countAccepted kind b e (telegrams b kind)
+accepted-counted kind b e (inl z) q = subst (λ (x : Bench). telegrams (step x e) kind ≡ countAccepted kind x e (telegrams x kind)) (sym z) (new-counted kind e (ap (λ (x : Bench). isAccepted (reply x e)) (sym z) ∙ q))
+accepted-counted kind b e (inr a) q = step-counted b a kind e (sym (reply-sim b (a .sound) e) ∙ q)
+
+run-counted : (kind : Kind) (es : List Event) (b : Bench) → Reached b → telegrams (run b es) kind ≡ countSends kind b es (telegrams b kind)
+unfolding run countSends
+run-counted kind [] b r = refl
+run-counted kind (e ∷ es) b r = run-counted kind es (step b e) (step-reached b e r) ∙ ap (countSends kind (step b e) es) now
+  where
+    refused : isAccepted (reply b e) ≡ false → step b e ≡ b
+    refused q = unfold step in rw q
+
+    now : telegrams (step b e) kind ≡ cond (isAccepted (reply b e)) (countAccepted kind b e (telegrams b kind)) (telegrams b kind)
+    now = elim (split (isAccepted (reply b e))) [
+      | inl q ↦ rw q (accepted-counted kind b e r q)
+      | inr q ↦ rw q (ap (λ (x : Bench). telegrams x kind) (refused q))
+    ]
+
+once-at : (b : Bench) (e : Event) (kind : Kind) (j : ℕ) → Reached b → reply b e ≡ accepted → has (receiversAt b e kind) j ≡ true → has ((ofKind kind (sentBy b (subject e))) .to) j ≡ false
+once-at b e kind j (inl z) p h = subst (λ (x : Bench). has ((ofKind kind (sentBy x (subject e))) .to) j ≡ false) (sym z)
+    (ap (λ (l : Sent). has ((ofKind kind l) .to) j) (freshes false 0 0 (subject e) .sent) ∙ ap (λ (m : ℕ). has m j) (unsent-kind kind) ∙ has-none j)
+once-at b e kind j (inr a) p h = adds b a e (sym (reply-sim b (a .sound) e) ∙ accepted-is _ p) .fresh kind j h
+
+pub sent-once : SentOnce
+sent-once = record {
+  once = λ es e kind j p h. once-at (after es) e kind j (reached es) p h;
+  counted = λ es kind. run-counted kind es newBench (inl refl) ∙ ap (countSends kind newBench es) (fresh-silent kind false 0 0);
+}

@@ -1,0 +1,371 @@
+-- What stays in range, station by station: the phase, the gate, the help sheet; to whom a kind was sent and by whom a vote was cast; what is
+-- saved. Each rule's answer keeps it, and so does every accepted event. What "in range" is for positions and order numbers is a parameter.
+use Prim.Native.Nat.{ℕ, suc, _≤_}
+use mathlib.Core.Path.{_≡_, refl, sym, _∙_, subst}
+use mathlib.Core.Bool.{Bool, true, false, not, _&&_, cond}
+use native.Mathlib.Omega.{arith}
+use lib.Dec.{eqb, leb, ltb}
+use mathlib.Core.Logic.{inl, inr}
+use borrow.Author.Tests.{leb-true, ne-eqb, eqb-false, not-true}
+use Rattle.ground.specs.Limit.{limit}
+use Rattle.ground.specs.Tests.{no-both, by-cond, and-l, and-r, and-i, or-e}
+use Rattle.ground.specs.Mask.{has}
+use Rattle.ground.specs.MaskLaws.{has-none, insert-only}
+use Rattle.ground.specs.Collect.{has-collect}
+use Rattle.ground.specs.Update.{upd-all}
+use Rattle.votes.specs.VoteSets.{empty, knows, wills}
+use Rattle.votes.specs.declared.VoteSet.{VoteSet}
+use Rattle.model.specs.Ranges.{isController, positionInRange, isBackup}
+use Rattle.model.specs.Routes.{route, helpRoute, recipients}
+use Rattle.model.specs.Numbers.{wordOf, isNone, isMove}
+use Rattle.model.specs.declared.Kind.{Kind}
+use Rattle.model.specs.declared.Kind.the-variants.{Vote, Ack, Help, Helped}
+use Rattle.model.specs.declared.Outcome.{Outcome}
+use Rattle.model.specs.declared.Checkpoint.{Checkpoint}
+use Rattle.model.specs.declared.Event.{Event}
+use Rattle.model.specs.declared.Event.the-variants.{Lock, Order, Cast, Deliver, Timeout, Decide, Stop, Save, Restore}
+use Rattle.protocol.specs.declared.Condition.{Condition}
+use Rattle.protocol.specs.declared.Controller.{Controller}
+use Rattle.protocol.specs.declared.Answer.{Answer}
+use Rattle.protocol.specs.declared.Saved.{Saved}
+use Rattle.protocol.specs.declared.Saved.the-variants.{Newest}
+use Rattle.protocol.specs.declared.Sent.{Sent}
+use Rattle.protocol.specs.Controllers.{isStopped, phaseIn, runs, phase, outcome, hasAck, cleared, advance, learn, aim, keepAck, keepHelped, freeze, answered, await, propose, conclude}
+use Rattle.protocol.specs.Rules.{passedOver, becomes, proposing, verdict, voteRule, countOwn, firstTimeout, ackJoin, proposeIfSufficient, helpVotes, frozen, ready, callsHelp, secondTimeout, answersCall}
+use Rattle.protocol.specs.Calls.{arrives, restore, renew}
+use Rattle.protocol.specs.Benches.{ofKind, unsentAll, sentAfter}
+use Rattle.protocol.specs.Questions.{firstNo}
+use Rattle.protocol.specs.Steps.{renewed, orderOpened}
+use Rattle.protocol.specs.SentOnce.{receiversOf, sendOf}
+use Rattle.protocol.proofs.view.View.{View, openedV, accepts, ask-l, ask-r}
+use Rattle.protocol.proofs.view.Performed.{commitV, chosen, savedV, checkpointAt, ruleAnswer, performV, stepV}
+use Rattle.protocol.proofs.view.RuleCases.{vote-cases, ack-cases, helped-cases, help-cases, restore-cases, sufficient-cases, second-cases, timeout-cases}
+use Rattle.protocol.proofs.invariant.Invariant.{votedBy, Inv}
+use Rattle.protocol.proofs.invariant.Words.{noting-phase}
+use Rattle.protocol.proofs.invariant.TrueVotes.{join-ok}
+use Rattle.protocol.proofs.invariant.Waiting.{acks-true}
+use Rattle.protocol.proofs.claim.Sends.{sent-more}
+
+-- willing lies within known
+abbrev pub WithinSet : VoteSet → Type 0
+WithinSet s = (k : ℕ) → wills s k ≡ true → knows s k ≡ true
+
+-- Positions are such as G says, and order numbers such as H says, if each event brings such ones; 0 is one.
+module _ (G H : ℕ → Type 0) (g0 : G 0) where
+  -- what an event brings: a target, or an order's number
+  abbrev pub Given : Event → Type 0
+  Given (Lock a c) = Unit {0}
+  Given (Order o) = H o
+  Given (Cast i w t) = G t
+  Given (Deliver i j k) = Unit {0}
+  Given (Timeout i) = Unit {0}
+  Given (Decide i w) = Unit {0}
+  Given (Stop i) = Unit {0}
+  Given (Save i) = Unit {0}
+  Given (Restore i) = Unit {0}
+
+  pub record GateIn (c : Controller) : Type 0 where
+    pub target : G (c .gate .target)
+    pub position : G (c .gate .position)
+
+  pub record InRange (c : Controller) : Type 0 where
+    pub low : phase c ≤ 3
+    pub gate : GateIn c
+    pub help : WithinSet (c .help .votes)
+
+  -- an answer's next controller
+  record Keeps (a : Answer) : Type 0 where
+    keeps : InRange (a .controller)
+
+  empty-within : WithinSet empty
+  empty-within k e = absurd (no-both (has 0 k) e (has-none k))
+
+  puts-keeps : (n f : ℕ) (a : Answer) → Keeps a → Keeps (proposeIfSufficient n f a)
+  unfolding proposing propose
+  puts-keeps n f a h = sufficient-cases Keeps n f a (λ q. record { keeps = record { low = h .keeps .low; gate = record { target = h .keeps .gate .target; position = h .keeps .gate .position }; help = h .keeps .help } }) h
+
+  becomes-keeps : (c : Controller) → InRange c → Keeps (becomes c)
+  unfolding becomes
+  becomes-keeps c h = record { keeps = h }
+
+  passed-keeps : (c : Controller) → InRange c → Keeps (passedOver c)
+  unfolding passedOver
+  passed-keeps c h = record { keeps = h }
+
+  learn-in : (c : Controller) (s : VoteSet) → InRange c → InRange (learn c s)
+  unfolding learn
+  learn-in c s h = record { low = h .low; gate = record { target = h .gate .target; position = h .gate .position }; help = h .help }
+
+  ack-in : (c : Controller) (j : ℕ) (s : VoteSet) → InRange c → InRange (keepAck c j s)
+  unfolding keepAck
+  ack-in c j s h = record { low = h .low; gate = record { target = h .gate .target; position = h .gate .position }; help = h .help }
+
+  helped-in : (c : Controller) (j : ℕ) (s : VoteSet) → InRange c → InRange (keepHelped c j s)
+  unfolding keepHelped
+  helped-in c j s h = record { low = h .low; gate = record { target = h .gate .target; position = h .gate .position }; help = h .help }
+
+  cleared-in : (k : Condition) (c : Controller) → phaseIn k ≤ 3 → InRange c → InRange (cleared k c)
+  unfolding cleared
+  cleared-in k c p h = record { low = p; gate = record { target = g0; position = h .gate .position }; help = empty-within }
+
+  conclude-in : (c : Controller) (o : Outcome) → InRange c → InRange (conclude c o)
+  unfolding conclude
+  conclude-in c o h = record {
+    low = rw (noting-phase (c .condition) o) (h .low);
+    gate = record {
+      target = h .gate .target;
+      position = by-cond G (runs c && isNone (outcome c) && isMove o) (c .gate .target) (c .gate .position) (λ e. h .gate .target) (λ e. h .gate .position);
+    };
+    help = h .help;
+  }
+
+  frozen-in : (n : ℕ) (c : Controller) → WithinSet (helpVotes n c) → InRange c → InRange (frozen n c)
+  unfolding frozen freeze advance
+  frozen-in n c w h = record { low = omega arith; gate = record { target = h .gate .target; position = h .gate .position }; help = w }
+
+  module _ (n f : ℕ) where
+    vote-keeps : (i : ℕ) (w : Bool) (t : ℕ) (c : Controller) → G t → InRange c → Keeps (voteRule n f i w t c)
+    unfolding voteRule advance aim learn
+    vote-keeps i w t c r h = record { keeps = record { low = low (leb i (suc f)); gate = record { target = r; position = h .gate .position }; help = h .help } }
+      where
+        low : (x : Bool) → cond x 1 2 ≤ 3
+        low true = omega arith
+        low false = omega arith
+
+    first-keeps : (i : ℕ) (c : Controller) → InRange c → Keeps (firstTimeout n f i c)
+    unfolding firstTimeout advance
+    first-keeps i c h = record { keeps = record { low = omega arith; gate = record { target = own .gate .target; position = own .gate .position }; help = own .help } }
+      where
+        own : InRange (countOwn f i c)
+        own = unfold countOwn in by-cond InRange (isBackup f i && not (hasAck c i)) (keepAck c i (c .votes)) c (λ e. ack-in c i (c .votes) h) (λ e. h)
+
+    second-keeps : (i : ℕ) (c : Controller) → WithinSet (helpVotes n c) → InRange c → Keeps (secondTimeout n f i c)
+    second-keeps i c w h = second-cases Keeps n f i c (λ d. direct) (λ e. puts) (λ e. puts-keeps n f _ waits)
+      where
+        direct : Keeps (ready (helpVotes n c) (conclude (frozen n c) (verdict n (ackJoin n c))))
+        direct = unfold ready in record { keeps = conclude-in (frozen n c) _ (frozen-in n c w h) }
+
+        puts : Keeps (proposing (ready (helpVotes n c) (frozen n c)) (verdict n (ackJoin n c)))
+        puts = unfold proposing ready propose in let k : InRange (frozen n c) = frozen-in n c w h in record { keeps = record { low = k .low; gate = record { target = k .gate .target; position = k .gate .position }; help = k .help } }
+
+        waits : Keeps (callsHelp n f i (helpVotes n c) (frozen n c))
+        waits = unfold callsHelp await keepHelped in let k : InRange (frozen n c) = frozen-in n c w h in record { keeps = record { low = k .low; gate = record { target = k .gate .target; position = k .gate .position }; help = k .help } }
+
+    arrives-keeps : (kind : Kind) (j : ℕ) (s : VoteSet) (c : Controller) → InRange c → Keeps (arrives kind n f j s c)
+    unfolding arrives
+    arrives-keeps Vote j s c h = vote-cases Keeps s c (λ p. becomes-keeps _ (learn-in c s h)) (passed-keeps c h)
+    arrives-keeps Ack j s c h = ack-cases Keeps n f j s c (λ p. puts-keeps n f _ (becomes-keeps _ (ack-in c j s h))) (λ p. passed-keeps c h)
+    arrives-keeps Help j s c h = help-cases Keeps j c (λ p q. unfold answersCall answered in record { keeps = record { low = h .low; gate = record { target = h .gate .target; position = h .gate .position }; help = h .help } }) (passed-keeps c h)
+    arrives-keeps Helped j s c h = helped-cases Keeps n f j s c (λ p q. puts-keeps n f _ (becomes-keeps _ (helped-in c j s h))) (passed-keeps c h)
+
+    -- what was sent in an order o: a vote by a controller of the lock; help calls with no sheet; a kind only where it may travel
+    pub record SentIn (o k : ℕ) (l : Sent) : Type 0 where
+      pub caster : votedBy k l ≡ true → k ≤ n
+      pub call : l .help .votes ≡ empty
+      pub to : (kind : Kind) (j : ℕ) → has ((ofKind kind l) .to) j ≡ true → (1 ≤ o) × (k ≤ n) × (j ≤ n) × (route f kind k j ≡ true)
+
+    -- an answer's sends
+    record Sends-ok (k : ℕ) (a : Answer) : Type 0 where
+      calls : (l : Sent) → l .help .votes ≡ empty → (sentAfter l (a .sends)) .help .votes ≡ empty
+      to : (kind : Kind) (j : ℕ) → has (receiversOf (sendOf kind (a .sends))) j ≡ true → (j ≤ n) × (route f kind k j ≡ true)
+
+    sent-in : (o k : ℕ) (l : Sent) (a : Answer) → 1 ≤ o → k ≤ n → Sends-ok k a → SentIn o k l → SentIn o k (sentAfter l (a .sends))
+    sent-in o k l a open′ hi s h = record {
+      caster = λ e. hi;
+      call = s .calls l (h .call);
+      to = λ kind j e. elim (or-e (has ((ofKind kind l) .to) j) (has (receiversOf (sendOf kind (a .sends))) j) (sym (sent-more n f l (a .sends) kind j) ∙ e)) [
+        | inl q ↦ h .to kind j q
+        | inr q ↦ (open′, hi, s .to kind j q .0, s .to kind j q .1)
+      ];
+    }
+
+    none-to : {X : Type 0} (j : ℕ) → has 0 j ≡ true → X
+    none-to j e = absurd (no-both (has 0 j) e (has-none j))
+
+    becomes-ok : (k : ℕ) (c : Controller) → Sends-ok k (becomes c)
+    becomes-ok k c = record { calls = λ l e. unfold becomes sentAfter in e; to = to }
+      where
+        to : (kind : Kind) (j : ℕ) → has (receiversOf (sendOf kind ((becomes c) .sends))) j ≡ true → (j ≤ n) × (route f kind k j ≡ true)
+        to Vote j e = unfold becomes in none-to j e
+        to Ack j e = unfold becomes in none-to j e
+        to Help j e = unfold becomes in none-to j e
+        to Helped j e = unfold becomes in none-to j e
+
+    passed-ok : (k : ℕ) (c : Controller) → Sends-ok k (passedOver c)
+    passed-ok k c = record { calls = λ l e. unfold passedOver sentAfter in e; to = to }
+      where
+        to : (kind : Kind) (j : ℕ) → has (receiversOf (sendOf kind ((passedOver c) .sends))) j ≡ true → (j ≤ n) × (route f kind k j ≡ true)
+        to Vote j e = unfold passedOver in none-to j e
+        to Ack j e = unfold passedOver in none-to j e
+        to Help j e = unfold passedOver in none-to j e
+        to Helped j e = unfold passedOver in none-to j e
+
+    puts-ok : (k : ℕ) (a : Answer) → Sends-ok k a → Sends-ok k (proposeIfSufficient n f a)
+    unfolding proposing
+    puts-ok k a h = sufficient-cases (Sends-ok k) n f a (λ q. record { calls = h .calls; to = h .to }) h
+
+    -- all to whom a kind is sent are controllers that may be sent it
+    module _ (small : n ≤ limit) where
+      sent-to : (kind : Kind) (k j : ℕ) → has (recipients n f kind k) j ≡ true → (j ≤ n) × (route f kind k j ≡ true)
+      unfolding recipients
+      sent-to kind k j e =
+          let h : leb 1 j && leb j n && route f kind k j ≡ true = sym (has-collect n (route f kind k) j (omega arith)) ∙ e in
+          (leb-true j n (and-r (leb 1 j) (leb j n) (and-l (leb 1 j && leb j n) (route f kind k j) h)), and-r (leb 1 j && leb j n) (route f kind k j) h)
+
+      vote-ok : (k : ℕ) (w : Bool) (t : ℕ) (c : Controller) → Sends-ok k (voteRule n f k w t c)
+      vote-ok k w t c = record { calls = λ l e. unfold voteRule sentAfter in e; to = to }
+        where
+          to : (kind : Kind) (j : ℕ) → has (receiversOf (sendOf kind ((voteRule n f k w t c) .sends))) j ≡ true → (j ≤ n) × (route f kind k j ≡ true)
+          to Vote j e = unfold voteRule in sent-to Vote k j e
+          to Ack j e = unfold voteRule in none-to j e
+          to Help j e = unfold voteRule in none-to j e
+          to Helped j e = unfold voteRule in none-to j e
+
+      first-ok : (k : ℕ) (c : Controller) → Sends-ok k (firstTimeout n f k c)
+      first-ok k c = record { calls = λ l e. unfold firstTimeout sentAfter in e; to = to }
+        where
+          to : (kind : Kind) (j : ℕ) → has (receiversOf (sendOf kind ((firstTimeout n f k c) .sends))) j ≡ true → (j ≤ n) × (route f kind k j ≡ true)
+          to Vote j e = unfold firstTimeout in none-to j e
+          to Ack j e = unfold firstTimeout in sent-to Ack k j e
+          to Help j e = unfold firstTimeout in none-to j e
+          to Helped j e = unfold firstTimeout in none-to j e
+
+      ready-ok : (k : ℕ) (s : VoteSet) (next : Controller) → Sends-ok k (ready s next)
+      ready-ok k s next = record { calls = λ l e. unfold ready sentAfter in e; to = to }
+        where
+          to : (kind : Kind) (j : ℕ) → has (receiversOf (sendOf kind ((ready s next) .sends))) j ≡ true → (j ≤ n) × (route f kind k j ≡ true)
+          to Vote j e = unfold ready in none-to j e
+          to Ack j e = unfold ready in none-to j e
+          to Help j e = unfold ready in none-to j e
+          to Helped j e = unfold ready in none-to j e
+
+      calls-ok : (k : ℕ) (s : VoteSet) (next : Controller) → Sends-ok k (callsHelp n f k s next)
+      calls-ok k s next = record { calls = λ l e. unfold callsHelp sentAfter in refl; to = to }
+        where
+          to : (kind : Kind) (j : ℕ) → has (receiversOf (sendOf kind ((callsHelp n f k s next) .sends))) j ≡ true → (j ≤ n) × (route f kind k j ≡ true)
+          to Vote j e = unfold callsHelp in none-to j e
+          to Ack j e = unfold callsHelp in none-to j e
+          to Help j e = unfold callsHelp in sent-to Help k j e
+          to Helped j e = unfold callsHelp in none-to j e
+
+      second-ok : (k : ℕ) (c : Controller) → Sends-ok k (secondTimeout n f k c)
+      second-ok k c = second-cases (Sends-ok k) n f k c (λ d. ready-ok k _ _) (λ e. unfold proposing in record { calls = (ready-ok k _ _) .calls; to = (ready-ok k _ _) .to }) (λ e. puts-ok k _ (calls-ok k _ _))
+
+      -- an answer goes back to a caller of the lock, over the way that its call came
+      back : (j k : ℕ) → route f Help j k ≡ true → route f Helped k j ≡ true
+      unfolding route helpRoute
+      back j k e = and-i (not (eqb k j)) (ltb f k && ltb f j) (turned (and-l (not (eqb j k)) _ e)) (and-i (ltb f k) (ltb f j) (and-r (ltb f j) (ltb f k) (and-r (not (eqb j k)) _ e)) (and-l (ltb f j) (ltb f k) (and-r (not (eqb j k)) _ e)))
+        where
+          turned : not (eqb j k) ≡ true → not (eqb k j) ≡ true
+          turned q = rw (ne-eqb k j (λ z. eqb-false j k (not-true (eqb j k) q) (sym z)))
+
+      answers-ok : (j k : ℕ) (c : Controller) → j ≤ n → route f Help j k ≡ true → Sends-ok k (answersCall j c)
+      answers-ok j k c hi r = record { calls = λ l e. unfold answersCall sentAfter in e; to = to }
+        where
+          to : (kind : Kind) (x : ℕ) → has (receiversOf (sendOf kind ((answersCall j c) .sends))) x ≡ true → (x ≤ n) × (route f kind k x ≡ true)
+          to Vote x e = unfold answersCall in none-to x e
+          to Ack x e = unfold answersCall in none-to x e
+          to Help x e = unfold answersCall in none-to x e
+          to Helped x e = unfold answersCall in elim (insert-only 0 j x e) [
+            | inl z ↦ rw z (hi, back j k r)
+            | inr z ↦ none-to x z
+          ]
+
+      arrives-ok : (kind : Kind) (j k : ℕ) (s : VoteSet) (c : Controller) → j ≤ n → route f kind j k ≡ true → Sends-ok k (arrives kind n f j s c)
+      unfolding arrives
+      arrives-ok Vote j k s c hi r = vote-cases (Sends-ok k) s c (λ p. becomes-ok k _) (passed-ok k c)
+      arrives-ok Ack j k s c hi r = ack-cases (Sends-ok k) n f j s c (λ p. puts-ok k _ (becomes-ok k _)) (λ p. passed-ok k c)
+      arrives-ok Help j k s c hi r = help-cases (Sends-ok k) j c (λ p q. answers-ok j k c hi r) (passed-ok k c)
+      arrives-ok Helped j k s c hi r = helped-cases (Sends-ok k) n f j s c (λ p q. puts-ok k _ (becomes-ok k _)) (passed-ok k c)
+
+    -- a checkpoint of controller k
+    pub record SavedIn (k : ℕ) (p : Checkpoint) : Type 0 where
+      pub id : p .id ≡ k
+      pub n-is : p .n ≡ n
+      pub f-is : p .f ≡ f
+      pub one-of : isController n k ≡ true
+      pub order : 1 ≤ p .order
+      pub order-in : H (p .order)
+      pub position : G (p .position)
+
+    abbrev pub SavedOk : ℕ → Saved → Type 0
+    SavedOk k s = (p : Checkpoint) → s ≡ Newest p → SavedIn k p
+
+    pub record AllIn (v : View) : Type 0 where
+      pub order : H (v .order)
+      pub ctls : (k : ℕ) → InRange (v .ctl k)
+      pub lines : (k : ℕ) → SentIn (v .order) k (v .state .sent k)
+      pub saved : (k : ℕ) → SavedOk k (v .saved k)
+
+    commit-in : (v : View) (i : ℕ) (a : Answer) → 1 ≤ v .order → i ≤ n → AllIn v → Keeps a → Sends-ok i a → AllIn (commitV v i a)
+    unfolding commitV
+    commit-in v i a open′ hi h k s = record {
+      order = h .order;
+      ctls = upd-all (λ k (c : Controller). InRange c) (v .ctl) i (a .controller) (k .keeps) (h .ctls);
+      lines = upd-all (λ k (l : Sent). SentIn (v .order) k l) (v .state .sent) i (sentAfter (v .state .sent i) (a .sends)) (sent-in (v .order) i (v .state .sent i) a open′ hi s (h .lines i)) (h .lines);
+      saved = h .saved;
+    }
+
+    newest : (x p : Checkpoint) → Newest x ≡ Newest p → x ≡ p
+    newest x p e = cc
+
+    saved-in : (v : View) (i : ℕ) → 1 ≤ v .order → isController n i ≡ true → AllIn v → AllIn (savedV v i (checkpointAt n f v i))
+    unfolding savedV
+    saved-in v i open′ m h = record {
+      order = h .order;
+      ctls = h .ctls;
+      lines = h .lines;
+      saved = upd-all (λ k (s : Saved). SavedOk k s) (v .saved) i (Newest (checkpointAt n f v i))
+          (λ p e. subst (SavedIn i) (newest (checkpointAt n f v i) p e) (record { id = refl; n-is = refl; f-is = refl; one-of = m; order = open′; order-in = h .order; position = h .ctls i .gate .position })) (h .saved);
+    }
+
+    renew-in : (c : Controller) → InRange c → InRange (renew c)
+    unfolding renew
+    renew-in c h = by-cond InRange (isStopped (c .condition)) _ _ (λ e. cleared-in _ c (omega arith) h) (λ e. cleared-in _ c (omega arith) h)
+
+    pub unsent-in : (o k : ℕ) → SentIn o k unsentAll
+    unsent-in o k = record { caster = λ e. unfold unsentAll in none-to k e; call = unfold unsentAll in refl; to = to }
+      where
+        to : (kind : Kind) (j : ℕ) → has ((ofKind kind unsentAll) .to) j ≡ true → (1 ≤ o) × (k ≤ n) × (j ≤ n) × (route f kind k j ≡ true)
+        to Vote j e = unfold unsentAll in none-to j e
+        to Ack j e = unfold unsentAll in none-to j e
+        to Help j e = unfold unsentAll in none-to j e
+        to Helped j e = unfold unsentAll in none-to j e
+
+    opened-in : (v : View) (o : ℕ) → H o → AllIn v → AllIn (openedV n f v o)
+    unfolding openedV renewed orderOpened
+    opened-in v o g h = record { order = g; ctls = λ k. renew-in (v .ctl k) (h .ctls k); lines = λ k. unsent-in o k; saved = h .saved }
+
+    restore-keeps : (v : View) (i : ℕ) → AllIn v → Keeps (ruleAnswer n f v (Restore i))
+    unfolding ruleAnswer
+    restore-keeps v i h = restore-cases Keeps _ _ (v .ctl i) (λ x q. unfold restore in by-cond Keeps (isStopped ((v .ctl i) .condition)) _ _ (λ e. becomes-keeps _ (cleared-in _ (v .ctl i) (omega arith) (h .ctls i))) (λ e. passed-keeps _ (h .ctls i))) (passed-keeps _ (h .ctls i))
+
+    restore-ok : (v : View) (i : ℕ) → Sends-ok i (ruleAnswer n f v (Restore i))
+    unfolding ruleAnswer
+    restore-ok v i = restore-cases (Sends-ok i) _ _ (v .ctl i) (λ x q. unfold restore in by-cond (Sends-ok i) (isStopped ((v .ctl i) .condition)) _ _ (λ e. becomes-ok i _) (λ e. passed-ok i _)) (passed-ok i _)
+
+    decide-in : (v : View) (i : ℕ) (w : Bool) → 1 ≤ v .order → i ≤ n → AllIn v → AllIn (commitV (chosen v w) i (becomes (conclude (v .ctl i) (wordOf w))))
+    unfolding chosen
+    decide-in v i w open′ hi h = commit-in _ i _ open′ hi (record { order = h .order; ctls = h .ctls; lines = h .lines; saved = h .saved }) (becomes-keeps _ (conclude-in (v .ctl i) (wordOf w) (h .ctls i))) (becomes-ok i _)
+
+    help-within : (v : View) → Inv n f v → (i : ℕ) → WithinSet (helpVotes n (v .ctl i))
+    unfolding helpVotes
+    help-within v inv i = (join-ok (v .state .sent) ((v .ctl i) .votes) (ackJoin n (v .ctl i)) (inv .ctls i .votes-ok) (acks-true n f (v .state .sent) (inv .lines) i (v .ctl i) (inv .ctls i .acks-ok))) .within
+
+    pub perform-in : n ≤ limit → (v : View) (e : Event) → Inv n f v → accepts n f v e ≡ true → Given e → AllIn v → AllIn (performV n f v e)
+    unfolding performV accepts firstNo isController
+    perform-in s v (Lock a c) inv q g h = h
+    perform-in s v (Order o) inv q g h = opened-in v o g h
+    perform-in s v (Cast i w t) inv q g h = commit-in v i _ (leb-true _ _ (search (ask-l, ask-r, and-l, and-r) depth 14)) (leb-true _ _ (search (ask-l, ask-r, and-l, and-r) depth 14)) h (vote-keeps i w t (v .ctl i) g (h .ctls i)) (vote-ok s i w t (v .ctl i))
+    perform-in s v (Deliver i j k) inv q g h = commit-in v j _ (leb-true _ _ (search (ask-l, ask-r, and-l, and-r) depth 14)) (leb-true _ _ (search (ask-l, ask-r, and-l, and-r) depth 14)) h (arrives-keeps k i _ (v .ctl j) (h .ctls j)) (arrives-ok s k i j _ (v .ctl j) (leb-true _ _ (search (ask-l, ask-r, and-l, and-r) depth 14)) (search (ask-l, ask-r, and-l, and-r) depth 14))
+    perform-in s v (Timeout i) inv q g h = commit-in v i _ (leb-true _ _ (search (ask-l, ask-r, and-l, and-r) depth 14)) (leb-true _ _ (search (ask-l, ask-r, and-l, and-r) depth 14)) h
+        (timeout-cases Keeps n f i (v .ctl i) (λ p. first-keeps i (v .ctl i) (h .ctls i)) (λ p. second-keeps i (v .ctl i) (help-within v inv i) (h .ctls i)))
+        (timeout-cases (Sends-ok i) n f i (v .ctl i) (λ p. first-ok s i (v .ctl i)) (λ p. second-ok s i (v .ctl i)))
+    perform-in s v (Decide i w) inv q g h = decide-in v i w (leb-true _ _ (search (ask-l, ask-r, and-l, and-r) depth 14)) (leb-true _ _ (search (ask-l, ask-r, and-l, and-r) depth 14)) h
+    perform-in s v (Stop i) inv q g h = commit-in v i _ (leb-true _ _ (search (ask-l, ask-r, and-l, and-r) depth 14)) (leb-true _ _ (search (ask-l, ask-r, and-l, and-r) depth 14)) h (becomes-keeps _ (cleared-in _ (v .ctl i) (omega arith) (h .ctls i))) (becomes-ok i _)
+    perform-in s v (Save i) inv q g h = saved-in v i (leb-true _ _ (search (ask-l, ask-r, and-l, and-r) depth 14)) (unfold isController in (search (ask-l, ask-r, and-l, and-r) depth 14)) h
+    perform-in s v (Restore i) inv q g h = unfold ruleAnswer in commit-in v i _ (leb-true _ _ (search (ask-l, ask-r, and-l, and-r) depth 14)) (leb-true _ _ (search (ask-l, ask-r, and-l, and-r) depth 14)) h (restore-keeps v i h) (restore-ok v i)
+
+    pub step-in : n ≤ limit → (v : View) (e : Event) → Inv n f v → (accepts n f v e ≡ true → Given e) → AllIn v → AllIn (stepV n f v e)
+    unfolding stepV
+    step-in s v e inv g h = by-cond AllIn (accepts n f v e) (performV n f v e) v (λ q. perform-in s v e inv q (g q) h) (λ q. h)

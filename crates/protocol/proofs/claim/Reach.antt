@@ -1,0 +1,80 @@
+-- Every bench that a list of events leads to from a new one is new, or has its lock and keeps the invariant. Theorems over every list go by this.
+use Prim.Native.Nat.{ℕ}
+use mathlib.Core.Path.{_≡_, refl, sym, subst}
+use mathlib.Core.Bool.{true}
+use mathlib.Core.List.{List, [], _∷_}
+use mathlib.Core.Logic.{_⊎_, inl, inr}
+use Rattle.ground.specs.Tests.{split}
+use Rattle.model.specs.Ranges.{sizesInRange}
+use Rattle.model.specs.declared.Event.{Event}
+use Rattle.model.specs.declared.Event.the-variants.{Lock, Order, Cast, Deliver, Timeout, Decide, Stop, Save, Restore}
+use Rattle.protocol.specs.declared.Bench.{Bench}
+use Rattle.protocol.specs.Benches.{newBench, benchOf}
+use Rattle.protocol.specs.Questions.{firstNo, unless, reply}
+use Rattle.protocol.specs.Steps.{perform, step, run}
+use Rattle.protocol.specs.Claim.{after}
+use Rattle.protocol.proofs.view.Performed.{stepV}
+use Rattle.protocol.proofs.view.Simulation.{view, Sound, Ranges, ranges, Steps, step-steps, step-sim}
+use Rattle.protocol.proofs.invariant.Invariant.{Inv}
+use Rattle.protocol.proofs.invariant.Orders.{step-next, next-inv}
+use Rattle.protocol.proofs.claim.Start.{lock-sound, lock-inv, idle}
+
+pub record Alive (b : Bench) : Type 0 where
+  pub sound : Sound b
+  pub inv : Inv (b .shared .n) (b .shared .f) (view b)
+
+abbrev pub Reached : Bench → Type 0
+Reached b = (b ≡ newBench) ⊎ Alive b
+
+alive-step : (b : Bench) (e : Event) → Alive b → Alive (step b e)
+alive-step b e a =
+    let s : Steps b (a .sound) (step b e) = step-steps b (a .sound) e in
+    let r : Ranges (b .shared .n) (b .shared .f) = ranges (b .shared .n) (b .shared .f) (a .sound .sized) in
+    let i : Inv (b .shared .n) (b .shared .f) (stepV (b .shared .n) (b .shared .f) (view b) e) = next-inv (b .shared .n) (b .shared .f) (r .high) (r .low) (r .small) (view b) _ (step-next (b .shared .n) (b .shared .f) (r .high) (r .low) (r .small) (view b) e (a .inv)) in
+    record {
+      sound = s .sound;
+      inv = subst (λ (x : ℕ). Inv x ((step b e) .shared .f) (view (step b e))) (sym (s .same-n))
+          (subst (λ (x : ℕ). Inv (b .shared .n) x (view (step b e))) (sym (s .same-f)) (subst (Inv (b .shared .n) (b .shared .f)) (sym (step-sim b (a .sound) e)) i));
+    }
+
+-- the new bench accepts a lock alone
+pub record JustLocked (b : Bench) : Type 0 where
+  pub n : ℕ
+  pub f : ℕ
+  pub sized : sizesInRange n f ≡ true
+  pub is : b ≡ benchOf true n f
+
+pub new-step : (e : Event) → (step newBench e ≡ newBench) ⊎ JustLocked (step newBench e)
+new-step (Lock n f) = elim (split (sizesInRange n f)) [
+  | inl z ↦ inr (record { n = n; f = f; sized = z; is = locks z })
+  | inr z ↦ inl (unfold step reply firstNo unless in rw z)
+]
+  where
+    locks : sizesInRange n f ≡ true → step newBench (Lock n f) ≡ benchOf true n f
+    locks z = unfold step reply firstNo unless benchOf perform in rw z
+new-step (Order o) = inl (idle (Order o) tt)
+new-step (Cast i w t) = inl (idle (Cast i w t) tt)
+new-step (Deliver i j k) = inl (idle (Deliver i j k) tt)
+new-step (Timeout i) = inl (idle (Timeout i) tt)
+new-step (Decide i w) = inl (idle (Decide i w) tt)
+new-step (Stop i) = inl (idle (Stop i) tt)
+new-step (Save i) = inl (idle (Save i) tt)
+new-step (Restore i) = inl (idle (Restore i) tt)
+
+locked-alive : (b : Bench) → JustLocked b → Alive b
+locked-alive b l = subst Alive (sym (l .is)) (record { sound = lock-sound (l .n) (l .f) (l .sized); inv = unfold benchOf in lock-inv (l .n) (l .f) (l .sized) })
+
+new-reached : (e : Event) → Reached (step newBench e)
+new-reached e = elim (new-step e) [ inl z ↦ inl z | inr l ↦ inr (locked-alive (step newBench e) l) ]
+
+pub step-reached : (b : Bench) (e : Event) → Reached b → Reached (step b e)
+step-reached b e (inl z) = subst (λ (x : Bench). Reached (step x e)) (sym z) (new-reached e)
+step-reached b e (inr a) = inr (alive-step b e a)
+
+pub run-reached : (es : List Event) (b : Bench) → Reached b → Reached (run b es)
+unfolding run
+run-reached [] b r = r
+run-reached (e ∷ es) b r = run-reached es (step b e) (step-reached b e r)
+
+pub reached : (es : List Event) → Reached (after es)
+reached es = run-reached es newBench (inl refl)

@@ -1,0 +1,319 @@
+-- From what stays in range (Ranges) and the invariant to the statement: the questions of a record, one by one.
+use Prim.Native.Nat.{ℕ, zero, suc, _≤_, _<_, _^_}
+use mathlib.Core.Path.{_≡_, refl, sym, _∙_, ap, subst}
+use mathlib.Core.Bool.{Bool, true, false, not, _&&_, false≢true}
+use mathlib.Core.List.{List, [], _∷_}
+use native.Mathlib.Omega.{arith}
+use lib.Pow.{pow-pos}
+use lib.ListN.{length, replicate}
+use lib.Dec.{eqb, leb}
+use mathlib.Core.Logic.{inl, inr}
+use borrow.Author.Tests.{le-leb, eq-eqb}
+use Rattle.ground.specs.Tests.{no-both, and-l, and-i, same-test}
+use Rattle.ground.specs.Mask.{has, insert, noneAbove, within}
+use Rattle.ground.specs.MaskLaws.{has-none, insert-own, insert-only}
+use Rattle.ground.specs.Inclusion.{le-none-above, has-within, same-set}
+use Rattle.ground.specs.Limit.{limit}
+use Rattle.votes.specs.VoteSets.{empty, knows}
+use Rattle.votes.specs.declared.VoteSet.{VoteSet}
+use Rattle.model.specs.QuestionLaws.{yes-all}
+use Rattle.model.specs.Ranges.{isController, positionInRange}
+use Rattle.model.specs.Routes.{route, voteRoute, ackRoute, helpRoute}
+use Rattle.model.specs.declared.Kind.{Kind}
+use Rattle.model.specs.declared.Kind.the-variants.{Vote, Ack, Help, Helped}
+use Rattle.model.specs.declared.Checkpoint.{Checkpoint}
+use Rattle.model.specs.declared.Event.{Event}
+use Rattle.model.specs.declared.Event.the-variants.{Lock, Order, Cast, Deliver, Timeout, Decide, Stop, Save, Restore}
+use Rattle.records.specs.Codec.{Codec, recordLength, bytesOf, writeReply, writes}
+use Rattle.message_record.specs.Messages.{bitsInRange, knowsForKind, suits, aboutMessage, messages}
+use Rattle.message_record.proofs.RoundTrips.{promises}
+use Rattle.checkpoint_record.specs.Checkpoints.{aboutCheckpoint, checkpoints}
+use Rattle.checkpoint_record.proofs.RoundTrips.{promises as checkpoint-promises}
+use Rattle.protocol.specs.declared.Sent.{Sent}
+use Rattle.protocol.specs.declared.Saved.{Saved}
+use Rattle.protocol.specs.declared.Saved.the-variants.{Nothing, Newest}
+use Rattle.protocol.specs.declared.Station.{Station}
+use Rattle.protocol.specs.declared.Bench.{Bench}
+use Rattle.protocol.specs.Controllers.{ackOf}
+use Rattle.protocol.specs.Benches.{fresh, freshStation, benchOf, newBench, station, controller, sentBy, ofKind}
+use Rattle.protocol.specs.Questions.{accepted, unless, firstNo}
+use Rattle.protocol.specs.Steps.{step, run}
+use Rattle.protocol.specs.Claim.{after}
+use Rattle.protocol.specs.Reach.{Within, HeldWithin, messageAt, WasSent, IsSaved, AsRead, AllRead, Reach}
+use Rattle.protocol.proofs.view.View.{View, accepts, ask-l, ask-r}
+use Rattle.protocol.proofs.view.Performed.{stepV}
+use Rattle.protocol.proofs.view.Simulation.{view, ranges, Steps, step-steps, step-sim}
+use Rattle.protocol.proofs.invariant.Invariant.{votedBy, ackedBy, frozenBy, Truthful}
+use Rattle.protocol.proofs.invariant.Invariant.{HeldAck}
+use Rattle.protocol.proofs.invariant.Decisions.{Blank}
+use Rattle.protocol.proofs.claim.Start.{freshes, all-of-copies}
+use Rattle.protocol.proofs.invariant.TrueVotes.{empty-ok, vote-ok}
+use Rattle.protocol.proofs.claim.Counted.{unsent-kind}
+use Rattle.protocol.proofs.claim.Reach.{Alive, Reached, JustLocked, new-step, step-reached, reached}
+use Rattle.protocol.proofs.claim.Ranges.{Given, InRange, SentIn, SavedIn, AllIn, WithinSet, unsent-in, step-in}
+
+never-saved : {X : Type 0} (s : Saved) (p : Checkpoint) → s ≡ Nothing → s ≡ Newest p → X
+never-saved s p e q = let z : _≡_ {A = ℕ} 0 1 = cc in absurd (omega arith)
+
+-- in range, of every bench that a list leads to, where each accepted event of the list brings what is in range
+module _ (G H : ℕ → Type 0) (g0 : G 0) (h0 : H 0) where
+  abbrev In : Bench → Type 0
+  In b = AllIn G H g0 (b .shared .n) (b .shared .f) (view b)
+
+  abbrev AllGiven : List Event → Type 0
+  AllGiven [] = Unit {0}
+  AllGiven (e ∷ es) = ((n f : ℕ) (v : View) → accepts n f v e ≡ true → Given G H g0 e) × AllGiven es
+
+  fresh-controller : (l : List VoteSet) → InRange G H g0 ((freshStation l) .controller)
+  unfolding freshStation fresh
+  fresh-controller l = record { low = omega arith; gate = record { target = g0; position = g0 }; help = λ k e. absurd (no-both (has 0 k) e (has-none k)) }
+
+  fresh-in : (locked : Bool) (n f : ℕ) → AllIn G H g0 n f (view (benchOf locked n f))
+  unfolding view
+  fresh-in locked n f = record {
+    order = unfold benchOf in h0;
+    ctls = controllers;
+    lines = λ k. subst (SentIn G H g0 n f _ k) (sym (freshes locked n f k .sent)) (unsent-in G H g0 n f _ k);
+    saved = λ k p e. never-saved _ p (freshes locked n f k .saved) e;
+  }
+    where
+      controllers : (k : ℕ) → InRange G H g0 (controller (benchOf locked n f) k)
+      controllers k = unfold station benchOf in all-of-copies (λ (s : Station). InRange G H g0 (s .controller)) (freshStation []) (freshStation (replicate limit empty)) (fresh-controller []) (fresh-controller (replicate limit empty)) limit k
+
+  alive-in : (b : Bench) (e : Event) → ((n f : ℕ) (v : View) → accepts n f v e ≡ true → Given G H g0 e) → Alive b → In b → In (step b e)
+  alive-in b e g a h =
+      let s : Steps b (a .sound) (step b e) = step-steps b (a .sound) e in
+      let i : AllIn G H g0 (b .shared .n) (b .shared .f) (stepV (b .shared .n) (b .shared .f) (view b) e) = step-in G H g0 (b .shared .n) (b .shared .f) (ranges (b .shared .n) (b .shared .f) (a .sound .sized) .small) (view b) e (a .inv) (g (b .shared .n) (b .shared .f) (view b)) h in
+      subst (λ (x : ℕ). AllIn G H g0 x ((step b e) .shared .f) (view (step b e))) (sym (s .same-n))
+      (subst (λ (x : ℕ). AllIn G H g0 (b .shared .n) x (view (step b e))) (sym (s .same-f)) (subst (AllIn G H g0 (b .shared .n) (b .shared .f)) (sym (step-sim b (a .sound) e)) i))
+
+  locked-in : (b : Bench) → JustLocked b → In b
+  locked-in b l = subst In (sym (l .is)) (unfold benchOf in fresh-in true (l .n) (l .f))
+
+  new-in : In newBench
+  new-in = unfold benchOf in fresh-in false 0 0
+
+  step-all-in : (b : Bench) (e : Event) → ((n f : ℕ) (v : View) → accepts n f v e ≡ true → Given G H g0 e) → Reached b → In b → In (step b e)
+  step-all-in b e g (inr a) h = alive-in b e g a h
+  step-all-in b e g (inl z) h = subst (λ (x : Bench). In (step x e)) (sym z) (elim (new-step e) [ inl y ↦ subst In (sym y) new-in | inr l ↦ locked-in (step newBench e) l ])
+
+  run-in : (es : List Event) (b : Bench) → AllGiven es → Reached b → In b → In (run b es)
+  unfolding run
+  run-in [] b g r h = h
+  run-in (e ∷ es) b g r h = run-in es (step b e) (g .1) (step-reached b e r) (step-all-in b e (g .0) r h)
+
+  given-in : (es : List Event) → AllGiven es → In (after es)
+  given-in es g = run-in es newBench g (inl refl) new-in
+
+-- positions, of every list: question 11
+abbrev Positioned : ℕ → Type 0
+Positioned p = positionInRange p ≡ true
+
+abbrev Any : ℕ → Type 0
+Any o = Unit {0}
+
+positioned-0 : Positioned 0
+unfolding positionInRange
+positioned-0 = refl
+
+asked-11 : (e : Event) (n f : ℕ) (v : View) → accepts n f v e ≡ true → Given Positioned Any positioned-0 e
+unfolding accepts firstNo
+asked-11 (Lock a c) n f v q = tt
+asked-11 (Order o) n f v q = tt
+asked-11 (Cast i w t) n f v q = search (ask-l, ask-r) depth 14
+asked-11 (Deliver i j k) n f v q = tt
+asked-11 (Timeout i) n f v q = tt
+asked-11 (Decide i w) n f v q = tt
+asked-11 (Stop i) n f v q = tt
+asked-11 (Save i) n f v q = tt
+asked-11 (Restore i) n f v q = tt
+
+all-asked : (es : List Event) → AllGiven Positioned Any positioned-0 tt es
+all-asked [] = tt
+all-asked (e ∷ es) = (asked-11 e, all-asked es)
+
+abbrev Ranged : Bench → Type 0
+Ranged b = In Positioned Any positioned-0 tt b
+
+all-in : (es : List Event) → Ranged (after es)
+all-in es = given-in Positioned Any positioned-0 tt es (all-asked es)
+
+-- four bytes, of a list as reading lets it through
+abbrev Short : ℕ → Type 0
+Short x = x < 2 ^ 32
+
+short-0 : Short 0
+short-0 = pow-pos 32
+
+as-read : (e : Event) → AsRead e → (n f : ℕ) (v : View) → accepts n f v e ≡ true → Given Short Short short-0 e
+as-read (Lock a c) r n f v q = tt
+as-read (Order o) r n f v q = r
+as-read (Cast i w t) r n f v q = r
+as-read (Deliver i j k) r n f v q = tt
+as-read (Timeout i) r n f v q = tt
+as-read (Decide i w) r n f v q = tt
+as-read (Stop i) r n f v q = tt
+as-read (Save i) r n f v q = tt
+as-read (Restore i) r n f v q = tt
+
+all-read : (es : List Event) → AllRead es → AllGiven Short Short short-0 short-0 es
+all-read [] r = tt
+all-read (e ∷ es) r = (as-read e (r .0), all-read es (r .1))
+
+all-short : (es : List Event) → AllRead es → In Short Short short-0 short-0 (after es)
+all-short es r = given-in Short Short short-0 short-0 es (all-read es r)
+
+-- sheets
+within-of : (s : VoteSet) → WithinSet s → Within s
+within-of s h = has-within (s .willing) (s .known) h
+
+empty-is : (s : VoteSet) → s ≡ empty → Within s
+empty-is s e = subst Within (sym e) (has-within 0 0 (λ k x. x))
+
+held-within : (b : Bench) (i : ℕ) → Reached b → Ranged b → HeldWithin (controller b i)
+held-within b i (inr a) h = record {
+  own = within-of _ (unfold view in a .inv .ctls i .votes-ok .within);
+  acks = λ j e. unfold view in (let t : HeldAck (b .shared .n) (b .shared .f) ((view b) .state .sent) i (ackOf (controller b i) j) j = (unfold view in a .inv .ctls i .acks-ok j e) in
+      subst Within (sym (t .copy)) (within-of _ (a .inv .lines j .ack-ok (t .acked) .within)));
+  answers = within-of _ (unfold view in a .inv .ctls i .helped-ok .within);
+  help = within-of _ (unfold view in h .ctls i .help);
+}
+held-within b i (inl z) h = subst (λ (x : Bench). HeldWithin (controller x i)) (sym z) (record {
+  own = empty-is _ (new .votes);
+  acks = λ j e. absurd (no-both (has 0 j) (ap (λ (m : ℕ). has m j) (sym (new .acks-none)) ∙ e) (has-none j));
+  answers = empty-is _ (new .helped);
+  help = within-of _ (unfold view benchOf in new-in Positioned Any positioned-0 tt .ctls i .help);
+})
+  where
+    new : Blank (controller newBench i)
+    new = freshes false 0 0 i .ctl
+
+-- a number in a set is at least 1
+some-number : (m k : ℕ) → has m k ≡ true → 1 ≤ k
+some-number m zero e = absurd (false≢true (unfold has in e))
+some-number m (suc k) e = omega arith
+
+members : (n k : ℕ) → 1 ≤ k → k ≤ n → isController n k ≡ true
+unfolding isController
+members n k lo hi = and-i (leb 1 k) (leb k n) (le-leb 1 k lo) (le-leb k n hi)
+
+-- what the questions about a telegram need, of the sender i with what it has sent
+module _ (b : Bench) (a : Alive b) (h : Ranged b) (i : ℕ) where
+  abbrev n : ℕ
+  n = b .shared .n
+
+  abbrev f : ℕ
+  f = b .shared .f
+
+  abbrev L : ℕ → Sent
+  L k = sentBy b k
+
+  abbrev l : Sent
+  l = sentBy b i
+
+  line : SentIn Positioned Any positioned-0 n f (b .shared .order) i l
+  line = unfold view in h .lines i
+
+  few : n ≤ limit
+  few = ranges n f (a .sound .sized) .small
+
+  -- a sheet that tells the votes as they were cast has no bit above n
+  abbrev clean : VoteSet → Bool
+  clean s = noneAbove n (s .known) && noneAbove n (s .willing) && within (s .willing) (s .known)
+
+  told : (s : VoteSet) → Truthful L s → clean s ≡ true
+  told s t = and-i (noneAbove n (s .known) && noneAbove n (s .willing)) (within (s .willing) (s .known))
+      (and-i (noneAbove n (s .known)) (noneAbove n (s .willing)) (le-none-above n (s .known) low) (le-none-above n (s .willing) (λ k e. low k (t .within k e))))
+      (within-of s (t .within))
+    where
+      low : (k : ℕ) → knows s k ≡ true → k ≤ n
+      low k e = unfold view in h .lines k .caster (t .cast k e)
+
+  -- 9: "a vote knows just its sender"
+  just : 1 ≤ i → i ≤ n → votedBy i l ≡ true → eqb (l .vote .votes .known) (insert 0 i) ≡ true
+  just lo hi v = eq-eqb _ _ (same-set (l .vote .votes .known) (insert 0 i) (λ k. same-test _ _
+      (λ e. rw (only k e) (insert-own 0 i lo (let s : n ≤ limit = few in omega arith)))
+      (λ e. elim (insert-only 0 i k e) [ inl z ↦ rw z v | inr z ↦ absurd (no-both (has 0 k) z (has-none k)) ])))
+    where
+      only : (k : ℕ) → knows (l .vote .votes) k ≡ true → k ≡ i
+      only k e = unfold view in a .inv .lines i .vote-only k e
+
+  vote-told : votedBy i l ≡ true → Truthful L (l .vote .votes)
+  vote-told v = unfold view in vote-ok ((view b) .state .sent) f i (a .inv .lines i)
+
+  voted : (kind : Kind) (j : ℕ) → has ((ofKind kind l) .to) j ≡ true → 1 ≤ i
+  unfolding view
+  voted Vote j e = some-number (l .vote .votes .known) i (a .inv .lines i .vote-to j e .0)
+  voted Ack j e = some-number (l .ack .votes .known) i (a .inv .lines i .ack-to j e .0)
+  voted Help j e = some-number (l .helped .votes .known) i (a .inv .lines i .help-to j e)
+  voted Helped j e = some-number (l .helped .votes .known) i (a .inv .lines i .helped-to j e)
+
+  differs : (kind : Kind) (j : ℕ) → route f kind i j ≡ true → not (eqb i j) ≡ true
+  unfolding route voteRoute ackRoute helpRoute
+  differs Vote j r = and-l (not (eqb i j)) _ r
+  differs Ack j r = and-l (not (eqb i j)) _ r
+  differs Help j r = and-l (not (eqb i j)) _ r
+  differs Helped j r = and-l (not (eqb i j)) _ r
+
+  fits : (kind : Kind) (j : ℕ) → 1 ≤ i → i ≤ n → has ((ofKind kind l) .to) j ≡ true → suits (messageAt b kind i j) ≡ true
+  unfolding suits bitsInRange knowsForKind view
+  fits Vote j lo hi e = let v : votedBy i l ≡ true = a .inv .lines i .vote-to j e .0 in and-i (clean (l .vote .votes)) _ (told (l .vote .votes) (vote-told v)) (just lo hi v)
+  fits Ack j lo hi e = let v : ackedBy i l ≡ true = a .inv .lines i .ack-to j e .0 in and-i (clean (l .ack .votes)) _ (told (l .ack .votes) (a .inv .lines i .ack-ok v)) v
+  fits Help j lo hi e = subst (λ (s : VoteSet). (noneAbove n (s .known) && noneAbove n (s .willing) && within (s .willing) (s .known) && eqb (s .known) 0) ≡ true) (sym (line .call)) blank
+    where
+      blank : (noneAbove n 0 && noneAbove n 0 && within 0 0 && eqb 0 0) ≡ true
+      blank = and-i (noneAbove n 0 && noneAbove n 0 && within 0 0) true (told empty (empty-ok L)) refl
+  fits Helped j lo hi e = let v : frozenBy i l ≡ true = a .inv .lines i .helped-to j e in and-i (clean (l .helped .votes)) _ (told (l .helped .votes) (a .inv .lines i .help-ok v)) v
+
+  passes : (kind : Kind) (j : ℕ) → has ((ofKind kind l) .to) j ≡ true → firstNo (aboutMessage (messageAt b kind i j)) ≡ accepted
+  unfolding aboutMessage
+  passes kind j e =
+      let t : (1 ≤ b .shared .order) × (i ≤ n) × (j ≤ n) × (route f kind i j ≡ true) = line .to kind j e in
+      let lo : 1 ≤ i = voted kind j e in
+      yes-all (aboutMessage (messageAt b kind i j)) (
+        a .sound .sized,
+        (
+          and-i (isController n i && isController n j) (not (eqb i j)) (and-i (isController n i) (isController n j) (members n i lo (t .1)) (members n j (some-number _ j e) (t .2))) (differs kind j (t .3)),
+          (le-leb 1 _ (t .0), (fits kind j lo (t .1) e, (t .3, tt))),
+        ),
+      )
+
+new-unsent : (kind : Kind) (i j : ℕ) → has ((ofKind kind (sentBy newBench i)) .to) j ≡ false
+new-unsent kind i j = ap (λ (x : Sent). has ((ofKind kind x) .to) j) (freshes false 0 0 i .sent) ∙ ap (λ (m : ℕ). has m j) (unsent-kind kind) ∙ has-none j
+
+message-passes : (b : Bench) (kind : Kind) (i j : ℕ) → Reached b → Ranged b → WasSent b kind i j → firstNo (aboutMessage (messageAt b kind i j)) ≡ accepted
+message-passes b kind i j (inr a) h e = passes b a h i kind j e
+message-passes b kind i j (inl z) h e = absurd (no-both _ (ap (λ (x : Bench). has ((ofKind kind (sentBy x i)) .to) j) (sym z) ∙ e) (new-unsent kind i j))
+
+checkpoint-passes : (b : Bench) (i : ℕ) (p : Checkpoint) → Reached b → Ranged b → IsSaved b i p → firstNo (aboutCheckpoint p) ≡ accepted
+checkpoint-passes b i p (inl z) h e = never-saved ((station newBench i) .saved) p (freshes false 0 0 i .saved) (ap (λ (x : Bench). (station x i) .saved) (sym z) ∙ e)
+checkpoint-passes b i p (inr a) h e =
+    let s : SavedIn Positioned Any positioned-0 (b .shared .n) (b .shared .f) i p = (unfold view in h .saved i p e) in
+    unfold aboutCheckpoint in yes-all (aboutCheckpoint p) (
+      rw (s .n-is, s .f-is) (a .sound .sized),
+      (rw (s .n-is, s .id) (s .one-of), (le-leb 1 _ (s .order), (s .position, tt))),
+    )
+
+-- what passes is written
+written-out : {A R : Type 0} (k : Codec A R) (a : A) (out : List ℕ) → length out ≡ recordLength k → firstNo (k .asked a) ≡ accepted → writes k out a ≡ bytesOf k a
+unfolding writes writeReply firstNo unless
+written-out k a out h p = rw (eq-eqb _ _ h, p)
+
+own-checkpoint : (b : Bench) (i : ℕ) (p : Checkpoint) → Reached b → Ranged b → IsSaved b i p → p .id ≡ i
+own-checkpoint b i p (inl z) h e = never-saved ((station newBench i) .saved) p (freshes false 0 0 i .saved) (ap (λ (x : Bench). (station x i) .saved) (sym z) ∙ e)
+own-checkpoint b i p (inr a) h e = let s : SavedIn Positioned Any positioned-0 (b .shared .n) (b .shared .f) i p = (unfold view in h .saved i p e) in s .id
+
+pub reach : Reach
+reach = record {
+  stages = λ es i. unfold view in all-in es .ctls i .low;
+  positions = λ es i. unfold view in all-in es .ctls i .gate .position;
+  vote-sets = λ es i. held-within (after es) i (reached es) (all-in es);
+  messages-pass = λ es kind i j e. message-passes (after es) kind i j (reached es) (all-in es) e;
+  checkpoints-pass = λ es i p e. checkpoint-passes (after es) i p (reached es) (all-in es) e;
+  checkpoints-own = λ es i p e. own-checkpoint (after es) i p (reached es) (all-in es) e;
+  messages-written = λ es kind i j out h e. written-out messages (messageAt (after es) kind i j) out h (message-passes (after es) kind i j (reached es) (all-in es) e);
+  checkpoints-written = λ es i p out h e. written-out checkpoints p out h (checkpoint-passes (after es) i p (reached es) (all-in es) e);
+  messages-back = λ es kind i j r e. promises .reads-back (messageAt (after es) kind i j) (unfold view in all-short es r .order, tt) (message-passes (after es) kind i j (reached es) (all-in es) e);
+  checkpoints-back = λ es i p r e. let s : SavedIn Short Short short-0 ((after es) .shared .n) ((after es) .shared .f) i p = (unfold view in all-short es r .saved i p e) in
+      checkpoint-promises .reads-back p (s .order-in, (s .position, tt)) (checkpoint-passes (after es) i p (reached es) (all-in es) e);
+}

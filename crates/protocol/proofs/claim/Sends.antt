@@ -1,0 +1,201 @@
+-- T counts sends. What a rule sends goes to nobody that its controller has sent that kind to before: the invariant keeps a set of receivers empty until
+-- the rule that fills it, and a help answer goes to a caller not yet answered. So every accepted event adds to the sets what it sends, and the
+-- sums of their sizes follow the sends.
+use Prim.Native.Nat.{ℕ, zero, suc, _+_, _≤_, _<_}
+use mathlib.Core.Path.{_≡_, refl, sym, _∙_, ap}
+use mathlib.Core.Bool.{Bool, true, false, _||_, or-false}
+use native.Mathlib.Omega.{arith}
+use native.Mathlib.Decide.{ℕ-discrete}
+use lib.Dec.{eqb}
+use mathlib.Core.Logic.{inl, inr}
+use borrow.Author.Tests.{eqb-true, ne-eqb}
+use Rattle.ground.specs.Tests.{no-both, refuted, by-cond, and-l, and-r}
+use Rattle.ground.specs.Quantify.{countTo}
+use Rattle.ground.specs.Sizes.{count-union}
+use Rattle.ground.specs.Mask.{has}
+use Rattle.ground.specs.MaskLaws.{has-none, has-or, insert-only}
+use Rattle.ground.specs.Update.{upd, upd-same, upd-other}
+use Rattle.votes.specs.declared.VoteSet.{VoteSet}
+use Rattle.model.specs.declared.Kind.{Kind}
+use Rattle.model.specs.declared.Kind.the-variants.{Vote, Ack, Help, Helped}
+use Rattle.model.specs.declared.Event.{Event}
+use Rattle.model.specs.declared.Event.the-variants.{Lock, Order, Cast, Deliver, Timeout, Decide, Stop, Save, Restore}
+use Rattle.protocol.specs.declared.Controller.{Controller}
+use Rattle.protocol.specs.declared.Answer.{Answer}
+use Rattle.protocol.specs.declared.Outgoing.{Outgoing}
+use Rattle.protocol.specs.declared.Send.{Send}
+use Rattle.protocol.specs.declared.Send.the-variants.{Nothing, To}
+use Rattle.protocol.specs.declared.Sends.{Sends}
+use Rattle.protocol.specs.declared.Sent.{Sent}
+use Rattle.protocol.specs.Controllers.{isStopped, runs, phase}
+use Rattle.protocol.specs.Events.{subject}
+use Rattle.protocol.specs.Rules.{passedOver, becomes, proposing, voteRule, firstTimeout, proposeIfSufficient, ready, callsHelp, secondTimeout, answersCall}
+use Rattle.protocol.specs.Calls.{arrives, restore}
+use Rattle.protocol.specs.Benches.{ofKind, afterSend, sentAfter}
+use Rattle.protocol.specs.Questions.{firstNo}
+use Rattle.protocol.specs.Display.{sumTo}
+use Rattle.protocol.specs.SentOnce.{receiversOf, sendOf}
+use Rattle.protocol.proofs.view.View.{View, accepts, ask-l, ask-r}
+use Rattle.protocol.proofs.view.Performed.{commitV, ruleAnswer}
+use Rattle.protocol.proofs.view.RuleCases.{vote-cases, ack-cases, helped-cases, help-cases, restore-cases, sufficient-cases, second-cases, timeout-cases}
+use Rattle.protocol.proofs.invariant.Invariant.{votedBy, ackedBy, frozenBy, Inv}
+use Rattle.protocol.proofs.invariant.Orders.{second}
+use Rattle.protocol.proofs.view.Simulation.{part}
+
+-- what an answer sends goes to nobody that was sent the kind before
+pub record New (l : Sent) (a : Answer) : Type 0 where
+  pub fresh : (kind : Kind) (j : ℕ) → has (receiversOf (sendOf kind (a .sends))) j ≡ true → has ((ofKind kind l) .to) j ≡ false
+
+nobody : {X : Type 0} (j : ℕ) → has 0 j ≡ true → X
+nobody j e = absurd (no-both (has 0 j) e (has-none j))
+
+becomes-new : (l : Sent) (c : Controller) → New l (becomes c)
+unfolding becomes
+becomes-new l c = record { fresh = fresh }
+  where
+    fresh : (kind : Kind) (j : ℕ) → has (receiversOf (sendOf kind ((becomes c) .sends))) j ≡ true → has ((ofKind kind l) .to) j ≡ false
+    fresh Vote j e = unfold becomes in nobody j e
+    fresh Ack j e = unfold becomes in nobody j e
+    fresh Help j e = unfold becomes in nobody j e
+    fresh Helped j e = unfold becomes in nobody j e
+
+passed-new : (l : Sent) (c : Controller) → New l (passedOver c)
+unfolding passedOver becomes
+passed-new l c = record { fresh = (becomes-new l c) .fresh }
+
+-- a sum with one place changed
+sum-out : (m : ℕ) (g : ℕ → ℕ) (i x : ℕ) → m < i → sumTo m (upd g i x) ≡ sumTo m g
+unfolding sumTo
+sum-out zero g i x h = refl
+sum-out (suc m) g i x h = rw (upd-other g i x (suc m) (ne-eqb (suc m) i (λ e. omega arith)), sum-out m g i x (omega arith))
+
+sum-upd : (m : ℕ) (g : ℕ → ℕ) (i x d : ℕ) → 1 ≤ i → i ≤ m → x ≡ g i + d → sumTo m (upd g i x) ≡ sumTo m g + d
+unfolding sumTo
+sum-upd zero g i x d lo hi e = absurd (omega arith)
+sum-upd (suc m) g i x d lo hi e = elim (ℕ-discrete i (suc m)) [
+  | yes q ↦ rw q (let z : x ≡ g (suc m) + d = (rw q at e) in rw (upd-same g (suc m) x, sum-out m g (suc m) x (omega arith)) (omega arith))
+  | no q ↦ let ih : sumTo m (upd g i x) ≡ sumTo m g + d = sum-upd m g i x d lo (omega arith) e in rw (upd-other g i x (suc m) (ne-eqb (suc m) i (λ z. q (sym z)))) (omega arith)
+]
+
+module _ (n f : ℕ) where
+  puts-new : (l : Sent) (a : Answer) → New l a → New l (proposeIfSufficient n f a)
+  unfolding proposing
+  puts-new l a h = sufficient-cases (New l) n f a (λ q. record { fresh = h .fresh }) h
+
+  module _ (b : View) (inv : Inv n f b) (i : ℕ) where
+    abbrev c : Controller
+    c = b .ctl i
+
+    abbrev l : Sent
+    l = b .state .sent i
+
+    -- nobody was sent a kind that its controller has not come to
+    unvoted : runs c ≡ true → phase c ≡ 0 → (j : ℕ) → has (l .vote .to) j ≡ false
+    unvoted r p j = refuted _ (λ e. no-both (votedBy i l) (inv .lines i .vote-to j e .0) (inv .owns i .phased .fresh0 r p))
+
+    unacked : runs c ≡ true → phase c ≡ 1 → (j : ℕ) → has (l .ack .to) j ≡ false
+    unacked r p j = refuted _ (λ e. no-both (ackedBy i l) (inv .lines i .ack-to j e .0) (inv .owns i .phased .fresh1 r (omega arith)))
+
+    uncalled : runs c ≡ true → phase c ≡ 2 → (j : ℕ) → has (l .help .to) j ≡ false
+    uncalled r p j = refuted _ (λ e. no-both (frozenBy i l) (inv .lines i .help-to j e) (inv .owns i .phased .fresh2 r (omega arith)))
+
+    vote-new : (w : Bool) (t : ℕ) → runs c ≡ true → phase c ≡ 0 → New l (voteRule n f i w t c)
+    vote-new w t r p = record { fresh = fresh }
+      where
+        fresh : (kind : Kind) (j : ℕ) → has (receiversOf (sendOf kind ((voteRule n f i w t c) .sends))) j ≡ true → has ((ofKind kind l) .to) j ≡ false
+        fresh Vote j e = unvoted r p j
+        fresh Ack j e = unfold voteRule in nobody j e
+        fresh Help j e = unfold voteRule in nobody j e
+        fresh Helped j e = unfold voteRule in nobody j e
+
+    first-new : runs c ≡ true → phase c ≡ 1 → New l (firstTimeout n f i c)
+    first-new r p = record { fresh = fresh }
+      where
+        fresh : (kind : Kind) (j : ℕ) → has (receiversOf (sendOf kind ((firstTimeout n f i c) .sends))) j ≡ true → has ((ofKind kind l) .to) j ≡ false
+        fresh Vote j e = unfold firstTimeout in nobody j e
+        fresh Ack j e = unacked r p j
+        fresh Help j e = unfold firstTimeout in nobody j e
+        fresh Helped j e = unfold firstTimeout in nobody j e
+
+    ready-new : (s : VoteSet) (next : Controller) → New l (ready s next)
+    ready-new s next = record { fresh = fresh }
+      where
+        fresh : (kind : Kind) (j : ℕ) → has (receiversOf (sendOf kind ((ready s next) .sends))) j ≡ true → has ((ofKind kind l) .to) j ≡ false
+        fresh Vote j e = unfold ready in nobody j e
+        fresh Ack j e = unfold ready in nobody j e
+        fresh Help j e = unfold ready in nobody j e
+        fresh Helped j e = unfold ready in nobody j e
+
+    calls-new : (s : VoteSet) (next : Controller) → runs c ≡ true → phase c ≡ 2 → New l (callsHelp n f i s next)
+    calls-new s next r p = record { fresh = fresh }
+      where
+        fresh : (kind : Kind) (j : ℕ) → has (receiversOf (sendOf kind ((callsHelp n f i s next) .sends))) j ≡ true → has ((ofKind kind l) .to) j ≡ false
+        fresh Vote j e = unfold callsHelp in nobody j e
+        fresh Ack j e = unfold callsHelp in nobody j e
+        fresh Help j e = uncalled r p j
+        fresh Helped j e = unfold callsHelp in nobody j e
+
+    second-new : runs c ≡ true → phase c ≡ 2 → New l (secondTimeout n f i c)
+    second-new r p = second-cases (New l) n f i c (λ d. ready-new _ _) (λ e. unfold proposing in record { fresh = (ready-new _ _) .fresh }) (λ e. puts-new l _ (calls-new _ _ r p))
+
+    -- a caller that was answered is among those answered
+    answers-new : (j : ℕ) → phase c ≡ 3 → has (c .help .answered) j ≡ false → New l (answersCall j c)
+    answers-new j p q = record { fresh = fresh }
+      where
+        fresh : (kind : Kind) (k : ℕ) → has (receiversOf (sendOf kind ((answersCall j c) .sends))) k ≡ true → has ((ofKind kind l) .to) k ≡ false
+        fresh Vote k e = unfold answersCall in nobody k e
+        fresh Ack k e = unfold answersCall in nobody k e
+        fresh Help k e = unfold answersCall in nobody k e
+        fresh Helped k e = unfold answersCall in elim (insert-only 0 j k e) [
+          | inr z ↦ nobody k z
+          | inl z ↦ rw z (refuted _ (λ h. no-both (has (c .help .answered) j) (inv .owns i .helping .answered-copy (omega arith) j h) q))
+        ]
+
+    arrives-new : (kind : Kind) (j : ℕ) (s : VoteSet) → New l (arrives kind n f j s c)
+    unfolding arrives
+    arrives-new Vote j s = vote-cases (New l) s c (λ p. becomes-new l _) (passed-new l c)
+    arrives-new Ack j s = ack-cases (New l) n f j s c (λ p. puts-new l _ (becomes-new l _)) (λ p. passed-new l c)
+    arrives-new Help j s = help-cases (New l) j c (λ p q. answers-new j p q) (passed-new l c)
+    arrives-new Helped j s = helped-cases (New l) n f j s c (λ p q. puts-new l _ (becomes-new l _)) (passed-new l c)
+
+  -- the rule of every accepted event
+  pub rule-new : (b : View) → Inv n f b → (e : Event) → accepts n f b e ≡ true → New (b .state .sent (subject e)) (ruleAnswer n f b e)
+  unfolding ruleAnswer accepts firstNo
+  rule-new b inv (Lock a c) q = passed-new _ _
+  rule-new b inv (Order o) q = passed-new _ _
+  rule-new b inv (Cast i w t) q = vote-new b inv i w t (search (ask-l, ask-r, and-l, and-r) depth 14) (eqb-true _ _ (search (ask-l, ask-r, and-l, and-r) depth 14))
+  rule-new b inv (Deliver i j k) q = arrives-new b inv j k i _
+  rule-new b inv (Timeout i) q = timeout-cases (New (b .state .sent i)) n f i (b .ctl i) (λ p. first-new b inv i (search (ask-l, ask-r, and-l, and-r) depth 14) p)
+      (λ e. second-new b inv i (search (ask-l, ask-r, and-l, and-r) depth 14) (eqb-true _ _ (second (eqb (phase (b .ctl i)) 1) _ e (search (ask-l, ask-r, and-l, and-r) depth 14))))
+  rule-new b inv (Decide i w) q = becomes-new _ _
+  rule-new b inv (Stop i) q = becomes-new _ _
+  rule-new b inv (Save i) q = passed-new _ _
+  rule-new b inv (Restore i) q = restore-cases (New (b .state .sent i)) _ _ (b .ctl i) (λ x z. unfold restore in by-cond (New (b .state .sent i)) (isStopped ((b .ctl i) .condition)) _ _ (λ y. becomes-new _ _) (λ y. passed-new _ _)) (passed-new _ _)
+
+  -- what is sent of a kind after an answer
+  after-send : (old : Outgoing) (s : Send) (j : ℕ) → has ((afterSend old s) .to) j ≡ (has (old .to) j || has (receiversOf s) j)
+  after-send old Nothing j = sym (rw (has-none j) (or-false (has (old .to) j)))
+  after-send old (To r x) j = has-or (old .to) r j
+
+  pub sent-more : (l : Sent) (a : Sends) (kind : Kind) (j : ℕ) → has ((ofKind kind (sentAfter l a)) .to) j ≡ (has ((ofKind kind l) .to) j || has (receiversOf (sendOf kind a)) j)
+  unfolding sentAfter
+  sent-more l a Vote j = after-send (l .vote) (a .vote) j
+  sent-more l a Ack j = after-send (l .ack) (a .ack) j
+  sent-more l a Help j = after-send (l .help) (a .help) j
+  sent-more l a Helped j = after-send (l .helped) (a .helped) j
+
+  abbrev sizeOf : Kind → Sent → ℕ
+  sizeOf kind l = countTo n (has ((ofKind kind l) .to))
+
+  more-sized : (l : Sent) (a : Answer) (kind : Kind) → New l a → sizeOf kind (sentAfter l (a .sends)) ≡ sizeOf kind l + countTo n (has (receiversOf (sendOf kind (a .sends))))
+  more-sized l a kind h = count-union n (has ((ofKind kind l) .to)) (has (receiversOf (sendOf kind (a .sends)))) (has ((ofKind kind (sentAfter l (a .sends))) .to)) (sent-more l (a .sends) kind) (λ j e. h .fresh kind j e)
+
+  -- all senders together
+  abbrev pub telegramsV : View → Kind → ℕ
+  telegramsV v kind = sumTo n (λ i. sizeOf kind (v .state .sent i))
+
+  pub commit-counted : (b : View) (i : ℕ) (a : Answer) (kind : Kind) → 1 ≤ i → i ≤ n → New (b .state .sent i) a
+      → telegramsV (commitV b i a) kind ≡ telegramsV b kind + countTo n (has (receiversOf (sendOf kind (a .sends))))
+  unfolding commitV
+  commit-counted b i a kind lo hi h = ap (sumTo n) (part (sizeOf kind) (b .state .sent) i (sentAfter (b .state .sent i) (a .sends)))
+      ∙ sum-upd n (λ k. sizeOf kind (b .state .sent k)) i _ _ lo hi (more-sized (b .state .sent i) a kind h)

@@ -1,0 +1,212 @@
+-- From the new bench on: either nothing was accepted yet, or one lock was, and the views start from a fresh bench of that n and f.
+use Prim.Native.Nat.{ℕ, zero, suc, _+_, _≤_, _<_}
+use mathlib.Core.Path.{_≡_, refl, sym, _∙_, ap}
+use mathlib.Core.Bool.{Bool, true, false}
+use mathlib.Core.List.{List, [], _∷_, _++_}
+use native.Mathlib.Omega.{arith}
+use lib.ListN.{length, replicate}
+use mathlib.Core.Logic.{_⊎_, inl, inr}
+use Rattle.ground.specs.Tests.{split, by-cond}
+use Rattle.ground.specs.MaskLaws.{has-none}
+use Rattle.ground.specs.Lists.{nth}
+use Rattle.votes.specs.VoteSets.{empty}
+use Rattle.votes.specs.declared.VoteSet.{VoteSet}
+use Rattle.ground.specs.Limit.{limit}
+use Rattle.model.specs.Ranges.{sizesInRange}
+use Rattle.model.specs.declared.Outcome.the-variants.{None}
+use Rattle.model.specs.declared.Event.{Event}
+use Rattle.model.specs.declared.Event.the-variants.{Lock, Order, Cast, Deliver, Timeout, Decide, Stop, Save, Restore}
+use Rattle.protocol.specs.declared.Station.{Station}
+use Rattle.protocol.specs.declared.Saved.the-variants.{Nothing}
+use Rattle.protocol.specs.declared.Bench.{Bench}
+use Rattle.protocol.specs.Controllers.{outcome}
+use Rattle.protocol.specs.Benches.{unsentAll, fresh, freshStation, benchOf, newBench, station}
+use Rattle.protocol.specs.Questions.{isAccepted, unless, firstNo, reply}
+use Rattle.protocol.specs.Steps.{perform, step, run}
+use Rattle.protocol.specs.Display.{shownOutcome, shownPosition}
+use Rattle.protocol.proofs.invariant.Invariant.{votedBy, ackedBy, Inv}
+use Rattle.protocol.proofs.invariant.Decisions.{Blank, blank-inv}
+use Rattle.protocol.proofs.clean.Log.{entered}
+use Rattle.protocol.proofs.clean.Parts.{Good, blank-good}
+use Rattle.protocol.proofs.view.Simulation.{view, Sound, ranges}
+use Rattle.protocol.proofs.claim.Moments.{push, logOf}
+
+-- one lock was accepted
+pub record Opened (es : List Event) : Type 0 where
+  pub n : ℕ
+  pub f : ℕ
+  pub pre : List Event
+  pub post : List Event
+  pub parts : es ≡ pre ++ (Lock n f ∷ post)
+  pub sized : sizesInRange n f ≡ true
+  pub idle : run newBench pre ≡ newBench
+  pub locks : step newBench (Lock n f) ≡ benchOf true n f
+  pub is : run newBench es ≡ run (benchOf true n f) post
+  pub silent : logOf newBench [] es ≡ logOf (benchOf true n f) [] post
+
+again : (e : Event) (es : List Event) → step newBench e ≡ newBench → push newBench e [] ≡ [] → (run newBench es ≡ newBench) ⊎ Opened es → (run newBench (e ∷ es) ≡ newBench) ⊎ Opened (e ∷ es)
+unfolding run logOf
+again e es q z (inl p) = inl (ap (λ (b : Bench). run b es) q ∙ p)
+again e es q z (inr o) = inr (record {
+  n = o .n;
+  f = o .f;
+  pre = e ∷ o .pre;
+  post = o .post;
+  parts = ap (λ (l : List Event). e ∷ l) (o .parts);
+  sized = o .sized;
+  idle = ap (λ (b : Bench). run b (o .pre)) q ∙ o .idle;
+  locks = o .locks;
+  is = ap (λ (b : Bench). run b es) q ∙ o .is;
+  silent = ap (λ (b : Bench). logOf b (push newBench e []) es) q ∙ ap (λ (l : List Event). logOf newBench l es) z ∙ o .silent;
+})
+
+lock-push : (a c : ℕ) → push newBench (Lock a c) [] ≡ []
+unfolding push entered
+lock-push a c = by-cond (λ (l : List Event). l ≡ []) (isAccepted (reply newBench (Lock a c))) [] [] (λ e. refl) (λ e. refl)
+
+lock-step : (a c : ℕ) (es : List Event) → (run newBench es ≡ newBench) ⊎ Opened es → (run newBench (Lock a c ∷ es) ≡ newBench) ⊎ Opened (Lock a c ∷ es)
+unfolding run logOf
+lock-step a c es h = elim (split (sizesInRange a c)) [
+  | inl q ↦ inr (record {
+    n = a;
+    f = c;
+    pre = [];
+    post = es;
+    parts = refl;
+    sized = q;
+    idle = refl;
+    locks = taken a c q;
+    is = ap (λ (b : Bench). run b es) (taken a c q);
+    silent = ap (λ (b : Bench). logOf b (push newBench (Lock a c) []) es) (taken a c q) ∙ ap (λ (l : List Event). logOf (benchOf true a c) l es) (lock-push a c);
+  })
+  | inr q ↦ again (Lock a c) es (passedOver a c q) (lock-push a c) h
+]
+  where
+    taken : (a c : ℕ) → sizesInRange a c ≡ true → step newBench (Lock a c) ≡ benchOf true a c
+    taken a c q = unfold step reply firstNo unless benchOf perform in rw q
+
+    passedOver : (a c : ℕ) → sizesInRange a c ≡ false → step newBench (Lock a c) ≡ newBench
+    passedOver a c q = unfold step reply firstNo unless in rw q
+
+-- before the lock every other event is refused
+abbrev pub NotLock : Event → Type 0
+NotLock (Lock a c) = ⊥
+NotLock (Order o) = Unit {0}
+NotLock (Cast i w t) = Unit {0}
+NotLock (Deliver i j k) = Unit {0}
+NotLock (Timeout i) = Unit {0}
+NotLock (Decide i w) = Unit {0}
+NotLock (Stop i) = Unit {0}
+NotLock (Save i) = Unit {0}
+NotLock (Restore i) = Unit {0}
+
+pub unlocked : (e : Event) → NotLock e → isAccepted (reply newBench e) ≡ false
+unfolding reply firstNo unless benchOf
+unlocked (Lock a c) h = absurd h
+unlocked (Order o) h = refl
+unlocked (Cast i w t) h = refl
+unlocked (Deliver i j k) h = refl
+unlocked (Timeout i) h = refl
+unlocked (Decide i w) h = refl
+unlocked (Stop i) h = refl
+unlocked (Save i) h = refl
+unlocked (Restore i) h = refl
+
+pub idle : (e : Event) → NotLock e → step newBench e ≡ newBench
+unfolding step
+idle e h = rw (unlocked e h)
+
+idle-push : (e : Event) → NotLock e → push newBench e [] ≡ []
+unfolding push
+idle-push e h = rw (unlocked e h)
+
+waits : (e : Event) (es : List Event) → NotLock e → (run newBench es ≡ newBench) ⊎ Opened es → (run newBench (e ∷ es) ≡ newBench) ⊎ Opened (e ∷ es)
+waits e es h = again e es (idle e h) (idle-push e h)
+
+pub start : (es : List Event) → (run newBench es ≡ newBench) ⊎ Opened es
+start [] = unfold run in inl refl
+start (Lock a c ∷ es) = lock-step a c es (start es)
+start (Order o ∷ es) = waits (Order o) es tt (start es)
+start (Cast i w t ∷ es) = waits (Cast i w t) es tt (start es)
+start (Deliver i j k ∷ es) = waits (Deliver i j k) es tt (start es)
+start (Timeout i ∷ es) = waits (Timeout i) es tt (start es)
+start (Decide i w ∷ es) = waits (Decide i w) es tt (start es)
+start (Stop i ∷ es) = waits (Stop i) es tt (start es)
+start (Save i ∷ es) = waits (Save i) es tt (start es)
+start (Restore i ∷ es) = waits (Restore i) es tt (start es)
+
+-- the stations of a bench on which nothing has happened
+pub all-of-copies : {A : Type 0} (P : A → Type 0) (d a : A) → P d → P a → (m k : ℕ) → P (nth d (replicate m a) k)
+unfolding nth
+all-of-copies P d a x y m zero = x
+all-of-copies P d a x y zero (suc k) = x
+all-of-copies P d a x y (suc m) (suc zero) = y
+all-of-copies P d a x y (suc m) (suc (suc k)) = all-of-copies P d a x y m (suc k)
+
+pub record Fresh (s : Station) : Type 0 where
+  pub sent : s .sent ≡ unsentAll
+  pub ctl : Blank (s .controller)
+  pub saved : s .saved ≡ Nothing
+  pub position : s .controller .gate .position ≡ 0
+
+fresh-is : (l : List VoteSet) → Fresh (freshStation l)
+unfolding freshStation fresh
+fresh-is l = record { sent = refl; ctl = record { votes = refl; phase = refl; acks-none = refl; helps-none = refl; helped = refl; cnt-none = refl; cnt-help-none = refl; waiting = refl; outcome = refl }; saved = refl; position = refl }
+
+pub freshes : (locked : Bool) (n f k : ℕ) → Fresh (station (benchOf locked n f) k)
+unfolding station benchOf
+freshes locked n f = all-of-copies Fresh (freshStation []) (freshStation (replicate limit empty)) (fresh-is []) (fresh-is (replicate limit empty)) limit
+
+module _ (n f : ℕ) (sized : sizesInRange n f ≡ true) where
+  abbrev b₀ : Bench
+  b₀ = benchOf true n f
+
+  room : (k : ℕ) → 1 ≤ k → k ≤ limit → length ((station b₀ k) .controller .acks .sets) ≡ limit
+  unfolding station benchOf nth
+  room k a b = copies limit k a b
+    where
+      copies : (m k : ℕ) → 1 ≤ k → k ≤ m → length ((nth (freshStation []) (replicate m (freshStation (replicate limit empty))) k) .controller .acks .sets) ≡ limit
+      copies m zero a b = absurd (omega arith)
+      copies zero (suc k) a b = absurd (omega arith)
+      copies (suc m) (suc zero) a b = unfold nth freshStation fresh in refl
+      copies (suc m) (suc (suc k)) a b = copies m (suc k) (omega arith) (omega arith)
+
+  pub lock-sound : Sound b₀
+  unfolding benchOf
+  lock-sound = record { locked = refl; size = refl; sized = sized }
+
+  pub lock-inv : Inv n f (view b₀)
+  unfolding view
+  lock-inv = blank-inv n f _ _ _ _ (λ k. freshes true n f k .sent) (nothing .0) (nothing .1) (nothing .2) (λ k. freshes true n f k .ctl)
+      (λ k x y. let q : length ((station b₀ k) .controller .acks .sets) ≡ limit = room k x (let s : n ≤ limit = ranges n f sized .small in omega arith) in let s : n ≤ limit = ranges n f sized .small in omega arith)
+      (λ k. rw (freshes true n f k .saved) (omega arith)) (λ k e. rw (freshes true n f k .saved))
+    where
+      nothing : (b₀ .shared .consensus .«move_proposed» ≡ false) × (b₀ .shared .consensus .«stay_proposed» ≡ false) × (b₀ .shared .consensus .decision ≡ None)
+      nothing = unfold benchOf in (refl, refl, refl)
+
+  unsent-by : (k : ℕ) → (votedBy k unsentAll ≡ false) × (ackedBy k unsentAll ≡ false)
+  unfolding unsentAll
+  unsent-by k = (has-none k, has-none k)
+
+  pub lock-good : (f<n : f < n) → Good n f f<n (view b₀) []
+  unfolding view
+  lock-good f<n = blank-good n f f<n _ (λ k. freshes true n f k .ctl) (λ k. ap (ackedBy k) (freshes true n f k .sent) ∙ unsent-by k .1)
+
+  pub lock-unvoted : (k : ℕ) → votedBy k ((view b₀) .state .sent k) ≡ false
+  unfolding view
+  lock-unvoted k = ap (votedBy k) (freshes true n f k .sent) ∙ unsent-by k .0
+
+-- a new bench holds no outcome, and its first accepted event moves no gate
+pub new-holds : (k : ℕ) → shownOutcome newBench k ≡ None
+new-holds k = freshes false 0 0 k .ctl .outcome
+
+pub new-still : (e : Event) (k : ℕ) → shownPosition (step newBench e) k ≡ shownPosition newBench k
+new-still (Lock a c) k = unfold step perform in by-cond (λ (b : Bench). shownPosition b k ≡ shownPosition newBench k) (isAccepted (reply newBench (Lock a c))) (benchOf true a c) newBench (λ q. freshes true a c k .position ∙ sym (freshes false 0 0 k .position)) (λ q. refl)
+new-still (Order o) k = ap (λ (b : Bench). shownPosition b k) (idle (Order o) tt)
+new-still (Cast i w t) k = ap (λ (b : Bench). shownPosition b k) (idle (Cast i w t) tt)
+new-still (Deliver i j x) k = ap (λ (b : Bench). shownPosition b k) (idle (Deliver i j x) tt)
+new-still (Timeout i) k = ap (λ (b : Bench). shownPosition b k) (idle (Timeout i) tt)
+new-still (Decide i w) k = ap (λ (b : Bench). shownPosition b k) (idle (Decide i w) tt)
+new-still (Stop i) k = ap (λ (b : Bench). shownPosition b k) (idle (Stop i) tt)
+new-still (Save i) k = ap (λ (b : Bench). shownPosition b k) (idle (Save i) tt)
+new-still (Restore i) k = ap (λ (b : Bench). shownPosition b k) (idle (Restore i) tt)

@@ -1,0 +1,227 @@
+-- What an accepted event comes down to: behind the questions every call of a controller is its rule. `performV` gives each event's rule, and the
+-- arguments about orders go by its cases.
+use Prim.Native.Nat.{ℕ}
+use mathlib.Core.Path.{_≡_, refl, _∙_, ap}
+use mathlib.Core.Bool.{Bool, true, false, _&&_, _||_, cond, false≢true}
+use mathlib.Core.List.{List, [], _∷_}
+use lib.Dec.{eqb, leb}
+use mathlib.Core.Logic.{inl, inr}
+use borrow.Author.Tests.{eqb-true}
+use Rattle.ground.specs.Tests.{split, and-l, and-r, eqb-same}
+use Rattle.ground.specs.Update.{upd, fun-ext}
+use Rattle.model.specs.Ranges.{sizesInRange, isController}
+use Rattle.model.specs.Routes.{route}
+use Rattle.model.specs.Numbers.{wordOf, isMove, isStay}
+use Rattle.model.specs.declared.Kind.{Kind}
+use Rattle.model.specs.declared.Checkpoint.{Checkpoint}
+use Rattle.model.specs.declared.Event.{Event}
+use Rattle.model.specs.declared.Event.the-variants.{Lock, Order, Cast, Deliver, Timeout, Decide, Stop, Save, Restore}
+use Rattle.protocol.specs.declared.Condition.the-variants.{Stopped}
+use Rattle.protocol.specs.declared.Controller.{Controller}
+use Rattle.protocol.specs.declared.Answer.{Answer}
+use Rattle.protocol.specs.declared.Identity.{Identity}
+use Rattle.protocol.specs.declared.Saved.the-variants.{Newest}
+use Rattle.protocol.specs.Controllers.{runs, standsBy, phase, outcome, cleared, conclude}
+use Rattle.protocol.specs.Rules.{passedOver, becomes, voteRule, firstTimeout, secondTimeout}
+use Rattle.protocol.specs.Calls.{validIdentity, vote, addressed, arrives, receive, timeout, awaitsDecision, decide, stop, checkpointOf, save}
+use Rattle.protocol.specs.Benches.{identity, message, ofKind, sentAfter}
+use Rattle.protocol.specs.Events.{subject, source}
+use Rattle.protocol.specs.Questions.{firstNo}
+use Rattle.protocol.specs.Steps.{answerTo, proposedTo, decidedAs, stationAfter, answering, keeping, restoreFrom, effect}
+use Rattle.protocol.proofs.view.View.{View, stationV, putBackV, sharedV, openedV, accepts, playV, ask-l, ask-r}
+
+-- one controller's answer put back
+unfoldable pub commitV : View → ℕ → Answer → View
+commitV v i a = record {
+  order = v .order;
+  state = record {
+    sent = upd (v .state .sent) i (sentAfter (v .state .sent i) (a .sends));
+    consensus = record {
+      «move_proposed» = v .state .consensus .«move_proposed» || isMove (a .proposal);
+      «stay_proposed» = v .state .consensus .«stay_proposed» || isStay (a .proposal);
+      decision = v .state .consensus .decision;
+    };
+  };
+  ctl = upd (v .ctl) i (a .controller);
+  saved = v .saved;
+}
+
+-- the consensus has chosen
+unfoldable pub chosen : View → Bool → View
+chosen v move = record {
+  order = v .order;
+  state = record {
+    sent = v .state .sent;
+    consensus = record { «move_proposed» = v .state .consensus .«move_proposed»; «stay_proposed» = v .state .consensus .«stay_proposed»; decision = wordOf move };
+  };
+  ctl = v .ctl;
+  saved = v .saved;
+}
+
+-- a checkpoint kept
+unfoldable pub savedV : View → ℕ → Checkpoint → View
+savedV v i card = record { order = v .order; state = v .state; ctl = v .ctl; saved = upd (v .saved) i (Newest card) }
+
+upd-id : {A : Type 0} (F : ℕ → A) (i : ℕ) → upd F i (F i) ≡ F
+unfolding upd
+upd-id F i = fun-ext (upd F i (F i)) F (λ k. elim (split (eqb k i)) [ inl e ↦ rw (e, eqb-true k i e) | inr e ↦ rw e ])
+
+module _ (n f : ℕ) where
+  abbrev pub identityV : View → ℕ → Identity
+  identityV v i = identity (sharedV n f v) i
+
+  abbrev pub checkpointAt : View → ℕ → Checkpoint
+  checkpointAt v i = record { id = i; n = n; f = f; outcome = outcome (v .ctl i); order = v .order; position = (v .ctl i) .gate .position }
+
+  -- the bell's rule by the stage
+  unfoldable pub timeoutRule : ℕ → Controller → Answer
+  timeoutRule i c = cond (eqb (phase c) 1) (firstTimeout n f i c) (secondTimeout n f i c)
+
+  -- the answer by the rules
+  unfoldable pub ruleAnswer : View → Event → Answer
+  ruleAnswer v (Lock a c) = passedOver (v .ctl 0)
+  ruleAnswer v (Order o) = passedOver (v .ctl 0)
+  ruleAnswer v (Cast i willing target) = voteRule n f i willing target (v .ctl i)
+  ruleAnswer v (Deliver i j kind) = arrives kind n f i ((ofKind kind (v .state .sent i)) .votes) (v .ctl j)
+  ruleAnswer v (Timeout i) = timeoutRule i (v .ctl i)
+  ruleAnswer v (Decide i move) = becomes (conclude (v .ctl i) (wordOf move))
+  ruleAnswer v (Stop i) = becomes (cleared Stopped (v .ctl i))
+  ruleAnswer v (Save i) = passedOver (v .ctl i)
+  ruleAnswer v (Restore i) = restoreFrom (identityV v i) (v .saved i) (v .ctl i)
+
+  unfoldable pub performV : View → Event → View
+  performV v (Lock a c) = v
+  performV v (Order o) = openedV n f v o
+  performV v (Cast i willing target) = commitV v i (voteRule n f i willing target (v .ctl i))
+  performV v (Deliver i j kind) = commitV v j (arrives kind n f i ((ofKind kind (v .state .sent i)) .votes) (v .ctl j))
+  performV v (Timeout i) = commitV v i (timeoutRule i (v .ctl i))
+  performV v (Decide i move) = commitV (chosen v move) i (becomes (conclude (v .ctl i) (wordOf move)))
+  performV v (Stop i) = commitV v i (becomes (cleared Stopped (v .ctl i)))
+  performV v (Save i) = savedV v i (checkpointAt v i)
+  performV v (Restore i) = commitV v i (restoreFrom (identityV v i) (v .saved i) (v .ctl i))
+
+  module _ (v : View) where
+    -- an answer, put back
+    answer-back : (i : ℕ) (a a′ : Answer) → a ≡ a′ → putBackV v i (answering (sharedV n f v) (stationV v i) a) ≡ commitV v i a′
+    answer-back i a a′ e = back ∙ ap (commitV v i) e
+      where
+        back : putBackV v i (answering (sharedV n f v) (stationV v i) a) ≡ commitV v i a
+        back = unfold putBackV answering proposedTo stationAfter commitV in λ p. record {
+          order = v .order;
+          state = record {
+            sent = upd (v .state .sent) i (sentAfter (v .state .sent i) (a .sends));
+            consensus = record {
+              «move_proposed» = v .state .consensus .«move_proposed» || isMove (a .proposal);
+              «stay_proposed» = v .state .consensus .«stay_proposed» || isStay (a .proposal);
+              decision = v .state .consensus .decision;
+            };
+          };
+          ctl = upd (v .ctl) i (a .controller);
+          saved = upd-id (v .saved) i p;
+        }
+
+    decision-back : (i : ℕ) (w : Bool) (a a′ : Answer) → a ≡ a′ → putBackV v i (answering (decidedAs (sharedV n f v) w) (stationV v i) a) ≡ commitV (chosen v w) i a′
+    decision-back i w a a′ e = back ∙ ap (commitV (chosen v w) i) e
+      where
+        back : putBackV v i (answering (decidedAs (sharedV n f v) w) (stationV v i) a) ≡ commitV (chosen v w) i a
+        back = unfold putBackV answering decidedAs proposedTo stationAfter commitV chosen in λ p. record {
+          order = v .order;
+          state = record {
+            sent = upd (v .state .sent) i (sentAfter (v .state .sent i) (a .sends));
+            consensus = record {
+              «move_proposed» = v .state .consensus .«move_proposed» || isMove (a .proposal);
+              «stay_proposed» = v .state .consensus .«stay_proposed» || isStay (a .proposal);
+              decision = wordOf w;
+            };
+          };
+          ctl = upd (v .ctl) i (a .controller);
+          saved = upd-id (v .saved) i p;
+        }
+
+    saved-back : (i : ℕ) → (runs (v .ctl i) || standsBy (v .ctl i)) ≡ true → playV n f v (Save i) ≡ savedV v i (checkpointAt v i)
+    unfolding playV effect putBackV keeping savedV
+    saved-back i p = λ t. record {
+      order = v .order;
+      state = record { sent = upd-id (v .state .sent) i t; consensus = v .state .consensus };
+      ctl = upd-id (v .ctl) i t;
+      saved = upd (v .saved) i (save-is t);
+    }
+      where
+        save-is : save (identityV v i) (v .ctl i) ≡ Newest (checkpointAt v i)
+        save-is = unfold save checkpointOf in rw p
+
+    -- behind the questions a call is its rule
+    module _ (sized : sizesInRange n f ≡ true) (open′ : leb 1 (v .order) ≡ true) where
+      valid : (i : ℕ) → isController n i ≡ true → validIdentity (identityV v i) ≡ true
+      unfolding validIdentity
+      valid i e = rw (sized, e, open′)
+
+      vote-is : (i : ℕ) (w : Bool) (t : ℕ) (c : Controller) → isController n i ≡ true → runs c ≡ true → eqb (phase c) 0 ≡ true → vote (identityV v i) w t c ≡ voteRule n f i w t c
+      unfolding vote
+      vote-is i w t c m r p = rw (valid i m, r, p)
+
+      addressed-is : (kind : Kind) (i j : ℕ) → isController n i ≡ true → route f kind i j ≡ true → addressed (identityV v j) (message (sharedV n f v) kind i j (v .state .sent i)) ≡ true
+      unfolding addressed
+      addressed-is kind i j m r = rw (eqb-same (v .order), eqb-same n, eqb-same f, eqb-same j, m, r)
+
+      receive-is : (kind : Kind) (i j : ℕ) (c : Controller) → isController n i ≡ true → isController n j ≡ true → route f kind i j ≡ true → runs c ≡ true
+          → receive (identityV v j) (message (sharedV n f v) kind i j (v .state .sent i)) c ≡ arrives kind n f i ((ofKind kind (v .state .sent i)) .votes) c
+      unfolding receive
+      receive-is kind i j c m m′ r q = rw (valid j m′, q, addressed-is kind i j m r)
+
+      timeout-is : (i : ℕ) (c : Controller) → isController n i ≡ true → runs c ≡ true → (eqb (phase c) 1 || eqb (phase c) 2) ≡ true → timeout (identityV v i) c ≡ timeoutRule i c
+      unfolding timeout timeoutRule
+      timeout-is i c m r p = rw (valid i m, r) (either (eqb (phase c) 1) (eqb (phase c) 2) p)
+        where
+          either : (x y : Bool) → (x || y) ≡ true → cond x (firstTimeout n f i c) (cond y (secondTimeout n f i c) (passedOver c)) ≡ cond x (firstTimeout n f i c) (secondTimeout n f i c)
+          either true y e = refl
+          either false true e = refl
+          either false false e = absurd (false≢true e)
+
+  decide-is : (w : Bool) (c : Controller) → (runs c || standsBy c) ≡ true → (standsBy c || eqb (phase c) 3) ≡ true → decide w c ≡ becomes (conclude c (wordOf w))
+  unfolding decide awaitsDecision
+  decide-is w c p q = rw (both (runs c) (standsBy c) (eqb (phase c) 3) p q)
+    where
+      both : (r s x : Bool) → (r || s) ≡ true → (s || x) ≡ true → (s || (r && x)) ≡ true
+      both r true x p q = refl
+      both true false x p q = q
+      both false false x p q = absurd (false≢true p)
+
+  stop-is : (c : Controller) → (runs c || standsBy c) ≡ true → stop c ≡ becomes (cleared Stopped c)
+  unfolding stop
+  stop-is c p = rw p
+
+  -- behind the questions the answer is the rule's
+  abbrev pub answerV : View → Event → Answer
+  answerV v e = answerTo (sharedV n f v) e (v .state .sent (source e)) (stationV v (subject e))
+
+  pub answered-by-rule : sizesInRange n f ≡ true → (v : View) (e : Event) → accepts n f v e ≡ true → answerV v e ≡ ruleAnswer v e
+  unfolding answerTo ruleAnswer accepts firstNo
+  answered-by-rule z v (Lock a c) q = refl
+  answered-by-rule z v (Order o) q = refl
+  answered-by-rule z v (Cast i w t) q = vote-is v z (search (ask-l, ask-r) depth 14) i w t _ (search (ask-l, ask-r) depth 14) (search (ask-l, ask-r) depth 14) (search (ask-l, ask-r) depth 14)
+  answered-by-rule z v (Deliver i j k) q = receive-is v z (search (ask-l, ask-r) depth 14) k i j _ (search (ask-l, ask-r, and-l, and-r) depth 14) (search (ask-l, ask-r, and-l, and-r) depth 14) (search (ask-l, ask-r) depth 14) (search (ask-l, ask-r) depth 14)
+  answered-by-rule z v (Timeout i) q = timeout-is v z (search (ask-l, ask-r) depth 14) i _ (search (ask-l, ask-r) depth 14) (search (ask-l, ask-r) depth 14) (search (ask-l, ask-r) depth 14)
+  answered-by-rule z v (Decide i w) q = decide-is w _ (search (ask-l, ask-r) depth 14) (search (ask-l, ask-r) depth 14)
+  answered-by-rule z v (Stop i) q = stop-is _ (search (ask-l, ask-r) depth 14)
+  answered-by-rule z v (Save i) q = refl
+  answered-by-rule z v (Restore i) q = refl
+
+  pub performed : sizesInRange n f ≡ true → (v : View) (e : Event) → accepts n f v e ≡ true → playV n f v e ≡ performV v e
+  unfolding playV effect performV ruleAnswer
+  performed z v (Lock a c) q = refl
+  performed z v (Order o) q = refl
+  performed z v (Cast i w t) q = answer-back v i _ _ (answered-by-rule z v (Cast i w t) q)
+  performed z v (Deliver i j k) q = answer-back v j _ _ (answered-by-rule z v (Deliver i j k) q)
+  performed z v (Timeout i) q = answer-back v i _ _ (answered-by-rule z v (Timeout i) q)
+  performed z v (Decide i w) q = decision-back v i w _ _ (answered-by-rule z v (Decide i w) q)
+  performed z v (Stop i) q = answer-back v i _ _ (answered-by-rule z v (Stop i) q)
+  performed z v (Save i) q = saved-back v i (unfold accepts firstNo in search (ask-l, ask-r) depth 14)
+  performed z v (Restore i) q = answer-back v i _ _ (answered-by-rule z v (Restore i) q)
+
+  unfoldable pub stepV : View → Event → View
+  stepV v e = cond (accepts n f v e) (performV v e) v
+
+  unfoldable pub runV : View → List Event → View
+  runV v [] = v
+  runV v (e ∷ es) = runV (stepV v e) es

@@ -1,0 +1,109 @@
+-- The bench seen as functions of the controller's number, with n and f as they were locked. The questions and the effect of an event are the
+-- definitions' own; only where the stations lie differs. Simulation.antt shows that the bench of the declared types steps as its view does, and
+-- Performed.antt which rule an accepted event comes down to.
+use Prim.Native.Nat.{ℕ}
+use mathlib.Core.Path.{_≡_, refl, sym}
+use native.Mathlib.Omega.{arith}
+use mathlib.Core.Bool.{Bool, true, false, _||_}
+use lib.Dec.{eqb}
+use Rattle.ground.specs.Quantify.{allTo}
+use Rattle.ground.specs.Update.{upd}
+use Rattle.model.specs.declared.Outcome.{Outcome}
+use Rattle.model.specs.declared.Outcome.the-variants.{None}
+use Rattle.model.specs.declared.Event.{Event}
+use Rattle.model.specs.declared.Event.the-variants.{Lock, Order, Cast, Deliver, Timeout, Decide, Stop, Save, Restore}
+use Rattle.protocol.specs.declared.Controller.{Controller}
+use Rattle.protocol.specs.declared.Saved.{Saved}
+use Rattle.protocol.specs.declared.Saved.the-variants.{Nothing, Newest}
+use Rattle.protocol.specs.declared.Sent.{Sent}
+use Rattle.protocol.specs.declared.Station.{Station}
+use Rattle.protocol.specs.declared.Consensus.{Consensus}
+use Rattle.protocol.specs.declared.Shared.{Shared}
+use Rattle.protocol.specs.declared.Effect.{Effect}
+use Rattle.protocol.specs.Benches.{unsentAll, noConsensus}
+use Rattle.protocol.specs.Events.{subject, source}
+use Rattle.protocol.specs.Questions.{Reply, isAccepted, unless, firstNo, ended, factsOf, questionsOf}
+use Rattle.protocol.specs.Steps.{renewed, orderOpened, effect}
+
+-- what one order has brought: what was sent, the consensus
+pub record OrderState : Type 0 where
+  pub sent : ℕ → Sent
+  pub consensus : Consensus
+
+pub record View : Type 0 where
+  pub order : ℕ
+  pub state : OrderState
+  pub ctl : ℕ → Controller
+  pub saved : ℕ → Saved
+
+unfoldable pub newOrderState : OrderState
+newOrderState = record { sent = λ k. unsentAll; consensus = noConsensus }
+
+-- the order and the outcome on a checkpoint; 0 and none where there is none
+abbrev pub savedOrder : Saved → ℕ
+savedOrder Nothing = 0
+savedOrder (Newest c) = c .order
+
+abbrev pub savedOutcome : Saved → Outcome
+savedOutcome Nothing = None
+savedOutcome (Newest c) = c .outcome
+
+-- controller i's station; and the view with what an event leaves
+abbrev pub stationV : View → ℕ → Station
+stationV v i = record { controller = v .ctl i; sent = v .state .sent i; saved = v .saved i }
+
+unfoldable pub putBackV : View → ℕ → Effect → View
+putBackV v i t = record {
+  order = t .shared .order;
+  state = record { sent = upd (v .state .sent) i (t .station .sent); consensus = t .shared .consensus };
+  ctl = upd (v .ctl) i (t .station .controller);
+  saved = upd (v .saved) i (t .station .saved);
+}
+
+module _ (n f : ℕ) where
+  abbrev pub sharedV : View → Shared
+  sharedV v = record { locked = true; n = n; f = f; order = v .order; consensus = v .state .consensus }
+
+  abbrev pub mayOpenV : View → Bool
+  mayOpenV v = eqb (v .order) 0 || allTo n (λ k. ended (v .ctl k))
+
+  unfoldable pub accepts : View → Event → Bool
+  accepts v e = isAccepted (firstNo (questionsOf (factsOf (sharedV v) e (stationV v (subject e)) (v .state .sent (source e)) (mayOpenV v)) e))
+
+  -- a new order
+  unfoldable pub openedV : View → ℕ → View
+  openedV v o = record {
+    order = (orderOpened (sharedV v) o) .order;
+    state = record { sent = λ k. (renewed (stationV v k)) .sent; consensus = (orderOpened (sharedV v) o) .consensus };
+    ctl = λ k. (renewed (stationV v k)) .controller;
+    saved = λ k. (renewed (stationV v k)) .saved;
+  }
+
+  -- what an accepted event does
+  abbrev pub playOneV : View → Event → View
+  playOneV v e = putBackV v (subject e) (effect (sharedV v) e (v .state .sent (source e)) (stationV v (subject e)))
+
+  unfoldable pub playV : View → Event → View
+  playV v (Lock a c) = v
+  playV v (Order o) = openedV v o
+  playV v (Cast i willing target) = playOneV v (Cast i willing target)
+  playV v (Deliver i j kind) = playOneV v (Deliver i j kind)
+  playV v (Timeout i) = playOneV v (Timeout i)
+  playV v (Decide i move) = playOneV v (Decide i move)
+  playV v (Stop i) = playOneV v (Stop i)
+  playV v (Save i) = playOneV v (Save i)
+  playV v (Restore i) = playOneV v (Restore i)
+
+-- an accepted event passed each test: one premise each, so that `search` finds them
+pub ask-l : (q : ℕ) (t : Bool) (rest : Reply) → isAccepted (unless q t rest) ≡ true → t ≡ true
+unfolding unless
+ask-l q true rest e = refl
+ask-l q false rest e = e
+
+pub ask-r : (q : ℕ) (t : Bool) (rest : Reply) → isAccepted (unless q t rest) ≡ true → isAccepted rest ≡ true
+unfolding unless
+ask-r q true rest e = e
+ask-r q false rest e = let z : true ≡ false = sym e in absurd (no z)
+  where
+    no : true ≡ false → ⊥
+    no z = let y : _≡_ {A = ℕ} 0 1 = cc in omega arith

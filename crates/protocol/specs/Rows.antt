@@ -1,0 +1,97 @@
+-- A row of the table of trials, and when it passes: the definition, given the row's events, shows what the row says.
+use Prim.Native.Nat.{ℕ, zero, suc}
+use mathlib.Core.Bool.{Bool, true, false, _&&_, Bool·beq}
+use mathlib.Core.List.{List, [], _∷_, _++_}
+use lib.Dec.{eqb}
+use Rattle.model.specs.Numbers.{outcomeNumber}
+use Rattle.model.specs.declared.Kind.the-variants.{Vote, Ack, Help, Helped}
+use Rattle.model.specs.declared.Outcome.{Outcome}
+use Rattle.model.specs.declared.Outcome.the-variants.{Stay, Move}
+use Rattle.model.specs.declared.Event.{Event}
+use Rattle.protocol.specs.declared.Bench.{Bench}
+use Rattle.protocol.specs.declared.Consensus.{Consensus}
+use Rattle.protocol.specs.Benches.{newBench, controller}
+use Rattle.protocol.specs.Questions.{number, reply}
+use Rattle.protocol.specs.Steps.{step, run}
+use Rattle.protocol.specs.Display.{shownStage, shownOutcome, shownPosition, telegrams}
+
+-- a C line: "stage (8 stopped, 9 standing by), outcome (M, S, -), position"
+pub record Line : Type 0 where
+  pub stage : ℕ
+  pub outcome : Outcome
+  pub position : ℕ
+
+-- what a controller does not show: how many acknowledgements and help answers it has counted, does it wait, the word it has put since it last began
+pub record Inside : Type 0 where
+  pub cnt : ℕ
+  pub cnt-help : ℕ
+  pub waits : Bool
+  pub put : Outcome
+
+pub record Row : Type 0 where
+  -- put to a new bench
+  pub events : List Event
+  -- the answer to each event, 0 accepted
+  pub answers : List ℕ
+  -- the C lines, from controller 1 on
+  pub lines : List Line
+  -- the T line: how many votes, acknowledgements, help calls and help answers were sent
+  pub telegrams : List ℕ
+  -- the words put in this order
+  pub words : List Outcome
+  -- inside each controller, from 1 on
+  pub inside : List Inside
+
+-- the answers to a list of events
+unfoldable pub answersTo : Bench → List Event → List ℕ
+answersTo b [] = []
+answersTo b (e ∷ es) = number (reply b e) ∷ answersTo (step b e) es
+
+-- a value for each of 1 to m
+unfoldable pub each : {A : Type 0} → ℕ → (ℕ → A) → List A
+each zero g = []
+each (suc m) g = each m g ++ (g (suc m) ∷ [])
+
+abbrev pub lineOf : Bench → ℕ → Line
+lineOf b i = record { stage = shownStage b i; outcome = shownOutcome b i; position = shownPosition b i }
+
+abbrev pub insideOf : Bench → ℕ → Inside
+insideOf b i = record { cnt = (controller b i) .acks .cnt .0; cnt-help = (controller b i) .helped .«cnt_help» .0; waits = (controller b i) .help .waiting; put = (controller b i) .proposal }
+
+abbrev pub telegramsOf : Bench → List ℕ
+telegramsOf b = telegrams b Vote ∷ telegrams b Ack ∷ telegrams b Help ∷ telegrams b Helped ∷ []
+
+abbrev pub wordsIf : Bool → Bool → List Outcome
+wordsIf true true = Move ∷ Stay ∷ []
+wordsIf true false = Move ∷ []
+wordsIf false true = Stay ∷ []
+wordsIf false false = []
+
+abbrev pub wordsPut : Consensus → List Outcome
+wordsPut k = wordsIf (k .«move_proposed») (k .«stay_proposed»)
+
+-- equal, as tests that compute
+unfoldable pub same : {A : Type 0} → (A → A → Bool) → List A → List A → Bool
+same eq [] [] = true
+same eq [] (y ∷ ys) = false
+same eq (x ∷ xs) [] = false
+same eq (x ∷ xs) (y ∷ ys) = eq x y && same eq xs ys
+
+abbrev pub sameOutcome : Outcome → Outcome → Bool
+sameOutcome x y = eqb (outcomeNumber x) (outcomeNumber y)
+
+abbrev pub sameLine : Line → Line → Bool
+sameLine x y = eqb (x .stage) (y .stage) && sameOutcome (x .outcome) (y .outcome) && eqb (x .position) (y .position)
+
+abbrev pub sameInside : Inside → Inside → Bool
+sameInside x y = eqb (x .cnt) (y .cnt) && eqb (x .cnt-help) (y .cnt-help) && Bool·beq (x .waits) (y .waits) && sameOutcome (x .put) (y .put)
+
+-- what a bench shows is what the row says
+unfoldable pub shows : Bench → Row → Bool
+shows b r = same sameLine (each (b .shared .n) (lineOf b)) (r .lines)
+    && same eqb (telegramsOf b) (r .telegrams)
+    && same sameOutcome (wordsPut (b .shared .consensus)) (r .words)
+    && same sameInside (each (b .shared .n) (insideOf b)) (r .inside)
+
+unfoldable pub passes : Row → Bool
+passes r = same eqb (answersTo newBench (r .events)) (r .answers) && shows (run newBench (r .events)) r

@@ -1,0 +1,63 @@
+-- T COUNTS SENDS. `telegrams` (Display), which the T line shows, is the size of sets of receivers; that is the number of telegrams sent by the
+-- rules, since none is sent twice in an order. Said of every list of events. `sent_once` in src/lib.rt has it as its contract.
+use Prim.Native.Nat.{ℕ, _+_}
+use mathlib.Core.Path.{_≡_}
+use mathlib.Core.Bool.{true, false, cond}
+use mathlib.Core.List.{List, [], _∷_}
+use Rattle.ground.specs.Quantify.{countTo}
+use Rattle.ground.specs.Mask.{has}
+use Rattle.model.specs.declared.Kind.{Kind}
+use Rattle.model.specs.declared.Kind.the-variants.{Vote, Ack, Help, Helped}
+use Rattle.model.specs.declared.Event.{Event}
+use Rattle.model.specs.declared.Event.the-variants.{Lock, Order, Cast, Deliver, Timeout, Decide, Stop, Save, Restore}
+use Rattle.protocol.specs.declared.Send.{Send}
+use Rattle.protocol.specs.declared.Send.the-variants.{Nothing, To}
+use Rattle.protocol.specs.declared.Sends.{Sends}
+use Rattle.protocol.specs.declared.Bench.{Bench}
+use Rattle.protocol.specs.Benches.{newBench, station, sentBy, ofKind}
+use Rattle.protocol.specs.Events.{subject, source}
+use Rattle.protocol.specs.Questions.{isAccepted, reply}
+use Rattle.protocol.specs.Steps.{answerTo, step}
+use Rattle.protocol.specs.Display.{telegrams}
+use Rattle.protocol.specs.Claim.{after, Accepted}
+
+-- to whom an answer sends telegrams of a kind
+abbrev pub receiversOf : Send → ℕ
+receiversOf Nothing = 0
+receiversOf (To receivers votes) = receivers
+
+abbrev pub sendOf : Kind → Sends → Send
+sendOf Vote s = s .vote
+sendOf Ack s = s .ack
+sendOf Help s = s .help
+sendOf Helped s = s .helped
+
+-- to whom the controller that an event concerns sends them at it, by the rules; and how many of 1 to n these are
+abbrev pub receiversAt : Bench → Event → Kind → ℕ
+receiversAt b e kind = receiversOf (sendOf kind ((answerTo (b .shared) e (sentBy b (source e)) (station b (subject e))) .sends))
+
+abbrev pub sendsAt : Bench → Event → Kind → ℕ
+sendsAt b e kind = countTo (b .shared .n) (has (receiversAt b e kind))
+
+-- the count of what the accepted events of the order have sent: k before an event, and then
+abbrev pub countAccepted : Kind → Bench → Event → ℕ → ℕ
+countAccepted kind b (Lock n f) k = 0
+countAccepted kind b (Order o) k = 0
+countAccepted kind b (Cast i willing target) k = k + sendsAt b (Cast i willing target) kind
+countAccepted kind b (Deliver i j x) k = k + sendsAt b (Deliver i j x) kind
+countAccepted kind b (Timeout i) k = k + sendsAt b (Timeout i) kind
+countAccepted kind b (Decide i move) k = k + sendsAt b (Decide i move) kind
+countAccepted kind b (Stop i) k = k + sendsAt b (Stop i) kind
+countAccepted kind b (Save i) k = k + sendsAt b (Save i) kind
+countAccepted kind b (Restore i) k = k + sendsAt b (Restore i) kind
+
+unfoldable pub countSends : Kind → Bench → List Event → ℕ → ℕ
+countSends kind b [] k = k
+countSends kind b (e ∷ es) k = countSends kind (step b e) es (cond (isAccepted (reply b e)) (countAccepted kind b e k) k)
+
+pub record SentOnce : Type 0 where
+  -- what an accepted event sends was not sent before in the order
+  pub once : (es : List Event) (e : Event) (kind : Kind) (j : ℕ) → Accepted es e → has (receiversAt (after es) e kind) j ≡ true
+      → has ((ofKind kind (sentBy (after es) (subject e))) .to) j ≡ false
+  -- so the figures of the T line are the counts of the sends of the order's accepted events
+  pub counted : (es : List Event) (kind : Kind) → telegrams (after es) kind ≡ countSends kind newBench es 0

@@ -1,0 +1,141 @@
+-- Document 01, "Trials": the starred ones, a row each, and some other places where it states figures.
+-- What is expected was written from the document; the definition runs the events. `trials_hold` in src/lib.rt has the theorem as its contract.
+use Prim.Native.Nat.{ℕ, _-_, _^_}
+use mathlib.Core.Path.{_≡_}
+use mathlib.Core.Bool.{Bool, true, false, _&&_}
+use mathlib.Core.List.{List, [], _∷_, _++_}
+use lib.ListN.{replicate}
+use Rattle.model.specs.declared.Kind.the-variants.{Vote, Ack, Help, Helped}
+use Rattle.model.specs.declared.Outcome.{Outcome}
+use Rattle.model.specs.declared.Outcome.the-variants.{None, Stay, Move}
+use Rattle.model.specs.declared.Event.{Event}
+use Rattle.model.specs.declared.Event.the-variants.{Lock, Order, Cast, Deliver, Timeout, Decide, Stop, Save, Restore}
+use Rattle.protocol.specs.Rows.{Line, Inside, Row, passes}
+
+-- a C line, and a T line
+abbrev pub C : ℕ → Outcome → ℕ → Line
+C stage outcome position = record { stage = stage; outcome = outcome; position = position }
+
+abbrev pub T : ℕ → ℕ → ℕ → ℕ → List ℕ
+T votes acks calls answers = votes ∷ acks ∷ calls ∷ answers ∷ []
+
+-- inside a controller with so many acknowledgements and help answers: nothing more; a word put; it waits
+abbrev pub held : ℕ → ℕ → Inside
+held cnt cnt-help = record { cnt = cnt; cnt-help = cnt-help; waits = false; put = None }
+
+abbrev pub put : Outcome → ℕ → ℕ → Inside
+put word cnt cnt-help = record { cnt = cnt; cnt-help = cnt-help; waits = false; put = word }
+
+abbrev pub waits : ℕ → ℕ → Inside
+waits cnt cnt-help = record { cnt = cnt; cnt-help = cnt-help; waits = true; put = None }
+
+-- a row after which no word is put
+abbrev pub silent : List Event → List ℕ → List Line → List ℕ → List Inside → Row
+silent events answers lines telegrams inside = record { events = events; answers = answers; lines = lines; telegrams = telegrams; words = []; inside = inside }
+
+-- a position of −x mm: its two's complement in 32 bits; −250 is 4294967046
+abbrev pub minus : ℕ → ℕ
+minus x = 2 ^ 32 - x
+
+-- the answers to k events, all accepted
+abbrev pub accepted : ℕ → List ℕ
+accepted k = replicate k 0
+
+-- "Input: lock 2 1; order 1; vote 1 willing 500; vote 2 willing −250; deliver votes 1 to 2, 2 to 1; bells 1, 2;
+-- deliver acknowledgements 1 to 2, 2 to 1; bells 1, 2." With 2 willing or not.
+abbrev pub listing : Bool → List Event
+listing willing = Lock 2 1 ∷ Order 1 ∷ Cast 1 true 500 ∷ Cast 2 willing (minus 250) ∷ Deliver 1 2 Vote ∷ Deliver 2 1 Vote ∷ Timeout 1 ∷ Timeout 2
+    ∷ Deliver 1 2 Ack ∷ Deliver 2 1 Ack ∷ Timeout 1 ∷ Timeout 2 ∷ []
+
+-- trial 3: "n = 2, f = 1, willing, no delivery, all bells"
+abbrev pub undelivered : List Event
+undelivered = Lock 2 1 ∷ Order 1 ∷ Cast 1 true 500 ∷ Cast 2 true 250 ∷ Timeout 1 ∷ Timeout 2 ∷ Timeout 1 ∷ Timeout 2 ∷ []
+
+-- trial 5, up to 2's help answer; 3's call reaches 2 before
+abbrev pub helped : List Event
+helped = Lock 3 1 ∷ Order 1 ∷ Cast 1 true 10 ∷ Cast 2 true 20 ∷ Cast 3 true 30 ∷ Deliver 2 1 Vote ∷ Deliver 3 1 Vote
+    ∷ Timeout 1 ∷ Timeout 2 ∷ Timeout 2 ∷ Timeout 3 ∷ Deliver 3 2 Help ∷ Deliver 2 3 Helped ∷ []
+
+-- as the listing, but without 1's acknowledgement to 2, which puts Move by its own sheet and is given it; then 2 is saved, stopped and restored
+abbrev pub restored : List Event
+restored = Lock 2 1 ∷ Order 1 ∷ Cast 1 true 500 ∷ Cast 2 true 250 ∷ Deliver 1 2 Vote ∷ Deliver 2 1 Vote ∷ Timeout 1 ∷ Timeout 2 ∷ Deliver 2 1 Ack
+    ∷ Timeout 1 ∷ Timeout 2 ∷ Decide 2 true ∷ Save 2 ∷ Stop 2 ∷ Restore 2 ∷ []
+
+unfoldable pub table : List Row
+table =
+    -- 1★ "The listing." Its output: twelve lines "0 0" to "11 0", then "C 1 3 M 500", "C 2 3 M -250", "T 2 2 0 0"
+    silent (listing true) (accepted 12) (C 3 Move 500 ∷ C 3 Move (minus 250) ∷ []) (T 2 2 0 0) (held 2 0 ∷ held 1 0 ∷ [])
+    -- 2★ "The same with 2 unwilling: both S, nothing put."
+    ∷ silent (listing false) (accepted 12) (C 3 Stay 0 ∷ C 3 Stay 0 ∷ []) (T 2 2 0 0) (held 2 0 ∷ held 1 0 ∷ [])
+    -- 3★ "n = 2, f = 1, willing, no delivery, all bells: both put Stay."
+    ∷ record {
+      events = undelivered;
+      answers = accepted 8;
+      lines = C 3 None 0 ∷ C 3 None 0 ∷ [];
+      telegrams = T 2 2 0 0;
+      words = Stay ∷ [];
+      inside = put Stay 1 0 ∷ put Stay 0 1 ∷ [];
+    }
+    -- 4★ "n = 16, f = 15 accepted; n = 17, f = 0 and f = n give 4." Then "every controller is running at stage 0", and "with no order T is all 0"
+    ∷ silent (Lock 17 16 ∷ Lock 16 0 ∷ Lock 16 16 ∷ Lock 16 15 ∷ []) (4 ∷ 4 ∷ 4 ∷ 0 ∷ []) (replicate 16 (C 0 None 0)) (T 0 0 0 0) (replicate 16 (held 0 0))
+    -- 5★ "n = 3, f = 1, all willing; votes of 2 and 3 reach 1, nothing else before the bells; 3 gets 2's help answer and puts Stay;
+    ∷ record {
+      events = helped;
+      answers = accepted 13;
+      lines = C 2 None 0 ∷ C 3 None 0 ∷ C 3 None 0 ∷ [];
+      telegrams = T 3 3 2 1;
+      words = Stay ∷ [];
+      inside = held 1 0 ∷ waits 0 1 ∷ put Stay 0 2 ∷ [];
+    }
+    -- 1's acknowledgement then reaches 2, which puts Move."
+    ∷ record {
+      events = helped ++ (Deliver 1 2 Ack ∷ []);
+      answers = accepted 14;
+      lines = C 2 None 0 ∷ C 3 None 0 ∷ C 3 None 0 ∷ [];
+      telegrams = T 3 3 2 1;
+      words = Move ∷ Stay ∷ [];
+      inside = held 1 0 ∷ put Move 1 1 ∷ put Stay 0 2 ∷ [];
+    }
+    -- 6★ "n = 4, f = 1: 4 holds nothing at its second bell; then 1's acknowledgement comes two times: counted a single time, 4 still waits."
+    ∷ silent (Lock 4 1 ∷ Order 1 ∷ Cast 1 true 10 ∷ Cast 4 true 40 ∷ Timeout 1 ∷ Timeout 4 ∷ Deliver 1 4 Ack ∷ Deliver 1 4 Ack ∷ []) (accepted 8)
+    (C 2 None 0 ∷ C 0 None 0 ∷ C 0 None 0 ∷ C 3 None 0 ∷ []) (T 2 3 2 0) (held 1 0 ∷ held 0 0 ∷ held 0 0 ∷ waits 1 1 ∷ [])
+    -- 7★ "Position 20,000 accepted, 20,001 gives 11." And "Positions are −20,000 to 20,000 mm"
+    ∷ silent (Lock 2 1 ∷ Order 1 ∷ Cast 1 true 20001 ∷ Cast 1 true 20000 ∷ Cast 2 true (minus 20001) ∷ Cast 2 true (minus 20000) ∷ []) (0 ∷ 0 ∷ 11 ∷ 0 ∷ 11 ∷ 0 ∷ [])
+    (C 1 None 0 ∷ C 1 None 0 ∷ []) (T 2 0 0 0) (held 0 0 ∷ held 0 0 ∷ [])
+    -- 8★ "Restore without card: 19."
+    ∷ silent (Lock 2 1 ∷ Order 1 ∷ Stop 1 ∷ Restore 1 ∷ []) (0 ∷ 0 ∷ 0 ∷ 19 ∷ []) (C 8 None 0 ∷ C 0 None 0 ∷ []) (T 0 0 0 0) (held 0 0 ∷ held 0 0 ∷ [])
+    -- 9★ "Arbiter Move when just Stay was put: 18." Stay is then accepted
+    ∷ record {
+      events = undelivered ++ (Decide 1 true ∷ Decide 1 false ∷ []);
+      answers = accepted 8 ++ (18 ∷ 0 ∷ []);
+      lines = C 3 Stay 0 ∷ C 3 None 0 ∷ [];
+      telegrams = T 2 2 0 0;
+      words = Stay ∷ [];
+      inside = put Stay 1 0 ∷ put Stay 0 1 ∷ [];
+    }
+    -- The arbiter's Move moves the gate; "**Restore** brings a stopped controller to standing by, with the card's outcome if the card is of this order,
+    ∷ record {
+      events = restored;
+      answers = accepted 15;
+      lines = C 3 Move 500 ∷ C 9 Move 250 ∷ [];
+      telegrams = T 2 2 0 0;
+      words = Move ∷ [];
+      inside = held 2 0 ∷ held 0 0 ∷ [];
+    }
+    -- else none."
+    ∷ silent (restored ++ (Order 2 ∷ Stop 2 ∷ Restore 2 ∷ [])) (accepted 18) (C 0 None 500 ∷ C 9 None 250 ∷ []) (T 0 0 0 0) (held 0 0 ∷ held 0 0 ∷ [])
+    -- "The bench program": "With no lock there are no C lines; with no order T is all 0."
+    ∷ silent [] [] [] (T 0 0 0 0) []
+    -- "Questions put to a record or event": "The first "no" gives its number." The other numbers that the bench gives
+    ∷ silent (Order 1 ∷ Lock 2 1 ∷ Lock 2 1 ∷ Timeout 3 ∷ Deliver 1 1 Vote ∷ Order 0 ∷ Deliver 1 2 Help ∷ Timeout 1 ∷ Order 1 ∷ Order 1 ∷ Order 2
+    ∷ Restore 1 ∷ Timeout 1 ∷ Deliver 1 2 Vote ∷ []) (5 ∷ 0 ∷ 6 ∷ 7 ∷ 7 ∷ 8 ∷ 10 ∷ 14 ∷ 0 ∷ 12 ∷ 13 ∷ 15 ∷ 16 ∷ 17 ∷ [])
+    (C 0 None 0 ∷ C 0 None 0 ∷ []) (T 0 0 0 0) (held 0 0 ∷ held 0 0 ∷ [])
+    ∷ []
+
+-- every row passes
+unfoldable pub allPass : List Row → Bool
+allPass [] = true
+allPass (r ∷ rs) = passes r && allPass rs
+
+abbrev pub TrialsHold : Type 0
+TrialsHold = allPass table ≡ true

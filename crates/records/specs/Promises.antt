@@ -1,0 +1,30 @@
+-- What is promised of a record, whichever it is. Each record's crate has these as the contract of a function.
+use Prim.Native.Nat.{ℕ, _<_, _^_}
+use mathlib.Core.Path.{_≡_}
+use mathlib.Core.List.{List, [], _∷_}
+use Rattle.model.specs.Questions.{Reply, accepted, refused, firstNo}
+use Rattle.records.specs.Bytes.{AllBytes, Width, one, two, four}
+use Rattle.records.specs.Codec.{Answer, isRecord, isRefusal, Codec, bytesOf, valueOn, readQuestions, reads, writeReply, writes}
+
+-- the code holds what stands in four bytes as a number of 32 bits
+abbrev pub In32Bits : List Width → List ℕ → Type 0
+In32Bits [] vs = Unit
+In32Bits (w ∷ ws) [] = Unit
+In32Bits (one ∷ ws) (v ∷ vs) = In32Bits ws vs
+In32Bits (two ∷ ws) (v ∷ vs) = In32Bits ws vs
+In32Bits (four ∷ ws) (v ∷ vs) = (v < 2 ^ 32) × In32Bits ws vs
+
+-- the answer to questions about a value
+abbrev pub answerTo : {A : Type 0} → Reply → A → Answer A
+answerTo accepted a = isRecord a
+answerTo (refused q) a = isRefusal q
+
+pub record Promises {A R : Type 0} (c : Codec A R) : Type 0 where
+  -- "The first "no" gives its number", and 0 is a record
+  pub answered : (s : List ℕ) → c .answer (reads c s) ≡ answerTo (firstNo (readQuestions c s)) (valueOn c s)
+  -- what is written reads back as it was: every value that passes the questions
+  pub reads-back : (a : A) → In32Bits (c .widths) (c .fields a) → firstNo (c .asked a) ≡ accepted → reads c (bytesOf c a) ≡ c .read a
+  -- what was read, written again, gives the same bytes: only written forms are read
+  pub writes-back : (s : List ℕ) (a : A) → AllBytes s → reads c s ≡ c .read a → bytesOf c a ≡ s
+  -- "a refused write leaves its buffer untouched"
+  pub untouched : (out : List ℕ) (a : A) (q : ℕ) → writeReply c out a ≡ refused q → writes c out a ≡ out

@@ -1,0 +1,14 @@
+// What the records of document 01 share as bytes: one description of a record and its laws (in specs/), big-endian numbers, and listed values.
+mod codes;
+mod number;
+
+pub use codes::flag_number;
+pub use codes::flag_of;
+pub use codes::is_flag;
+pub use codes::is_kind;
+pub use codes::is_outcome;
+pub use codes::kind_of;
+pub use codes::outcome_of;
+pub use number::low_byte;
+pub use number::number2;
+pub use number::number4;

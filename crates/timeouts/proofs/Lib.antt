@@ -1,2 +1,0 @@
-mod Members
-mod Quantified
