@@ -5,6 +5,7 @@ pub mod commands;
 pub mod frames;
 pub mod orders;
 pub mod player;
+pub mod ranges;
 pub mod schedules;
 
 use std::io;

@@ -7,6 +7,7 @@ pub mod controller;
 pub mod frame;
 pub mod generate;
 pub mod group;
+pub mod levels;
 pub mod members;
 pub mod message_kind;
 pub mod questions;

@@ -14,3 +14,5 @@ mod readings;
 mod records;
 #[path = "trials/support.rs"]
 mod support;
+#[path = "trials/levels.rs"]
+mod levels;

@@ -1,0 +1,57 @@
+use borrow.Author.Needs.{needs}
+use borrow.Author.Tests.{not-true, not-false}
+use mathlib.Core.Path.{sym, _∙_}
+use Rattle.levels.specs.EndsLaws.{right-answer}
+use Rattle.levels.proofs.HeightLaws.{listed-true, above-outside, below-outside, above-crossed, below-crossed, answered}
+use Rattle.levels.proofs.answer.judge.Statement.{statement}
+use Rattle.levels.proofs.answer.judge.Tie as tie
+
+raised-range-requires : tie.Need-raised-range-requires
+raised-range-requires c κs = search needs
+
+raised-range-requires-2 : tie.Need-raised-range-requires-2
+raised-range-requires-2 c κs = search needs
+
+both-listed-requires : tie.Need-both-listed-requires
+both-listed-requires c κs = search needs
+
+returns : tie.Need-returns
+returns c =
+    right-answer _ _ _ (above-outside _ _ _ _ (c .before .before .before .raised-range .ensures) (c .before .before .raised-range2 .ensures) (sym (c .before .both-listed .ensures) ∙ not-true _ (c .if1 .taken)))
+
+both-listed-requires-2 : tie.Need-both-listed-requires-2
+both-listed-requires-2 c κs = search needs
+
+returns-2 : tie.Need-returns-2
+returns-2 c =
+    right-answer _ _ _ (below-outside _ _ _ _ (c .before .before .before .before .before .raised-range .ensures) (c .before .before .before .before .raised-range2 .ensures) (sym (c .before .before .before .both-listed .ensures) ∙ not-false _ (c .before .before .if1 .left)) (sym (c .before .both-listed2 .ensures) ∙ not-true _ (c .if2 .taken)))
+
+returns-3 : tie.Need-returns-3
+returns-3 c =
+    right-answer _ _ _ (above-crossed _ _ _ _ (c .before .before .before .before .before .before .before .raised-range .ensures) (c .before .before .before .before .before .before .raised-range2 .ensures) (sym (c .before .before .before .before .before .both-listed .ensures) ∙ not-false _ (c .before .before .before .before .if1 .left)) (sym (c .before .before .before .both-listed2 .ensures) ∙ not-false _ (c .before .before .if2 .left)) (c .if3 .taken))
+
+returns-4 : tie.Need-returns-4
+returns-4 c =
+    right-answer _ _ _ (below-crossed _ _ _ _ (c .before .before .before .before .before .before .before .before .before .raised-range .ensures) (c .before .before .before .before .before .before .before .before .raised-range2 .ensures) (sym (c .before .before .before .before .before .before .before .both-listed .ensures) ∙ not-false _ (c .before .before .before .before .before .before .if1 .left)) (sym (c .before .before .before .before .before .both-listed2 .ensures) ∙ not-false _ (c .before .before .before .before .if2 .left)) (c .before .before .if3 .left) (c .if4 .taken))
+
+by-heights-requires : tie.Need-by-heights-requires
+by-heights-requires c κs = (listed-true _ (sym (c .before .before .before .before .before .before .before .both-listed .ensures) ∙ not-false _ (c .before .before .before .before .before .before .if1 .left)), listed-true _ (sym (c .before .before .before .before .before .both-listed2 .ensures) ∙ not-false _ (c .before .before .before .before .if2 .left)))
+
+returns-5 : tie.Need-returns-5
+returns-5 c =
+    right-answer _ _ _ (c .by-heights .ensures ∙ answered _ _ _ _ (c .before .before .before .before .before .before .before .before .before .before .raised-range .ensures) (c .before .before .before .before .before .before .before .before .before .raised-range2 .ensures) (sym (c .before .before .before .before .before .before .before .before .both-listed .ensures) ∙ not-false _ (c .before .before .before .before .before .before .before .if1 .left)) (sym (c .before .before .before .before .before .before .both-listed2 .ensures) ∙ not-false _ (c .before .before .before .before .before .if2 .left)) (c .before .before .before .if3 .left) (c .before .if4 .left))
+
+pub judge-spec : {M : Type 1} → statement M
+judge-spec =
+    tie.close
+    (tie.spec
+    raised-range-requires
+    raised-range-requires-2
+    both-listed-requires
+    returns
+    both-listed-requires-2
+    returns-2
+    returns-3
+    returns-4
+    by-heights-requires
+    returns-5)
