@@ -7,6 +7,7 @@ pub mod orders;
 pub mod player;
 pub mod ranges;
 pub mod schedules;
+pub mod sheets;
 
 use std::io;
 

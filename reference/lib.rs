@@ -4,6 +4,7 @@ pub mod bench;
 pub mod clean;
 pub mod command;
 pub mod controller;
+pub mod dues;
 pub mod frame;
 pub mod generate;
 pub mod group;

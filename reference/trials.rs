@@ -16,3 +16,5 @@ mod records;
 mod support;
 #[path = "trials/levels.rs"]
 mod levels;
+#[path = "trials/dues.rs"]
+mod dues;

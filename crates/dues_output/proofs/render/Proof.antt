@@ -1,0 +1,64 @@
+-- `dues_output::render` meets its contract.
+use Prim.Native.Nat.{ℕ}
+use mathlib.Core.Path.{_≡_, sym, _∙_, ap}
+use mathlib.Core.List.{List}
+use Rattle.text.specs.Writing.{fitted, fittedLength}
+use Rattle.dues_output.specs.Printed.{answerLine}
+use borrow.Author.Needs.{needs}
+use Rattle.dues_output.proofs.render.Statement.{statement}
+use Rattle.dues_output.proofs.render.Tie as tie
+
+-- what was written of a text was written of an equal one
+same-text : {x y after : List ℕ} {r : ℕ} (out : List ℕ) → x ≡ y → (r ≡ fittedLength x out) × (after ≡ fitted x out) → (r ≡ fittedLength y out) × (after ≡ fitted y out)
+same-text out e w = (w .0 ∙ ap (λ (z : List ℕ). fittedLength z out) e, w .1 ∙ ap (λ (z : List ℕ). fitted z out) e)
+
+held-answer-requires : tie.Need-held-answer-requires
+held-answer-requires c κs = search needs
+
+enum-known-t : tie.Need-enum-known-t
+enum-known-t c = search needs
+
+write-totals-requires : tie.Need-write-totals-requires
+write-totals-requires c κs = search needs
+
+enum-known-q : tie.Need-enum-known-q
+enum-known-q c = search needs
+
+cast-write-refusal : tie.Need-cast-write-refusal
+cast-write-refusal c = search needs
+
+write-refusal-requires : tie.Need-write-refusal-requires
+write-refusal-requires c κs = search needs
+
+same-length : tie.Need-same-length
+same-length c = search needs
+
+returns : tie.Need-returns
+unfolding answerLine
+returns c =
+    let told = c .before .before .before .before .before in
+    same-text _ (ap answerLine (sym (told .t .given .1) ∙ told .before .before .held-answer .ensures)) (c .before .before .write-totals .ensures)
+
+same-length-2 : tie.Need-same-length-2
+same-length-2 c = search needs
+
+returns-2 : tie.Need-returns-2
+unfolding answerLine
+returns-2 c =
+    let told = c .before .before .before .before .before in
+    same-text _ (ap answerLine (sym (told .q .given .1) ∙ told .before .before .held-answer .ensures)) (c .before .before .write-refusal .ensures)
+
+pub render-spec : {M : Type 1} → statement M
+render-spec =
+    tie.close
+    (tie.spec
+    held-answer-requires
+    enum-known-t
+    write-totals-requires
+    enum-known-q
+    cast-write-refusal
+    write-refusal-requires
+    same-length
+    returns
+    same-length-2
+    returns-2)

@@ -1,0 +1,25 @@
+-- What the dues program prints: the upper and the lower total, or "-" and the number with which the sheet is refused.
+use Prim.Native.Nat.{ℕ}
+use mathlib.Core.Bool.{cond}
+use mathlib.Core.List.{List, [], _∷_}
+use lib.Dec.{ltb}
+use lib.ListN.{length}
+use Rattle.text.specs.Text.{decimal, line, refusal}
+use Rattle.tariff.specs.declared.Shares.{Shares}
+use Rattle.dues.specs.declared.Answer.{Answer}
+use Rattle.dues.specs.declared.Answer.the-variants.{Totals, Refused}
+use Rattle.dues.specs.Sheet.{answerTo}
+
+abbrev pub totalsLine : Shares → List ℕ
+totalsLine t = line (decimal (t .upper) ∷ decimal (t .lower) ∷ [])
+
+unfoldable pub answerLine : Answer → List ℕ
+answerLine (Totals t) = totalsLine t
+answerLine (Refused q) = refusal q
+
+-- the program holds 65,536 bytes. A longer sheet has more than 1,000 lockages: 22
+unfoldable pub heldAnswer : List ℕ → Answer
+heldAnswer s = cond (ltb 65536 (length s)) (Refused 22) (answerTo s)
+
+abbrev pub outputOf : List ℕ → List ℕ
+outputOf s = answerLine (heldAnswer s)
