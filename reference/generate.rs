@@ -1,5 +1,6 @@
 //! Seeded input for the programs: record frames, controller commands and bench schedules.
 
+pub mod acts;
 pub mod choices;
 pub mod commands;
 pub mod frames;

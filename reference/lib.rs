@@ -9,6 +9,7 @@ pub mod frame;
 pub mod generate;
 pub mod group;
 pub mod levels;
+pub mod line;
 pub mod members;
 pub mod message_kind;
 pub mod questions;

@@ -18,3 +18,5 @@ mod support;
 mod levels;
 #[path = "trials/dues.rs"]
 mod dues;
+#[path = "trials/line.rs"]
+mod line;

@@ -1,0 +1,29 @@
+-- `line_output::put_act` meets its contract.
+use Rattle.text.specs.WritingLaws.{put-then}
+use borrow.Author.Needs.{needs}
+use Rattle.line_output.proofs.put_act.Statement.{statement}
+use Rattle.line_output.proofs.put_act.Tie as tie
+
+put-number-requires : tie.Need-put-number-requires
+put-number-requires c κs = search needs
+
+put-answer-requires : tie.Need-put-answer-requires
+put-answer-requires c κs = search needs
+
+put-byte-requires : tie.Need-put-byte-requires
+put-byte-requires c κs = search needs
+
+same-length : tie.Need-same-length
+same-length c = search needs
+
+returns : tie.Need-returns
+returns c =
+    let third = c .before .before in
+    let second = third .before .before .before .before in
+    let first = second .before .before .before .before in
+    put-then (first .put-number .ensures) (put-then (second .put-answer .ensures) (third .put-byte .ensures))
+
+pub put-act-spec : {M : Type 1} → statement M
+put-act-spec =
+    tie.close
+    (tie.spec put-number-requires put-answer-requires put-byte-requires same-length returns)
