@@ -7,12 +7,12 @@ use controller_state::helps;
 use controller_state::keep_helped;
 use controller_state::proposing;
 use controller_state::sending;
-use controller_verdicts::ack_join;
+use controller_verdicts::ack_tally;
 use controller_verdicts::decides;
 use controller_verdicts::propose_if_sufficient;
-use controller_verdicts::verdict;
 use model::Kind;
 use model::recipients;
+use model::word_of;
 use protocol::Answer;
 use protocol::Controller;
 use protocol::Send;
@@ -43,14 +43,14 @@ pub fn second_timeout(n: u8, f: u8, i: u8, c: Controller) -> Answer
     ensures { λ r. ⌜ r ≡ secondTimeout n f i c ⌝ }
 {
     let own = c.votes;
-    let joined = ack_join(n, c);
-    let help = join(own, joined);
+    let acks = ack_tally(n, c);
+    let help = join(own, acks.votes);
     let next = freeze(advance(c, 3), help);
     if decides(n, f, i, c) {
-        return ready(help, conclude(next, verdict(n, joined)));
+        return ready(help, conclude(next, word_of(acks.unanimous)));
     }
     if 0 < c.acks.cnt.0 {
-        return proposing(ready(help, next), verdict(n, joined));
+        return proposing(ready(help, next), word_of(acks.unanimous));
     }
     propose_if_sufficient(n, f, calls_help(n, f, i, help, next))
 }

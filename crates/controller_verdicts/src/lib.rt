@@ -3,6 +3,5 @@ mod deciding;
 mod waiting;
 
 pub use deciding::decides;
-pub use waiting::ack_join;
+pub use waiting::ack_tally;
 pub use waiting::propose_if_sufficient;
-pub use waiting::verdict;

@@ -4,25 +4,27 @@ use model::Outcome;
 use model::word_of;
 use protocol::Answer;
 use protocol::Controller;
+use votes::Tally;
 use votes::VoteSet;
-use votes::join_all;
+use votes::tally_all;
 use votes::unanimous;
 ghost use mathlib.Core.Path.{_≡_};
+ghost use Rattle.votes.specs.Tallies.{tallyOf};
 ghost use Rattle.protocol.specs.Rules.{verdict, ackJoin, sufficient, answersJoin, proposeIfSufficient};
 
 // The word of a sheet.
-pub fn verdict(n: u8, s: VoteSet) -> Outcome
+fn verdict(n: u8, s: VoteSet) -> Outcome
     ensures { λ r. ⌜ r ≡ verdict n s ⌝ }
 {
     word_of(unanimous(s, n))
 }
 
-// The join of the acknowledgements held.
-pub fn ack_join(n: u8, c: Controller) -> VoteSet
-    ensures { λ r. ⌜ r ≡ ackJoin n c ⌝ }
+// The acknowledgements held, gone over once: their join, whether it is full and whether its word is Move.
+pub fn ack_tally(n: u8, c: Controller) -> Tally
+    ensures { λ r. ⌜ r ≡ tallyOf n (ackJoin n c) ⌝ }
 {
     let sets = c.acks.sets;
-    join_all(n, c.acks.from, sets)
+    tally_all(n, n, c.acks.from, sets)
 }
 
 // It waits, and the two counts add up to n - f or more.
@@ -36,14 +38,16 @@ fn sufficient(n: u8, f: u8, c: Controller) -> bool
     false
 }
 
-// What a word is put of: the acknowledgements if it holds any, else the help answers.
-fn answers_join(n: u8, c: Controller) -> VoteSet
-    ensures { λ r. ⌜ r ≡ answersJoin n c ⌝ }
+// The word that is put: of the acknowledgements if it holds any, else of the help answers.
+fn answers_verdict(n: u8, c: Controller) -> Outcome
+    ensures { λ r. ⌜ r ≡ verdict n (answersJoin n c) ⌝ }
 {
     if 0 < c.acks.cnt.0 {
-        return ack_join(n, c);
+        let acks = ack_tally(n, c);
+        return word_of(acks.unanimous);
     }
-    c.helped.votes
+    let helped = c.helped.votes;
+    verdict(n, helped)
 }
 
 // An answer after which the count may be complete: then a word is put.
@@ -52,7 +56,7 @@ pub fn propose_if_sufficient(n: u8, f: u8, a: Answer) -> Answer
 {
     let c = a.controller;
     if sufficient(n, f, c) {
-        return proposing(a, verdict(n, answers_join(n, c)));
+        return proposing(a, answers_verdict(n, c));
     }
     a
 }

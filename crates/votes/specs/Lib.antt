@@ -1,3 +1,5 @@
 pub mod VoteSets
 pub mod Halves
 pub mod VoteLaws
+pub mod Tallies
+pub mod OnePass

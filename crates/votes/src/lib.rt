@@ -10,10 +10,22 @@ use ground::full_to;
 use ground::has;
 use ground::insert;
 
+mod tallies;
+
+pub use tallies::one_pass;
+pub use tallies::tally_all;
+
 // A sheet: the controllers whose vote is known, and those of them known to be willing. Bit k - 1 is controller k.
 pub struct VoteSet {
     pub known: u32,
     pub willing: u32,
+}
+
+// What one pass over sheets gives: their join, whether it is complete, and whether it is unanimous.
+pub struct Tally {
+    pub votes: VoteSet,
+    pub complete: bool,
+    pub unanimous: bool,
 }
 
 // The sheet that knows nobody.

@@ -1,12 +1,13 @@
 -- The three ways out of the second timeout, in the definition's order: it decides, puts a word, or waits.
 use borrow.Author.Tests.{le-ltb, lt-ltb}
-use Rattle.protocol.specs.Rules.{secondTimeout, frozen, helpVotes}
+use Rattle.votes.specs.Tallies.{tallyOf}
+use Rattle.protocol.specs.Rules.{secondTimeout, frozen, helpVotes, verdict}
 use borrow.Author.Needs.{needs}
 use Rattle.controller_rules.proofs.second.second_timeout.Statement.{statement}
 use Rattle.controller_rules.proofs.second.second_timeout.Tie as tie
 
-ack-join-requires : tie.Need-ack-join-requires
-ack-join-requires c κs = search needs
+ack-tally-requires : tie.Need-ack-tally-requires
+ack-tally-requires c κs = search needs
 
 join-requires : tie.Need-join-requires
 join-requires c κs = search needs
@@ -20,8 +21,8 @@ freeze-requires c κs = search needs
 decides-requires : tie.Need-decides-requires
 decides-requires c κs = search needs
 
-verdict-requires : tie.Need-verdict-requires
-verdict-requires c κs = search needs
+word-of-requires : tie.Need-word-of-requires
+word-of-requires c κs = search needs
 
 conclude-requires : tie.Need-conclude-requires
 conclude-requires c κs = search needs
@@ -30,21 +31,21 @@ ready-requires : tie.Need-ready-requires
 ready-requires c κs = search needs
 
 returns : tie.Need-returns
-unfolding secondTimeout frozen helpVotes
-returns c = simp (c .before .before .before .before .before .before .before .before .ack-join .ensures, c .before .before .before .before .before .before .before .join .ensures, c .before .before .before .before .before .before .advance .ensures, c .before .before .before .before .before .freeze .ensures, ← c .before .before .before .before .decides .ensures, c .before .before .before .if1 .taken, c .before .before .verdict .ensures, c .before .conclude .ensures, c .ready .ensures)
+unfolding secondTimeout frozen helpVotes verdict tallyOf
+returns c = simp (c .before .before .before .before .before .before .before .before .ack-tally .ensures, c .before .before .before .before .before .before .before .join .ensures, c .before .before .before .before .before .before .advance .ensures, c .before .before .before .before .before .freeze .ensures, ← c .before .before .before .before .decides .ensures, c .before .before .before .if1 .taken, c .before .before .word-of .ensures, c .before .conclude .ensures, c .ready .ensures)
 
 ready-requires-2 : tie.Need-ready-requires-2
 ready-requires-2 c κs = search needs
 
-verdict-requires-2 : tie.Need-verdict-requires-2
-verdict-requires-2 c κs = search needs
+word-of-requires-2 : tie.Need-word-of-requires-2
+word-of-requires-2 c κs = search needs
 
 proposing-requires : tie.Need-proposing-requires
 proposing-requires c κs = search needs
 
 returns-2 : tie.Need-returns-2
-unfolding secondTimeout frozen helpVotes
-returns-2 c = simp (c .before .before .before .before .before .before .before .before .before .before .ack-join .ensures, c .before .before .before .before .before .before .before .before .before .join .ensures, c .before .before .before .before .before .before .before .before .advance .ensures, c .before .before .before .before .before .before .before .freeze .ensures, ← c .before .before .before .before .before .before .decides .ensures, c .before .before .before .before .before .if1 .left, lt-ltb _ _ (c .before .before .before .if2 .taken), c .before .before .ready2 .ensures, c .before .verdict2 .ensures, c .proposing .ensures)
+unfolding secondTimeout frozen helpVotes verdict tallyOf
+returns-2 c = simp (c .before .before .before .before .before .before .before .before .before .before .ack-tally .ensures, c .before .before .before .before .before .before .before .before .before .join .ensures, c .before .before .before .before .before .before .before .before .advance .ensures, c .before .before .before .before .before .before .before .freeze .ensures, ← c .before .before .before .before .before .before .decides .ensures, c .before .before .before .before .before .if1 .left, lt-ltb _ _ (c .before .before .before .if2 .taken), c .before .before .ready2 .ensures, c .before .word-of2 .ensures, c .proposing .ensures)
 
 calls-help-requires : tie.Need-calls-help-requires
 calls-help-requires c κs = search needs
@@ -53,24 +54,24 @@ propose-if-sufficient-requires : tie.Need-propose-if-sufficient-requires
 propose-if-sufficient-requires c κs = search needs
 
 returns-3 : tie.Need-returns-3
-unfolding secondTimeout frozen helpVotes
-returns-3 c = simp (c .before .before .before .before .before .before .before .before .before .ack-join .ensures, c .before .before .before .before .before .before .before .before .join .ensures, c .before .before .before .before .before .before .before .advance .ensures, c .before .before .before .before .before .before .freeze .ensures, ← c .before .before .before .before .before .decides .ensures, c .before .before .before .before .if1 .left, le-ltb _ _ (c .before .before .if2 .left), c .before .calls-help .ensures, c .propose-if-sufficient .ensures)
+unfolding secondTimeout frozen helpVotes verdict tallyOf
+returns-3 c = simp (c .before .before .before .before .before .before .before .before .before .ack-tally .ensures, c .before .before .before .before .before .before .before .before .join .ensures, c .before .before .before .before .before .before .before .advance .ensures, c .before .before .before .before .before .before .freeze .ensures, ← c .before .before .before .before .before .decides .ensures, c .before .before .before .before .if1 .left, le-ltb _ _ (c .before .before .if2 .left), c .before .calls-help .ensures, c .propose-if-sufficient .ensures)
 
 pub second-timeout-spec : {M : Type 1} → statement M
 second-timeout-spec =
     tie.close
     (tie.spec
-    ack-join-requires
+    ack-tally-requires
     join-requires
     advance-requires
     freeze-requires
     decides-requires
-    verdict-requires
+    word-of-requires
     conclude-requires
     ready-requires
     returns
     ready-requires-2
-    verdict-requires-2
+    word-of-requires-2
     proposing-requires
     returns-2
     calls-help-requires

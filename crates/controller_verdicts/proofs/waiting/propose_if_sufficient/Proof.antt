@@ -6,18 +6,15 @@ use Rattle.controller_verdicts.proofs.waiting.propose_if_sufficient.Tie
 sufficient-requires : tie.Need-sufficient-requires
 sufficient-requires c κs = search needs
 
-answers-join-requires : tie.Need-answers-join-requires
-answers-join-requires c κs = search needs
-
-verdict-requires : tie.Need-verdict-requires
-verdict-requires c κs = search needs
+answers-verdict-requires : tie.Need-answers-verdict-requires
+answers-verdict-requires c κs = search needs
 
 proposing-requires : tie.Need-proposing-requires
 proposing-requires c κs = search needs
 
 returns : tie.Need-returns
 unfolding proposeIfSufficient
-returns c = simp (← c .before .before .before .before .sufficient .ensures, c .before .before .before .if1 .taken, c .before .before .answers-join .ensures, c .before .verdict .ensures, c .proposing .ensures)
+returns c = simp (← c .before .before .before .sufficient .ensures, c .before .before .if1 .taken, c .before .answers-verdict .ensures, c .proposing .ensures)
 
 returns-2 : tie.Need-returns-2
 unfolding proposeIfSufficient
@@ -28,8 +25,7 @@ propose-if-sufficient-spec =
     tie.close
     (tie.spec
     sufficient-requires
-    answers-join-requires
-    verdict-requires
+    answers-verdict-requires
     proposing-requires
     returns
     returns-2)

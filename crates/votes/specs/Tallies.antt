@@ -1,0 +1,28 @@
+-- What joining in one pass gives. Document 02, U3: "one call is to go over the sheets to be joined and give both whether the join is full and its word".
+use Prim.Native.Nat.{ℕ, zero, suc}
+use mathlib.Core.Bool.{cond}
+use mathlib.Core.List.{List, [], _∷_, _++_}
+use Rattle.ground.specs.Lists.{nth}
+use Rattle.ground.specs.Mask.{has}
+use Rattle.votes.specs.VoteSets.{empty, join, complete, unanimous}
+use Rattle.votes.specs.declared.VoteSet.{VoteSet}
+use Rattle.votes.specs.declared.Tally.{Tally}
+
+-- a sheet with document 01's two answers on it: is it "full", is its "word" Move
+unfoldable pub tallyOf : ℕ → VoteSet → Tally
+tallyOf n s = record { votes = s; complete = complete n s; unanimous = unanimous n s }
+
+-- the join of a list of sheets
+unfoldable pub joinList : List VoteSet → VoteSet
+joinList [] = empty
+joinList (s ∷ sheets) = join s (joinList sheets)
+
+-- One pass over a list: each sheet is met once, and joined to what the pass has so far; after the last the two answers are given.
+unfoldable pub tallyFrom : ℕ → VoteSet → List VoteSet → Tally
+tallyFrom n joined [] = tallyOf n joined
+tallyFrom n joined (s ∷ sheets) = tallyFrom n (join joined s) sheets
+
+-- the sheets of those senders of 1..m that are in a set, in rising number
+unfoldable pub sheetsOf : ℕ → ℕ → List VoteSet → List VoteSet
+sheetsOf zero from l = []
+sheetsOf (suc m) from l = sheetsOf m from l ++ cond (has from (suc m)) (nth empty l (suc m) ∷ []) []
