@@ -9,6 +9,7 @@ pub mod player;
 pub mod ranges;
 pub mod schedules;
 pub mod sheets;
+pub mod wanted;
 
 use std::io;
 

@@ -4,6 +4,8 @@
 mod claims;
 #[path = "trials/controller.rs"]
 mod controller;
+#[path = "trials/generator.rs"]
+mod generator;
 #[path = "trials/listed.rs"]
 mod listed;
 #[path = "trials/questions.rs"]

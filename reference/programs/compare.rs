@@ -1,11 +1,11 @@
 //! Compares a bench program with the reference: compare SCHEDULES COMMAND...
 //! SCHEDULES is a file of schedules, each after its length in four bytes; COMMAND runs the program under test.
 
+use reference::process::output_of;
 use reference::tally::Tally;
 use reference::text::bench_report;
-use std::io::{self, Write};
-use std::process::{Command, ExitCode, Stdio};
-use std::{env, fs, thread};
+use std::process::ExitCode;
+use std::{env, fs, io};
 
 fn main() -> ExitCode {
     match compare() {
@@ -65,7 +65,7 @@ fn split(file: &[u8]) -> io::Result<Vec<&[u8]>> {
 
 fn compare_one(schedule: &[u8], command: &[String]) -> io::Result<()> {
     let expected = bench_report(schedule);
-    let printed = run(command, schedule)?;
+    let printed = output_of(command, schedule)?;
     if printed == expected.as_bytes() {
         return Ok(());
     }
@@ -82,29 +82,4 @@ fn compare_one(schedule: &[u8], command: &[String]) -> io::Result<()> {
         line(&expected),
         line(&printed)
     )))
-}
-
-/// What the program prints for the schedule on its standard input.
-fn run(command: &[String], schedule: &[u8]) -> io::Result<Vec<u8>> {
-    let [program, arguments @ ..] = command else {
-        return Err(io::Error::other("no program to compare with"));
-    };
-    let mut child = Command::new(program)
-        .args(arguments)
-        .stdin(Stdio::piped())
-        .stdout(Stdio::piped())
-        .spawn()?;
-    let mut input = child.stdin.take().expect("a pipe");
-    let output = thread::scope(|scope| {
-        // A program may stop reading early; what it prints is compared all the same.
-        scope.spawn(move || input.write_all(schedule).ok());
-        child.wait_with_output()
-    })?;
-    if !output.status.success() {
-        return Err(io::Error::other(format!(
-            "the program ended with {}",
-            output.status
-        )));
-    }
-    Ok(output.stdout)
 }

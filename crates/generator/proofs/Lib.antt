@@ -1,0 +1,3 @@
+pub mod Remaining
+pub mod Votes
+pub mod Filled

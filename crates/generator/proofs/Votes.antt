@@ -1,0 +1,15 @@
+-- The loop over votes: none yet, and all of them.
+use Prim.Native.Nat.{ℕ, _≤_}
+use mathlib.Core.Path.{_≡_}
+use mathlib.Core.List.{List}
+use lib.ListN.{length}
+use Rattle.text.specs.Writing.{Put, highest}
+use Rattle.text.specs.WritingLaws.{put-nothing}
+use Rattle.generator.specs.File.{votesTo, recordsOf}
+
+pub put-no-votes : (l : List ℕ) (at : ℕ) → at ≤ highest → length l ≤ highest → Put l l at at (recordsOf (votesTo 0))
+unfolding votesTo recordsOf
+put-no-votes l at h b = put-nothing l at h b
+
+pub put-votes-to : {l m : List ℕ} {at next k n : ℕ} → k ≡ n → Put l m at next (recordsOf (votesTo k)) → Put l m at next (recordsOf (votesTo n))
+put-votes-to e p = rw e at p

@@ -1,0 +1,58 @@
+use native.Mathlib.Omega.{arith}
+use borrow.Author.Needs.{needs}
+use Rattle.text.specs.WritingLaws.{put-length}
+use Rattle.generator.specs.File.{drawnFrom, recordsOf}
+use Rattle.generator.proofs.Remaining.{Remaining, none-yet, one-more, none-left}
+use Rattle.generator.proofs.file.put_drawn.Statement.{statement}
+use Rattle.generator.proofs.file.put_drawn.Tie as tie
+
+abbrev Inv-loop : tie.InvT-loop
+Inv-loop out₀ at n count start next₀ state₀ left₀ out next state left = Remaining out₀ out at next (recordsOf (drawnFrom n left state)) (recordsOf (drawnFrom n count start))
+
+abbrev μ-loop : tie.MeasureT-loop
+μ-loop out₀ at n count start next₀ state₀ left₀ out next state left = left
+
+loop-holds : tie.Need-loop-holds Inv-loop μ-loop
+loop-holds c = none-yet _ _ _ (omega arith) (omega arith)
+
+drawn-event-requires : tie.Need-drawn-event-requires Inv-loop μ-loop
+drawn-event-requires c κs = search needs
+
+put-record-requires : tie.Need-put-record-requires Inv-loop μ-loop
+put-record-requires c κs = search needs
+
+sub-left : tie.Need-sub-left Inv-loop μ-loop
+sub-left c = search needs
+
+loop-less : tie.Need-loop-less Inv-loop μ-loop
+loop-less c = omega arith
+
+loop-again : tie.Need-loop-again Inv-loop μ-loop
+loop-again c =
+    let call = c .before .before in
+    let drawing = call .before .before in
+    let l = drawing .before .before .loop in
+    one-more _ (l .left) (l .state) _ (drawing .before .loop-test .taken) (drawing .drawn-event .ensures) (l .inv) (call .put-record .ensures)
+
+same-length : tie.Need-same-length Inv-loop μ-loop
+same-length c = put-length (c .before .loop .inv .put)
+
+returns : tie.Need-returns Inv-loop μ-loop
+returns c =
+    let l = c .before .loop in
+    none-left _ (l .left) (l .state) (omega arith) (l .inv)
+
+pub put-drawn-spec : {M : Type 1} → statement M
+put-drawn-spec =
+    tie.close
+    (tie.spec
+    Inv-loop
+    μ-loop
+    loop-holds
+    drawn-event-requires
+    put-record-requires
+    sub-left
+    loop-less
+    loop-again
+    same-length
+    returns)

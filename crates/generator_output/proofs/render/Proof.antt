@@ -1,0 +1,79 @@
+use borrow.Author.Tests.{eq-eqb, ne-eqb}
+use Rattle.generator_output.specs.Output.{outputOf}
+use borrow.Author.Needs.{needs}
+use Rattle.generator_output.proofs.render.Statement.{statement}
+use Rattle.generator_output.proofs.render.Tie as tie
+
+write-refusal-requires : tie.Need-write-refusal-requires
+write-refusal-requires c κs = search needs
+
+same-length : tie.Need-same-length
+same-length c = search needs
+
+returns : tie.Need-returns
+unfolding outputOf
+returns c = simp (ne-eqb _ _ (c .before .before .before .before .if1 .taken)) (c .before .before .write-refusal .ensures)
+
+shared-slice-read-number2 : tie.Need-shared-slice-read-number2
+shared-slice-read-number2 c = search needs
+
+shared-slice-read-number2-2 : tie.Need-shared-slice-read-number2-2
+shared-slice-read-number2-2 c = search needs
+
+number2-requires : tie.Need-number2-requires
+number2-requires c κs = search needs
+
+shared-slice-read-number4 : tie.Need-shared-slice-read-number4
+shared-slice-read-number4 c = search needs
+
+shared-slice-read-number4-2 : tie.Need-shared-slice-read-number4-2
+shared-slice-read-number4-2 c = search needs
+
+shared-slice-read-number4-3 : tie.Need-shared-slice-read-number4-3
+shared-slice-read-number4-3 c = search needs
+
+shared-slice-read-number4-4 : tie.Need-shared-slice-read-number4-4
+shared-slice-read-number4-4 c = search needs
+
+number4-requires : tie.Need-number4-requires
+number4-requires c κs = search needs
+
+shared-slice-read-write-for : tie.Need-shared-slice-read-write-for
+shared-slice-read-write-for c = search needs
+
+shared-slice-read-write-for-2 : tie.Need-shared-slice-read-write-for-2
+shared-slice-read-write-for-2 c = search needs
+
+write-for-requires : tie.Need-write-for-requires
+write-for-requires c κs = search needs
+
+same-length-2 : tie.Need-same-length-2
+same-length-2 c = search needs
+
+returns-2 : tie.Need-returns-2
+unfolding outputOf
+returns-2 c =
+    let numbering = c .before .before .before .before .before .before in
+    let counting = numbering .before .before .before .before .before in
+    simp (eq-eqb _ _ (counting .before .before .before .if1 .left), ← counting .number2 .ensures, ← numbering .number4 .ensures) (c .before .before .write-for .ensures)
+
+pub render-spec : {M : Type 1} → statement M
+render-spec =
+    tie.close
+    (tie.spec
+    write-refusal-requires
+    same-length
+    returns
+    shared-slice-read-number2
+    shared-slice-read-number2-2
+    number2-requires
+    shared-slice-read-number4
+    shared-slice-read-number4-2
+    shared-slice-read-number4-3
+    shared-slice-read-number4-4
+    number4-requires
+    shared-slice-read-write-for
+    shared-slice-read-write-for-2
+    write-for-requires
+    same-length-2
+    returns-2)

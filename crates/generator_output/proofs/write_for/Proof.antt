@@ -1,0 +1,72 @@
+use mathlib.Core.Path.{sym, _∙_, ap}
+use mathlib.Core.List.{List}
+use Prim.Native.Nat.{ℕ}
+use lib.Seq.{length-take-le}
+use Rattle.text.specs.Writing.{fitted, fittedLength}
+use Rattle.generator_output.specs.OutputLaws.{refused-output, short-output, whole-output}
+use borrow.Author.Needs.{needs}
+use Rattle.generator_output.proofs.write_for.Statement.{statement}
+use Rattle.generator_output.proofs.write_for.Tie as tie
+
+refusal-of-requires : tie.Need-refusal-of-requires
+refusal-of-requires c κs = search needs
+
+cast-write-refusal : tie.Need-cast-write-refusal
+cast-write-refusal c = search needs
+
+write-refusal-requires : tie.Need-write-refusal-requires
+write-refusal-requires c κs = search needs
+
+same-length : tie.Need-same-length
+same-length c = search needs
+
+returns : tie.Need-returns
+returns c =
+    let out = c .before .before .before .before .before .before .before .args .out .now in
+    let w = c .before .before .write-refusal .ensures in
+    let e = sym (refused-output _ _ _ _ _ (c .before .before .before .before .before .refusal-of .ensures) (c .before .before .before .before .if1 .taken)) in
+    (w .0 ∙ ap (λ (x : List ℕ). fittedLength x out) e, w .1 ∙ ap (λ (x : List ℕ). fitted x out) e)
+
+file-length-requires : tie.Need-file-length-requires
+file-length-requires c κs = search needs
+
+returns-2 : tie.Need-returns-2
+returns-2 c =
+    let asking = c .before .before .before in
+    short-output _ _ _ _ _ _ _ (asking .refusal-of .ensures) (c .before .before .if1 .left) (c .before .file-length .ensures) (c .if2 .taken)
+
+slice-relend-prefix-generate : tie.Need-slice-relend-prefix-generate
+slice-relend-prefix-generate c = search needs
+
+slice-aggregate-generate : tie.Need-slice-aggregate-generate
+slice-aggregate-generate c = sym (length-take-le _ _ (c .before .if2 .left))
+
+generate-requires : tie.Need-generate-requires
+generate-requires c κs = search needs
+
+same-length-2 : tie.Need-same-length-2
+same-length-2 c = search needs
+
+returns-3 : tie.Need-returns-3
+returns-3 c =
+    let writing = c .before .before in
+    let measuring = writing .before .before .before in
+    let asking = measuring .before .before in
+    whole-output _ _ _ _ _ _ _ (asking .refusal-of .ensures) (measuring .before .if1 .left) (measuring .file-length .ensures) _ (writing .before .before .if2 .left) (writing .generate .ensures .1)
+
+pub write-for-spec : {M : Type 1} → statement M
+write-for-spec =
+    tie.close
+    (tie.spec
+    refusal-of-requires
+    cast-write-refusal
+    write-refusal-requires
+    same-length
+    returns
+    file-length-requires
+    returns-2
+    slice-relend-prefix-generate
+    slice-aggregate-generate
+    generate-requires
+    same-length-2
+    returns-3)
