@@ -17,7 +17,7 @@ use Rattle.protocol.specs.Benches.{newBench}
 use Rattle.protocol.specs.Questions.{number, reply}
 use Rattle.protocol.specs.Steps.{step, run}
 use Rattle.bench_run.specs.Schedule.{piece, count, letThrough, eventsTo}
-use Rattle.bench_run.specs.Runs.{answerTo, answersTo, hasRoom, notRun, runOf, answered}
+use Rattle.bench_run.specs.Runs.{answerNumber, answersTo, hasRoom, notRun, runOf, answered}
 
 append-nil : {A : Type 0} (l : List A) → l ++ [] ≡ l
 append-nil [] = refl
@@ -54,11 +54,11 @@ unfolding answersTo
 none-answered s out = refl
 
 more-answered : (s out : List ℕ) (k a : ℕ) (b : Bench) (r : ReadEvent) → k < length out → r ≡ readEvent (piece s k) → b ≡ run newBench (eventsTo s k)
-    → a ≡ answerTo r b → set (answersTo s k ++ drop k out) k a ≡ answersTo s (k + 1) ++ drop (k + 1) out
+    → a ≡ answerNumber r b → set (answersTo s k ++ drop k out) k a ≡ answersTo s (k + 1) ++ drop (k + 1) out
 unfolding answersTo
 more-answered s out k a b r h e p q =
     let f = answersTo s k in
-    let w : a ≡ answerTo (readEvent (piece s k)) (run newBench (eventsTo s k)) = rw (q, p, e) in
+    let w : a ≡ answerNumber (readEvent (piece s k)) (run newBench (eventsTo s k)) = rw (q, p, e) in
     ap (λ (l : List ℕ). set (f ++ l) k a) (drop-cons out k 0 h)
     ∙ set-at f (getD out k 0) (drop (suc k) out) a k (length-answers s k)
     ∙ rw (add-one, append-assoc, w)
@@ -83,7 +83,7 @@ start s out all b w r e = record {
 }
 
 module _ (s out₀ : List ℕ) (all k : ℕ) (b : Bench) (out : List ℕ) (p : Upto s out₀ all k b out) (h : k < all) (r : ReadEvent) (read : r ≡ readEvent (piece s k)) where
-  next : (b′ : Bench) (a : ℕ) → b′ ≡ stepRead b r → a ≡ answerTo r b → Upto s out₀ all (k + 1) b′ (set out k a)
+  next : (b′ : Bench) (a : ℕ) → b′ ≡ stepRead b r → a ≡ answerNumber r b → Upto s out₀ all (k + 1) b′ (set out k a)
   next b′ a x y = record {
     upto = omega arith;
     whole = p .whole;
@@ -95,10 +95,10 @@ module _ (s out₀ : List ℕ) (all k : ℕ) (b : Bench) (out : List ℕ) (p : U
 
   -- reading let an event through, or it did not
   pub let-through : (e : Event) → r ≡ Read e → (b′ : Bench) (a : ℕ) → b′ ≡ step b e → a ≡ number (reply b e) → Upto s out₀ all (k + 1) b′ (set out k a)
-  let-through e w b′ a x y = next b′ a (x ∙ ap (stepRead b) (sym w)) (y ∙ ap (λ (z : ReadEvent). answerTo z b) (sym w))
+  let-through e w b′ a x y = next b′ a (x ∙ ap (stepRead b) (sym w)) (y ∙ ap (λ (z : ReadEvent). answerNumber z b) (sym w))
 
   pub not-read : (q : ℕ) → r ≡ Refused q → (a : ℕ) → a ≡ answerOf r .number → Upto s out₀ all (k + 1) b (set out k a)
-  not-read q w a y = next b a (ap (stepRead b) (sym w)) (y ∙ ap (λ (z : ReadEvent). answerOf z .number) w ∙ ap (λ (z : ReadEvent). answerTo z b) (sym w))
+  not-read q w a y = next b a (ap (stepRead b) (sym w)) (y ∙ ap (λ (z : ReadEvent). answerOf z .number) w ∙ ap (λ (z : ReadEvent). answerNumber z b) (sym w))
 
 -- the result: with too little room nothing is run, else all are played
 pub no-room : (s out : List ℕ) (all : ℕ) → all ≡ count s → length out < all → (notRun ≡ runOf s out) × (out ≡ answered s out)

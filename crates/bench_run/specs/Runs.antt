@@ -15,13 +15,13 @@ use Rattle.bench_run.specs.Schedule.{piece, count, eventsTo, events}
 use Rattle.bench_run.specs.declared.RunResult.{RunResult}
 
 -- a record's answer: the number with which reading refused it, or the bench's answer
-abbrev pub answerTo : ReadEvent → Bench → ℕ
-answerTo (Read e) b = number (reply b e)
-answerTo (Refused q) b = q
+abbrev pub answerNumber : ReadEvent → Bench → ℕ
+answerNumber (Read e) b = number (reply b e)
+answerNumber (Refused q) b = q
 
 -- the answer to record k, which finds the bench that the records before it have left
 abbrev pub answerAt : List ℕ → ℕ → ℕ
-answerAt s k = answerTo (readEvent (piece s k)) (run newBench (eventsTo s k))
+answerAt s k = answerNumber (readEvent (piece s k)) (run newBench (eventsTo s k))
 
 unfoldable pub answersTo : List ℕ → ℕ → List ℕ
 answersTo s zero = []

@@ -9,12 +9,12 @@ use Rattle.model.specs.Ranges.{sizesInRange, isController, positionInRange}
 use Rattle.model.specs.declared.Checkpoint.{Checkpoint}
 use Rattle.records.specs.Bytes.{one, four}
 use Rattle.records.specs.Codes.{isOutcome, outcomeOf}
-use Rattle.records.specs.Codec.{marked, Answer, isRecord, isRefusal, Codec}
+use Rattle.records.specs.Codec.{marked, Reading, isRecord, isRefusal, Codec}
 use Rattle.checkpoint_record.specs.declared.ReadCheckpoint.{ReadCheckpoint}
 use Rattle.checkpoint_record.specs.declared.ReadCheckpoint.the-variants.{Read, Refused}
 
 -- what the reader's answer says
-abbrev pub answerOf : ReadCheckpoint → Answer Checkpoint
+abbrev pub answerOf : ReadCheckpoint → Reading Checkpoint
 answerOf (Read p) = isRecord p
 answerOf (Refused q) = isRefusal q
 

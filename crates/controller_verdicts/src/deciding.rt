@@ -15,7 +15,7 @@ ghost use Rattle.votes.specs.VoteSets.{empty, complete};
 ghost use Rattle.protocol.specs.Rules.{backupsComplete, secondKnows, decides};
 
 // The sheet of sender j in a list. Only as many senders as the limit have a place.
-fn sheet_of(sets: [VoteSet; LIMIT], j: u8) -> VoteSet
+fn set_of(sets: [VoteSet; LIMIT], j: u8) -> VoteSet
     ensures { λ r. ⌜ r ≡ nth empty sets j ⌝ }
 {
     if j < 1 {
@@ -34,7 +34,7 @@ fn held_complete(n: u8, acks: Acks, j: u8) -> bool
 {
     if has(acks.from, j) {
         let sets = acks.sets;
-        return complete(sheet_of(sets, j), n);
+        return complete(set_of(sets, j), n);
     }
     false
 }

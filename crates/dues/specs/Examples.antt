@@ -9,7 +9,7 @@ use Rattle.records.specs.Codes.{outcomeOf}
 use Rattle.tariff.specs.Tariff.{fullCharge}
 use Rattle.tariff.specs.Shares.{roundedUp}
 use Rattle.tariff.specs.Charges.{charge}
-use Rattle.dues.specs.Sheet.{lockageAt, lockagesTo, every, total, questions, totals, answerTo, numberOf, valuesOf}
+use Rattle.dues.specs.Sheet.{lockageAt, lockagesTo, every, total, questions, totals, duesFor, numberOf, valuesOf}
 
 -- the bytes of a lockage: length, outcome, return
 abbrev pub bytes : ℕ → ℕ → ℕ → List ℕ
@@ -48,14 +48,14 @@ examples =
 
 abbrev pub passes : Example → Bool
 passes e =
-    eqb (numberOf (answerTo (e .sheet))) (e .number)
-    && eqb (valuesOf (answerTo (e .sheet)) .upper) (e .upper)
-    && eqb (valuesOf (answerTo (e .sheet)) .lower) (e .lower)
+    eqb (numberOf (duesFor (e .sheet))) (e .number)
+    && eqb (valuesOf (duesFor (e .sheet)) .upper) (e .upper)
+    && eqb (valuesOf (duesFor (e .sheet)) .lower) (e .lower)
 
 abbrev pub allPass : List Example → Bool
 allPass [] = true
 allPass (e ∷ es) = passes e && allPass es
 
 pub examples-pass : allPass examples ≡ true
-unfolding answerTo questions firstNo unless totals total every lockagesTo lockageAt outcomeOf charge fullCharge roundedUp
+unfolding duesFor questions firstNo unless totals total every lockagesTo lockageAt outcomeOf charge fullCharge roundedUp
 examples-pass = refl

@@ -68,8 +68,8 @@ abbrev pub answered : Reply → Shares → Answer
 answered accepted t = Totals t
 answered (refused q) t = Refused q
 
-unfoldable pub answerTo : List ℕ → Answer
-answerTo s = answered (firstNo (questions s)) (totals (lockages s))
+unfoldable pub duesFor : List ℕ → Answer
+duesFor s = answered (firstNo (questions s)) (totals (lockages s))
 
 -- the paper's number for an answer, 0 for totals; and its values, nothing to either owner where the sheet is refused
 abbrev pub numberOf : Answer → ℕ
@@ -82,6 +82,6 @@ valuesOf (Refused q) = record { upper = 0; lower = 0 }
 
 -- what is promised of the answer to a sheet
 pub record DuesOf (s : List ℕ) (r : Answer) : Type 0 where
-  pub answer : r ≡ answerTo s
+  pub answer : r ≡ duesFor s
   -- "the two totals make up the sum of the charges"
   pub sum : numberOf r ≡ 0 → valuesOf r .upper + valuesOf r .lower ≡ total chargeOf (lockages s)

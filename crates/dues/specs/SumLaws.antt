@@ -9,7 +9,7 @@ use Rattle.tariff.specs.declared.Shares.{Shares}
 use Rattle.tariff.specs.ShareLaws.{make-up}
 use Rattle.dues.specs.declared.Lockage.{Lockage}
 use Rattle.dues.specs.declared.Answer.{Answer}
-use Rattle.dues.specs.Sheet.{chargeOf, lockages, total, totals, questions, answerTo, answered, numberOf, valuesOf, DuesOf}
+use Rattle.dues.specs.Sheet.{chargeOf, lockages, total, totals, questions, duesFor, answered, numberOf, valuesOf, DuesOf}
 
 -- "the two totals make up the sum of the charges"
 pub totals-make-up : (ls : List Lockage) → totals ls .upper + totals ls .lower ≡ total chargeOf ls
@@ -21,12 +21,12 @@ same-number : (r : Reply) (t : Shares) → numberOf (answered r t) ≡ number r
 same-number accepted t = refl
 same-number (refused q) t = refl
 
-pub answer-sum : (s : List ℕ) → numberOf (answerTo s) ≡ 0 → valuesOf (answerTo s) .upper + valuesOf (answerTo s) .lower ≡ total chargeOf (lockages s)
-unfolding answerTo questions
+pub answer-sum : (s : List ℕ) → numberOf (duesFor s) ≡ 0 → valuesOf (duesFor s) .upper + valuesOf (duesFor s) .lower ≡ total chargeOf (lockages s)
+unfolding duesFor questions
 answer-sum s z =
     let e : firstNo (questions s) ≡ accepted = reply-accepted (questions s) _ refl (same-number (firstNo (questions s)) (totals (lockages s))) z in
     rw e (totals-make-up (lockages s))
 
 -- whatever equals the definition's answer is what is promised
-pub dues-of : (s : List ℕ) (r : Answer) → r ≡ answerTo s → DuesOf s r
+pub dues-of : (s : List ℕ) (r : Answer) → r ≡ duesFor s → DuesOf s r
 dues-of s r e = record { answer = e; sum = rw e (answer-sum s) }

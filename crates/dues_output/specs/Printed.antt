@@ -8,7 +8,7 @@ use Rattle.text.specs.Text.{decimal, line, refusal}
 use Rattle.tariff.specs.declared.Shares.{Shares}
 use Rattle.dues.specs.declared.Answer.{Answer}
 use Rattle.dues.specs.declared.Answer.the-variants.{Totals, Refused}
-use Rattle.dues.specs.Sheet.{answerTo}
+use Rattle.dues.specs.Sheet.{duesFor}
 
 abbrev pub totalsLine : Shares → List ℕ
 totalsLine t = line (decimal (t .upper) ∷ decimal (t .lower) ∷ [])
@@ -19,7 +19,7 @@ answerLine (Refused q) = refusal q
 
 -- the program holds 65,536 bytes. A longer sheet has more than 1,000 lockages: 22
 unfoldable pub heldAnswer : List ℕ → Answer
-heldAnswer s = cond (ltb 65536 (length s)) (Refused 22) (answerTo s)
+heldAnswer s = cond (ltb 65536 (length s)) (Refused 22) (duesFor s)
 
 abbrev pub outputOf : List ℕ → List ℕ
 outputOf s = answerLine (heldAnswer s)

@@ -8,14 +8,14 @@ use Rattle.model.specs.declared.Event.{Event}
 use Rattle.model.specs.declared.Event.the-variants.{Lock, Order, Cast, Deliver, Timeout, Decide, Stop, Save, Restore}
 use Rattle.records.specs.Bytes.{one, four}
 use Rattle.records.specs.Codes.{isKind, kindOf, isFlag, flagOf, flagNumber, unused}
-use Rattle.records.specs.Codec.{marked, Answer, isRecord, isRefusal, Codec, recordLength, bytesOf, reads}
-use Rattle.records.specs.Rows.{Row, row, rowOf}
+use Rattle.records.specs.Codec.{marked, Reading, isRecord, isRefusal, Codec, recordLength, bytesOf, reads}
+use Rattle.records.specs.Rows.{KindRow, row, rowOf}
 use Rattle.event_record.specs.declared.Fields.{Fields}
 use Rattle.event_record.specs.declared.ReadEvent.{ReadEvent}
 use Rattle.event_record.specs.declared.ReadEvent.the-variants.{Read, Refused}
 
 -- what the reader's answer says
-abbrev pub answerOf : ReadEvent → Answer Event
+abbrev pub answerOf : ReadEvent → Reading Event
 answerOf (Read e) = isRecord e
 answerOf (Refused q) = isRefusal q
 
@@ -43,7 +43,7 @@ fieldsOf (Restore id) = fields 8 id 0 0 0
 
 -- "0 lock (a = n, b = f); 1 order (value = number); 2 vote (a, b = 1 willing or 0, value = target, two's complement); 3 deliver (a = from, b = to,
 -- c = telegram kind); 4 bell (a); 5 arbiter (a, b = 0 Stay or 1 Move); 6 stop (a); 7 save (a); 8 restore (a). Unused fields are 0."
-unfoldable pub rows : Fields → List (Row Event)
+unfoldable pub rows : Fields → List (KindRow Event)
 rows x =
     row 0 (unused (x .c) && unused (x .value)) (Lock (x .a) (x .b))
     ∷ row 1 (unused (x .a) && unused (x .b) && unused (x .c)) (Order (x .value))
@@ -56,7 +56,7 @@ rows x =
     ∷ row 8 (unused (x .b) && unused (x .c) && unused (x .value)) (Restore (x .a))
     ∷ []
 
-unfoldable pub rowFor : Fields → Row Event
+unfoldable pub rowFor : Fields → KindRow Event
 rowFor x = rowOf (Lock 0 0) (x .kind) (rows x)
 
 -- "Event, 10 bytes: 4C 45; kind; a; b; c; value (4)." "Reading an event record puts 1 to 3", and writing 1.

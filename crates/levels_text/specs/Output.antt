@@ -16,8 +16,8 @@ abbrev pub rangeAt : List ℕ → ℕ → Range
 rangeAt s at = record { low = number4 s at; high = number4 s (at + 4) }
 
 -- the range above, then the range below; input of another length gets 1
-unfoldable pub answerTo : List ℕ → Willingness
-answerTo s = cond (eqb (length s) 16) (willingness (rangeAt s 0) (rangeAt s 8)) (Refused 1)
+unfoldable pub willingnessIn : List ℕ → Willingness
+willingnessIn s = cond (eqb (length s) 16) (willingness (rangeAt s 0) (rangeAt s 8)) (Refused 1)
 
 -- the line for an answer; a refusal as "- " and its number
 unfoldable pub words : Willingness → List ℕ
@@ -27,4 +27,4 @@ words Unsure = line (ascii "unsure" ∷ [])
 words (Refused q) = refusal q
 
 unfoldable pub outputOf : List ℕ → List ℕ
-outputOf s = words (answerTo s)
+outputOf s = words (willingnessIn s)

@@ -12,11 +12,11 @@ use Rattle.levels.specs.declared.Willingness.the-variants.{Willing, CertainlyUn
 use Rattle.levels.specs.Judged.{Judged}
 use Rattle.levels.specs.Ends.{willingness}
 use Rattle.levels.specs.EndsLaws.{ends-decide, judged-once}
-use Rattle.levels_text.specs.Output.{rangeAt, answerTo, words, outputOf}
+use Rattle.levels_text.specs.Output.{rangeAt, willingnessIn, words, outputOf}
 
 -- of an input of 16 bytes the program prints the words of the answer that is right for its two ranges
 pub prints-right : (s : List ℕ) (w : Willingness) → length s ≡ 16 → Judged (rangeAt s 0) (rangeAt s 8) w → outputOf s ≡ words w
-unfolding outputOf answerTo
+unfolding outputOf willingnessIn
 prints-right s w l j =
     let e : willingness (rangeAt s 0) (rangeAt s 8) ≡ w = judged-once (rangeAt s 0) (rangeAt s 8) (willingness (rangeAt s 0) (rangeAt s 8)) w (ends-decide (rangeAt s 0) (rangeAt s 8)) j in
     rw (eq-eqb (length s) 16 l) (ap words e)
@@ -31,4 +31,4 @@ words-length (Refused q) = omega (arith, refusal-length q)
 -- 20 bytes hold every output
 pub output-length : (s : List ℕ) → length (outputOf s) ≤ 20
 unfolding outputOf
-output-length s = words-length (answerTo s)
+output-length s = words-length (willingnessIn s)

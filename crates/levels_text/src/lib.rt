@@ -4,7 +4,7 @@ ghost use Prim.Native.Nat.{_+_, _≤_};
 ghost use lib.ListN.{length};
 ghost use Rattle.text.specs.Writing.{fitted, fittedLength};
 ghost use Rattle.records.specs.Bytes.{number4};
-ghost use Rattle.levels_text.specs.Output.{rangeAt, words, answerTo, outputOf};
+ghost use Rattle.levels_text.specs.Output.{rangeAt, words, willingnessIn, outputOf};
 use levels::Range;
 use levels::Willingness;
 use levels::judge;
@@ -36,7 +36,7 @@ fn range_at(s: &[u8], at: usize) -> Range
 
 // The answer to an input: above low, above high, below low, below high.
 fn answer_to(s: &[u8]) -> Willingness
-    ensures { λ r. ⌜ r ≡ answerTo (now (s .entry)) ⌝ }
+    ensures { λ r. ⌜ r ≡ willingnessIn (now (s .entry)) ⌝ }
 {
     if s.len() != 16 {
         return Willingness::Refused(1);

@@ -14,12 +14,12 @@ use Rattle.model.specs.declared.Kind.the-variants.{Vote, Ack, Help, Helped}
 use Rattle.model.specs.declared.Message.{Message}
 use Rattle.records.specs.Bytes.{one, two, four}
 use Rattle.records.specs.Codes.{isKind, kindOf, unused}
-use Rattle.records.specs.Codec.{marked, Answer, isRecord, isRefusal, Codec}
+use Rattle.records.specs.Codec.{marked, Reading, isRecord, isRefusal, Codec}
 use Rattle.message_record.specs.declared.ReadMessage.{ReadMessage}
 use Rattle.message_record.specs.declared.ReadMessage.the-variants.{Read, Refused}
 
 -- what the reader's answer says
-abbrev pub answerOf : ReadMessage → Answer Message
+abbrev pub answerOf : ReadMessage → Reading Message
 answerOf (Read m) = isRecord m
 answerOf (Refused q) = isRefusal q
 

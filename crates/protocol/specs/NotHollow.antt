@@ -17,7 +17,7 @@ pub record CleanList (n f i : ℕ) : Type 0 where
   pub lock-n : (after events) .shared .n ≡ n
   pub lock-f : (after events) .shared .f ≡ f
   -- the bell of i is accepted there, it is a second bell, and right after it the order is clean
-  pub bell : Accepted events (Timeout i)
+  pub timeout : Accepted events (Timeout i)
   pub second : IsSecondTimeout n f events i
   pub clean : Clean n f (events ++ (Timeout i ∷ []))
 

@@ -26,9 +26,9 @@ pub record Inside : Type 0 where
   pub cnt : ℕ
   pub cnt-help : ℕ
   pub waits : Bool
-  pub put : Outcome
+  pub proposal : Outcome
 
-pub record Row : Type 0 where
+pub record Trial : Type 0 where
   -- put to a new bench
   pub events : List Event
   -- the answer to each event, 0 accepted
@@ -56,7 +56,7 @@ abbrev pub lineOf : Bench → ℕ → Line
 lineOf b i = record { stage = shownStage b i; outcome = shownOutcome b i; position = shownPosition b i }
 
 abbrev pub insideOf : Bench → ℕ → Inside
-insideOf b i = record { cnt = (controller b i) .acks .cnt .0; cnt-help = (controller b i) .helped .«cnt_help» .0; waits = (controller b i) .help .waiting; put = (controller b i) .proposal }
+insideOf b i = record { cnt = (controller b i) .acks .cnt .0; cnt-help = (controller b i) .helped .«cnt_help» .0; waits = (controller b i) .help .waiting; proposal = (controller b i) .proposal }
 
 abbrev pub telegramsOf : Bench → List ℕ
 telegramsOf b = telegrams b Vote ∷ telegrams b Ack ∷ telegrams b Help ∷ telegrams b Helped ∷ []
@@ -84,14 +84,14 @@ abbrev pub sameLine : Line → Line → Bool
 sameLine x y = eqb (x .stage) (y .stage) && sameOutcome (x .outcome) (y .outcome) && eqb (x .position) (y .position)
 
 abbrev pub sameInside : Inside → Inside → Bool
-sameInside x y = eqb (x .cnt) (y .cnt) && eqb (x .cnt-help) (y .cnt-help) && Bool·beq (x .waits) (y .waits) && sameOutcome (x .put) (y .put)
+sameInside x y = eqb (x .cnt) (y .cnt) && eqb (x .cnt-help) (y .cnt-help) && Bool·beq (x .waits) (y .waits) && sameOutcome (x .proposal) (y .proposal)
 
 -- what a bench shows is what the row says
-unfoldable pub shows : Bench → Row → Bool
+unfoldable pub shows : Bench → Trial → Bool
 shows b r = same sameLine (each (b .shared .n) (lineOf b)) (r .lines)
     && same eqb (telegramsOf b) (r .telegrams)
     && same sameOutcome (wordsPut (b .shared .consensus)) (r .words)
     && same sameInside (each (b .shared .n) (insideOf b)) (r .inside)
 
-unfoldable pub passes : Row → Bool
+unfoldable pub passes : Trial → Bool
 passes r = same eqb (answersTo newBench (r .events)) (r .answers) && shows (run newBench (r .events)) r

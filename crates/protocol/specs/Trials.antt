@@ -10,7 +10,7 @@ use Rattle.model.specs.declared.Outcome.{Outcome}
 use Rattle.model.specs.declared.Outcome.the-variants.{None, Stay, Move}
 use Rattle.model.specs.declared.Event.{Event}
 use Rattle.model.specs.declared.Event.the-variants.{Lock, Order, Cast, Deliver, Timeout, Decide, Stop, Save, Restore}
-use Rattle.protocol.specs.Rows.{Line, Inside, Row, passes}
+use Rattle.protocol.specs.Rows.{Line, Inside, Trial, passes}
 
 -- a C line, and a T line
 abbrev pub C : ℕ → Outcome → ℕ → Line
@@ -21,16 +21,16 @@ T votes acks calls answers = votes ∷ acks ∷ calls ∷ answers ∷ []
 
 -- inside a controller with so many acknowledgements and help answers: nothing more; a word put; it waits
 abbrev pub held : ℕ → ℕ → Inside
-held cnt cnt-help = record { cnt = cnt; cnt-help = cnt-help; waits = false; put = None }
+held cnt cnt-help = record { cnt = cnt; cnt-help = cnt-help; waits = false; proposal = None }
 
-abbrev pub put : Outcome → ℕ → ℕ → Inside
-put word cnt cnt-help = record { cnt = cnt; cnt-help = cnt-help; waits = false; put = word }
+abbrev pub proposed : Outcome → ℕ → ℕ → Inside
+proposed word cnt cnt-help = record { cnt = cnt; cnt-help = cnt-help; waits = false; proposal = word }
 
 abbrev pub waits : ℕ → ℕ → Inside
-waits cnt cnt-help = record { cnt = cnt; cnt-help = cnt-help; waits = true; put = None }
+waits cnt cnt-help = record { cnt = cnt; cnt-help = cnt-help; waits = true; proposal = None }
 
 -- a row after which no word is put
-abbrev pub silent : List Event → List ℕ → List Line → List ℕ → List Inside → Row
+abbrev pub silent : List Event → List ℕ → List Line → List ℕ → List Inside → Trial
 silent events answers lines telegrams inside = record { events = events; answers = answers; lines = lines; telegrams = telegrams; words = []; inside = inside }
 
 -- a position of −x mm: its two's complement in 32 bits; −250 is 4294967046
@@ -38,8 +38,8 @@ abbrev pub minus : ℕ → ℕ
 minus x = 2 ^ 32 - x
 
 -- the answers to k events, all accepted
-abbrev pub accepted : ℕ → List ℕ
-accepted k = replicate k 0
+abbrev pub allAccepted : ℕ → List ℕ
+allAccepted k = replicate k 0
 
 -- "Input: lock 2 1; order 1; vote 1 willing 500; vote 2 willing −250; deliver votes 1 to 2, 2 to 1; bells 1, 2;
 -- deliver acknowledgements 1 to 2, 2 to 1; bells 1, 2." With 2 willing or not.
@@ -61,43 +61,43 @@ abbrev pub restored : List Event
 restored = Lock 2 1 ∷ Order 1 ∷ Cast 1 true 500 ∷ Cast 2 true 250 ∷ Deliver 1 2 Vote ∷ Deliver 2 1 Vote ∷ Timeout 1 ∷ Timeout 2 ∷ Deliver 2 1 Ack
     ∷ Timeout 1 ∷ Timeout 2 ∷ Decide 2 true ∷ Save 2 ∷ Stop 2 ∷ Restore 2 ∷ []
 
-unfoldable pub table : List Row
+unfoldable pub table : List Trial
 table =
     -- 1★ "The listing." Its output: twelve lines "0 0" to "11 0", then "C 1 3 M 500", "C 2 3 M -250", "T 2 2 0 0"
-    silent (listing true) (accepted 12) (C 3 Move 500 ∷ C 3 Move (minus 250) ∷ []) (T 2 2 0 0) (held 2 0 ∷ held 1 0 ∷ [])
+    silent (listing true) (allAccepted 12) (C 3 Move 500 ∷ C 3 Move (minus 250) ∷ []) (T 2 2 0 0) (held 2 0 ∷ held 1 0 ∷ [])
     -- 2★ "The same with 2 unwilling: both S, nothing put."
-    ∷ silent (listing false) (accepted 12) (C 3 Stay 0 ∷ C 3 Stay 0 ∷ []) (T 2 2 0 0) (held 2 0 ∷ held 1 0 ∷ [])
+    ∷ silent (listing false) (allAccepted 12) (C 3 Stay 0 ∷ C 3 Stay 0 ∷ []) (T 2 2 0 0) (held 2 0 ∷ held 1 0 ∷ [])
     -- 3★ "n = 2, f = 1, willing, no delivery, all bells: both put Stay."
     ∷ record {
       events = undelivered;
-      answers = accepted 8;
+      answers = allAccepted 8;
       lines = C 3 None 0 ∷ C 3 None 0 ∷ [];
       telegrams = T 2 2 0 0;
       words = Stay ∷ [];
-      inside = put Stay 1 0 ∷ put Stay 0 1 ∷ [];
+      inside = proposed Stay 1 0 ∷ proposed Stay 0 1 ∷ [];
     }
     -- 4★ "n = 16, f = 15 accepted; n = 17, f = 0 and f = n give 4." Then "every controller is running at stage 0", and "with no order T is all 0"
     ∷ silent (Lock 17 16 ∷ Lock 16 0 ∷ Lock 16 16 ∷ Lock 16 15 ∷ []) (4 ∷ 4 ∷ 4 ∷ 0 ∷ []) (replicate 16 (C 0 None 0)) (T 0 0 0 0) (replicate 16 (held 0 0))
     -- 5★ "n = 3, f = 1, all willing; votes of 2 and 3 reach 1, nothing else before the bells; 3 gets 2's help answer and puts Stay;
     ∷ record {
       events = helped;
-      answers = accepted 13;
+      answers = allAccepted 13;
       lines = C 2 None 0 ∷ C 3 None 0 ∷ C 3 None 0 ∷ [];
       telegrams = T 3 3 2 1;
       words = Stay ∷ [];
-      inside = held 1 0 ∷ waits 0 1 ∷ put Stay 0 2 ∷ [];
+      inside = held 1 0 ∷ waits 0 1 ∷ proposed Stay 0 2 ∷ [];
     }
     -- 1's acknowledgement then reaches 2, which puts Move."
     ∷ record {
       events = helped ++ (Deliver 1 2 Ack ∷ []);
-      answers = accepted 14;
+      answers = allAccepted 14;
       lines = C 2 None 0 ∷ C 3 None 0 ∷ C 3 None 0 ∷ [];
       telegrams = T 3 3 2 1;
       words = Move ∷ Stay ∷ [];
-      inside = held 1 0 ∷ put Move 1 1 ∷ put Stay 0 2 ∷ [];
+      inside = held 1 0 ∷ proposed Move 1 1 ∷ proposed Stay 0 2 ∷ [];
     }
     -- 6★ "n = 4, f = 1: 4 holds nothing at its second bell; then 1's acknowledgement comes two times: counted a single time, 4 still waits."
-    ∷ silent (Lock 4 1 ∷ Order 1 ∷ Cast 1 true 10 ∷ Cast 4 true 40 ∷ Timeout 1 ∷ Timeout 4 ∷ Deliver 1 4 Ack ∷ Deliver 1 4 Ack ∷ []) (accepted 8)
+    ∷ silent (Lock 4 1 ∷ Order 1 ∷ Cast 1 true 10 ∷ Cast 4 true 40 ∷ Timeout 1 ∷ Timeout 4 ∷ Deliver 1 4 Ack ∷ Deliver 1 4 Ack ∷ []) (allAccepted 8)
     (C 2 None 0 ∷ C 0 None 0 ∷ C 0 None 0 ∷ C 3 None 0 ∷ []) (T 2 3 2 0) (held 1 0 ∷ held 0 0 ∷ held 0 0 ∷ waits 1 1 ∷ [])
     -- 7★ "Position 20,000 accepted, 20,001 gives 11." And "Positions are −20,000 to 20,000 mm"
     ∷ silent (Lock 2 1 ∷ Order 1 ∷ Cast 1 true 20001 ∷ Cast 1 true 20000 ∷ Cast 2 true (minus 20001) ∷ Cast 2 true (minus 20000) ∷ []) (0 ∷ 0 ∷ 11 ∷ 0 ∷ 11 ∷ 0 ∷ [])
@@ -107,23 +107,23 @@ table =
     -- 9★ "Arbiter Move when just Stay was put: 18." Stay is then accepted
     ∷ record {
       events = undelivered ++ (Decide 1 true ∷ Decide 1 false ∷ []);
-      answers = accepted 8 ++ (18 ∷ 0 ∷ []);
+      answers = allAccepted 8 ++ (18 ∷ 0 ∷ []);
       lines = C 3 Stay 0 ∷ C 3 None 0 ∷ [];
       telegrams = T 2 2 0 0;
       words = Stay ∷ [];
-      inside = put Stay 1 0 ∷ put Stay 0 1 ∷ [];
+      inside = proposed Stay 1 0 ∷ proposed Stay 0 1 ∷ [];
     }
     -- The arbiter's Move moves the gate; "**Restore** brings a stopped controller to standing by, with the card's outcome if the card is of this order,
     ∷ record {
       events = restored;
-      answers = accepted 15;
+      answers = allAccepted 15;
       lines = C 3 Move 500 ∷ C 9 Move 250 ∷ [];
       telegrams = T 2 2 0 0;
       words = Move ∷ [];
       inside = held 2 0 ∷ held 0 0 ∷ [];
     }
     -- else none."
-    ∷ silent (restored ++ (Order 2 ∷ Stop 2 ∷ Restore 2 ∷ [])) (accepted 18) (C 0 None 500 ∷ C 9 None 250 ∷ []) (T 0 0 0 0) (held 0 0 ∷ held 0 0 ∷ [])
+    ∷ silent (restored ++ (Order 2 ∷ Stop 2 ∷ Restore 2 ∷ [])) (allAccepted 18) (C 0 None 500 ∷ C 9 None 250 ∷ []) (T 0 0 0 0) (held 0 0 ∷ held 0 0 ∷ [])
     -- "The bench program": "With no lock there are no C lines; with no order T is all 0."
     ∷ silent [] [] [] (T 0 0 0 0) []
     -- "Questions put to a record or event": "The first "no" gives its number." The other numbers that the bench gives
@@ -133,7 +133,7 @@ table =
     ∷ []
 
 -- every row passes
-unfoldable pub allPass : List Row → Bool
+unfoldable pub allPass : List Trial → Bool
 allPass [] = true
 allPass (r ∷ rs) = passes r && allPass rs
 

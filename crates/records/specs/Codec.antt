@@ -28,14 +28,14 @@ markQuestion (marked m) s = ask 2 (eqb (number2 s 0) m) ∷ []
 markQuestion unmarked s = []
 
 -- what a reader's answer says in document 01's terms: the number, 0 for a record, and the record's value if there is one
-pub record Answer (A : Type 0) : Type 0 where
+pub record Reading (A : Type 0) : Type 0 where
   pub number : ℕ
   pub values : List A
 
-abbrev pub isRecord : {A : Type 0} → A → Answer A
+abbrev pub isRecord : {A : Type 0} → A → Reading A
 isRecord a = record { number = 0; values = a ∷ [] }
 
-abbrev pub isRefusal : {A : Type 0} → ℕ → Answer A
+abbrev pub isRefusal : {A : Type 0} → ℕ → Reading A
 isRefusal q = record { number = q; values = [] }
 
 -- the description of a record: A is what it stands for, R what its reader returns
@@ -52,7 +52,7 @@ pub record Codec (A R : Type 0) : Type 0 where
   -- what the reader returns for a value and for a refusal, and the one definition of what that says
   pub read : A → R
   pub refusal : ℕ → R
-  pub answer : R → Answer A
+  pub answer : R → Reading A
 
 module _ {A R : Type 0} (c : Codec A R) where
   abbrev pub recordLength : ℕ

@@ -14,8 +14,8 @@ use Rattle.model.specs.Questions.{Reply, accepted, refused, Question, firstNo}
 use Rattle.model.specs.QuestionLaws.{AllYes, all-yes, yes-all}
 use Rattle.records.specs.Bytes.{byte, number2, bytes2, bytes4, AllBytes, Width, one, two, four, size, numberAt, bytesOfWidth, numbersAt, bytesOfWidths, sizes}
 use Rattle.records.specs.ByteLaws.{number-of-two, number-of-four, of-two, of-four}
-use Rattle.records.specs.Codec.{Mark, marked, unmarked, markBytes, markLength, markQuestion, Answer, isRecord, isRefusal, Codec, recordLength, fieldsOn, valueOn, bytesOf, readQuestions, returned, reads, writeReply, written, writes}
-use Rattle.records.specs.Promises.{In32Bits, answerTo, Promises}
+use Rattle.records.specs.Codec.{Mark, marked, unmarked, markBytes, markLength, markQuestion, Reading, isRecord, isRefusal, Codec, recordLength, fieldsOn, valueOn, bytesOf, readQuestions, returned, reads, writeReply, written, writes}
+use Rattle.records.specs.Promises.{In32Bits, answerBy, Promises}
 
 -- numbers that their widths hold; what the code holds as a byte is one
 abbrev pub Holds : Width → ℕ → Type 0
@@ -135,16 +135,16 @@ pub record Lawful {A R : Type 0} (c : Codec A R) : Type 0 where
   pub answer-refusal : (q : ℕ) → c .answer (c .refusal q) ≡ isRefusal q
 
 -- an answer tells a record from a refusal
-told : {A : Type 0} (r : Reply) (x a : A) → answerTo r x ≡ isRecord a → (r ≡ accepted) × (x ≡ a)
-told {A = A} accepted x a e = (refl, ap (λ (y : Answer A). getD (y .values) 0 x) e)
-told {A = A} (refused q) x a e = let z : _≡_ {A = ℕ} 0 1 = ap (λ (y : Answer A). length (y .values)) e in absurd (omega arith)
+told : {A : Type 0} (r : Reply) (x a : A) → answerBy r x ≡ isRecord a → (r ≡ accepted) × (x ≡ a)
+told {A = A} accepted x a e = (refl, ap (λ (y : Reading A). getD (y .values) 0 x) e)
+told {A = A} (refused q) x a e = let z : _≡_ {A = ℕ} 0 1 = ap (λ (y : Reading A). length (y .values)) e in absurd (omega arith)
 
 module _ {A R : Type 0} (c : Codec A R) (law : Lawful c) where
-  answer-of : (r : Reply) (a : A) → c .answer (returned c r a) ≡ answerTo r a
+  answer-of : (r : Reply) (a : A) → c .answer (returned c r a) ≡ answerBy r a
   answer-of accepted a = law .answer-read a
   answer-of (refused q) a = law .answer-refusal q
 
-  answered : (s : List ℕ) → c .answer (reads c s) ≡ answerTo (firstNo (readQuestions c s)) (valueOn c s)
+  answered : (s : List ℕ) → c .answer (reads c s) ≡ answerBy (firstNo (readQuestions c s)) (valueOn c s)
   unfolding reads
   answered s = answer-of (firstNo (readQuestions c s)) (valueOn c s)
 

@@ -4,7 +4,7 @@ use mathlib.Core.Path.{_≡_}
 use mathlib.Core.List.{List, [], _∷_}
 use Rattle.model.specs.Questions.{Reply, accepted, refused, firstNo}
 use Rattle.records.specs.Bytes.{AllBytes, Width, one, two, four}
-use Rattle.records.specs.Codec.{Answer, isRecord, isRefusal, Codec, bytesOf, valueOn, readQuestions, reads, writeReply, writes}
+use Rattle.records.specs.Codec.{Reading, isRecord, isRefusal, Codec, bytesOf, valueOn, readQuestions, reads, writeReply, writes}
 
 -- the code holds what stands in four bytes as a number of 32 bits
 abbrev pub In32Bits : List Width → List ℕ → Type 0
@@ -15,13 +15,13 @@ In32Bits (two ∷ ws) (v ∷ vs) = In32Bits ws vs
 In32Bits (four ∷ ws) (v ∷ vs) = (v < 2 ^ 32) × In32Bits ws vs
 
 -- the answer to questions about a value
-abbrev pub answerTo : {A : Type 0} → Reply → A → Answer A
-answerTo accepted a = isRecord a
-answerTo (refused q) a = isRefusal q
+abbrev pub answerBy : {A : Type 0} → Reply → A → Reading A
+answerBy accepted a = isRecord a
+answerBy (refused q) a = isRefusal q
 
 pub record Promises {A R : Type 0} (c : Codec A R) : Type 0 where
   -- "The first "no" gives its number", and 0 is a record
-  pub answered : (s : List ℕ) → c .answer (reads c s) ≡ answerTo (firstNo (readQuestions c s)) (valueOn c s)
+  pub answered : (s : List ℕ) → c .answer (reads c s) ≡ answerBy (firstNo (readQuestions c s)) (valueOn c s)
   -- what is written reads back as it was: every value that passes the questions
   pub reads-back : (a : A) → In32Bits (c .widths) (c .fields a) → firstNo (c .asked a) ≡ accepted → reads c (bytesOf c a) ≡ c .read a
   -- what was read, written again, gives the same bytes: only written forms are read

@@ -7,7 +7,7 @@ use Rattle.ground.specs.Lists.{nth}
 use Rattle.ground.specs.Mask.{has}
 use Rattle.votes.specs.VoteSets.{empty, join, joinAll}
 use Rattle.votes.specs.VoteLaws.{join-comm, join-assoc, join-empty}
-use Rattle.votes.specs.Tallies.{tallyOf, joinList, tallyFrom, sheetsOf}
+use Rattle.votes.specs.Tallies.{tallyOf, joinList, tallyFrom, setsOf}
 use Rattle.votes.specs.OnePass.{OnePass}
 use Rattle.votes.specs.declared.VoteSet.{VoteSet}
 
@@ -15,13 +15,13 @@ empty-join : (s : VoteSet) → join empty s ≡ s
 empty-join s = join-comm empty s ∙ join-empty s
 
 -- from any sheet on, the pass gives the answers of its join with the rest
-from-any : (n : ℕ) (joined : VoteSet) (sheets : List VoteSet) → tallyFrom n joined sheets ≡ tallyOf n (join joined (joinList sheets))
+from-any : (n : ℕ) (joined : VoteSet) (sets : List VoteSet) → tallyFrom n joined sets ≡ tallyOf n (join joined (joinList sets))
 unfolding tallyFrom joinList
 from-any n joined [] = ap (tallyOf n) (sym (join-empty joined))
-from-any n joined (s ∷ sheets) = from-any n (join joined s) sheets ∙ ap (tallyOf n) (join-assoc joined s (joinList sheets))
+from-any n joined (s ∷ sets) = from-any n (join joined s) sets ∙ ap (tallyOf n) (join-assoc joined s (joinList sets))
 
-any-list : (n : ℕ) (sheets : List VoteSet) → tallyFrom n empty sheets ≡ tallyOf n (joinList sheets)
-any-list n sheets = from-any n empty sheets ∙ ap (tallyOf n) (empty-join (joinList sheets))
+any-list : (n : ℕ) (sets : List VoteSet) → tallyFrom n empty sets ≡ tallyOf n (joinList sets)
+any-list n sets = from-any n empty sets ∙ ap (tallyOf n) (empty-join (joinList sets))
 
 -- the join of two lists is that of their joins
 list-append : (a b : List VoteSet) → joinList (a ++ b) ≡ join (joinList a) (joinList b)
@@ -29,20 +29,20 @@ unfolding joinList
 list-append [] b = sym (empty-join (joinList b))
 list-append (s ∷ a) b = ap (join s) (list-append a b) ∙ sym (join-assoc s (joinList a) (joinList b))
 
-one-sheet : (s : VoteSet) → joinList (s ∷ []) ≡ s
+one-set : (s : VoteSet) → joinList (s ∷ []) ≡ s
 unfolding joinList
-one-sheet s = join-empty s
+one-set s = join-empty s
 
 -- the join of the sheets of a set of senders is that of their list
-senders : (m from : ℕ) (l : List VoteSet) → joinList (sheetsOf m from l) ≡ joinAll m from l
-unfolding sheetsOf joinAll joinList
+senders : (m from : ℕ) (l : List VoteSet) → joinList (setsOf m from l) ≡ joinAll m from l
+unfolding setsOf joinAll joinList
 senders zero from l = refl
 senders (suc m) from l =
-    list-append (sheetsOf m from l) (cond (has from (suc m)) (nth empty l (suc m) ∷ []) []) ∙ rw (senders m from l) (last (has from (suc m)))
+    list-append (setsOf m from l) (cond (has from (suc m)) (nth empty l (suc m) ∷ []) []) ∙ rw (senders m from l) (last (has from (suc m)))
   where
     last : (b : Bool) → join (joinAll m from l) (joinList (cond b (nth empty l (suc m) ∷ []) [])) ≡ cond b (join (joinAll m from l) (nth empty l (suc m))) (joinAll m from l)
-    last true = ap (join (joinAll m from l)) (one-sheet (nth empty l (suc m)))
+    last true = ap (join (joinAll m from l)) (one-set (nth empty l (suc m)))
     last false = join-empty (joinAll m from l)
 
 pub one-pass : OnePass
-one-pass = record { any-list = any-list; any-senders = λ n m from l. any-list n (sheetsOf m from l) ∙ ap (tallyOf n) (senders m from l) }
+one-pass = record { any-list = any-list; any-senders = λ n m from l. any-list n (setsOf m from l) ∙ ap (tallyOf n) (senders m from l) }

@@ -86,15 +86,15 @@ module _ (half : Half) where
   more m from l m′ from′ l′ h k e =
       let r : Found m (λ j. has from j && on (nth empty l j) k) = on-all-by m from l k e in
       let p : has from (r .at) ≡ true = and-l (has from (r .at)) (on (nth empty l (r .at)) k) (r .holds) in
-      let t : Among m′ from′ l′ (nth empty l (r .at)) = h (nth empty l (r .at)) (record { sender = r .at; low = r .low; high = r .high; sent = p; sheet = refl }) in
+      let t : Among m′ from′ l′ (nth empty l (r .at)) = h (nth empty l (r .at)) (record { sender = r .at; low = r .low; high = r .high; sent = p; set = refl }) in
       in-all m′ from′ l′ (t .sender) (t .low) (t .high) (t .sent) k
-      (ap (λ (s : VoteSet). on s k) (t .sheet) ∙ and-r (has from (r .at)) (on (nth empty l (r .at)) k) (r .holds))
+      (ap (λ (s : VoteSet). on s k) (t .set) ∙ and-r (has from (r .at)) (on (nth empty l (r .at)) k) (r .holds))
 
-  pub same-sheets : (m from : ℕ) (l : List VoteSet) (m′ from′ : ℕ) (l′ : List VoteSet)
+  pub same-sets : (m from : ℕ) (l : List VoteSet) (m′ from′ : ℕ) (l′ : List VoteSet)
       → ((s : VoteSet) → Among m from l s → Among m′ from′ l′ s)
       → ((s : VoteSet) → Among m′ from′ l′ s → Among m from l s)
       → half .mask (joinAll m from l) ≡ half .mask (joinAll m′ from′ l′)
-  same-sheets m from l m′ from′ l′ f g =
+  same-sets m from l m′ from′ l′ f g =
       same-set (half .mask (joinAll m from l)) (half .mask (joinAll m′ from′ l′))
       (λ k. same-test (on (joinAll m from l) k) (on (joinAll m′ from′ l′) k) (more m from l m′ from′ l′ f k) (more m′ from′ l′ m from l g k))
 
@@ -104,7 +104,7 @@ module _ (half : Half) where
       same-set (half .mask (joinAll m (insert from j) (put l j s))) (half .mask (join (joinAll m from l) s))
       (λ k. on-all m (insert from j) (put l j s) k
       ∙ (any-new m (λ i. has from i && on (nth empty l i) k) (λ i. has (insert from j) i && on (nth empty (put l j s) i) k) j a b (rw e)
-      (λ i z. rw (other i z, sheet i z)) ∙ rw (own, sheet-own, ← on-all m from l k) (sym (on-join (joinAll m from l) s k))))
+      (λ i z. rw (other i z, set i z)) ∙ rw (own, set-own, ← on-all m from l k) (sym (on-join (joinAll m from l) s k))))
     where
       own : has (insert from j) j ≡ true
       own = has-insert from j j a w ∙ upd-same (has from) j true
@@ -112,11 +112,11 @@ module _ (half : Half) where
       other : (i : ℕ) → (i ≡ j → ⊥) → has (insert from j) i ≡ has from i
       other i z = has-insert from j i a w ∙ upd-other (has from) j true i (ne-eqb i j z)
 
-      sheet-own : nth empty (put l j s) j ≡ s
-      sheet-own = nth-put-at empty l j s a y j ∙ upd-same (nth empty l) j s
+      set-own : nth empty (put l j s) j ≡ s
+      set-own = nth-put-at empty l j s a y j ∙ upd-same (nth empty l) j s
 
-      sheet : (i : ℕ) → (i ≡ j → ⊥) → nth empty (put l j s) i ≡ nth empty l i
-      sheet i z = nth-put-at empty l j s a y i ∙ upd-other (nth empty l) j s i (ne-eqb i j z)
+      set : (i : ℕ) → (i ≡ j → ⊥) → nth empty (put l j s) i ≡ nth empty l i
+      set i z = nth-put-at empty l j s a y i ∙ upd-other (nth empty l) j s i (ne-eqb i j z)
 
   pub of-either : (m a b : ℕ) (l : List VoteSet) → half .mask (joinAll m (bitOr a b) l) ≡ half .mask (join (joinAll m a l) (joinAll m b l))
   of-either m a b l =

@@ -15,14 +15,14 @@ tallyOf n s = record { votes = s; complete = complete n s; unanimous = unanimous
 -- the join of a list of sheets
 unfoldable pub joinList : List VoteSet → VoteSet
 joinList [] = empty
-joinList (s ∷ sheets) = join s (joinList sheets)
+joinList (s ∷ sets) = join s (joinList sets)
 
 -- One pass over a list: each sheet is met once, and joined to what the pass has so far; after the last the two answers are given.
 unfoldable pub tallyFrom : ℕ → VoteSet → List VoteSet → Tally
 tallyFrom n joined [] = tallyOf n joined
-tallyFrom n joined (s ∷ sheets) = tallyFrom n (join joined s) sheets
+tallyFrom n joined (s ∷ sets) = tallyFrom n (join joined s) sets
 
 -- the sheets of those senders of 1..m that are in a set, in rising number
-unfoldable pub sheetsOf : ℕ → ℕ → List VoteSet → List VoteSet
-sheetsOf zero from l = []
-sheetsOf (suc m) from l = sheetsOf m from l ++ cond (has from (suc m)) (nth empty l (suc m) ∷ []) []
+unfoldable pub setsOf : ℕ → ℕ → List VoteSet → List VoteSet
+setsOf zero from l = []
+setsOf (suc m) from l = setsOf m from l ++ cond (has from (suc m)) (nth empty l (suc m) ∷ []) []

@@ -18,7 +18,7 @@ use Rattle.ground.specs.MaskLaws.{has-none, has-insert, full-is}
 use Rattle.ground.specs.Inclusion.{same-set, or-assoc, within-has, has-within, none-above-le, le-none-above, or-none-above, insert-none-above}
 use Rattle.ground.specs.Lists.{nth, put, nth-past}
 use Rattle.votes.specs.VoteSets.{empty, knows, wills, single, join, complete, unanimous, joinAll, Among}
-use Rattle.votes.specs.Halves.{known-half, willing-half, on-join, on-all, in-all, on-all-by, again, same-sheets, one-more, of-either}
+use Rattle.votes.specs.Halves.{known-half, willing-half, on-join, on-all, in-all, on-all-by, again, same-sets, one-more, of-either}
 use Rattle.votes.specs.declared.VoteSet.{VoteSet}
 
 -- who is on a vote set ---------------------------------------------------------------
@@ -187,7 +187,7 @@ pub all-same : (m from : ℕ) (l : List VoteSet) (m′ from′ : ℕ) (l′ : Li
     → ((s : VoteSet) → Among m′ from′ l′ s → Among m from l s)
     → joinAll m from l ≡ joinAll m′ from′ l′
 all-same m from l m′ from′ l′ f g =
-    both (joinAll m from l) (joinAll m′ from′ l′) (same-sheets known-half m from l m′ from′ l′ f g) (same-sheets willing-half m from l m′ from′ l′ f g)
+    both (joinAll m from l) (joinAll m′ from′ l′) (same-sets known-half m from l m′ from′ l′ f g) (same-sets willing-half m from l m′ from′ l′ f g)
 
 -- a sender's first sheet joins those that are there
 pub all-new : (m from : ℕ) (l : List VoteSet) (j : ℕ) (s : VoteSet) → 1 ≤ j → j ≤ m → j ≤ width → j ≤ length l → has from j ≡ false

@@ -46,4 +46,4 @@ pub record Among (m from : ℕ) (l : List VoteSet) (s : VoteSet) : Type 0 where
   pub low : 1 ≤ sender
   pub high : sender ≤ m
   pub sent : has from sender ≡ true
-  pub sheet : nth empty l sender ≡ s
+  pub set : nth empty l sender ≡ s

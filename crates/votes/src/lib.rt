@@ -80,15 +80,15 @@ pub fn unanimous(s: VoteSet, n: u8) -> bool
 }
 
 // The join of the sheets of those senders of 1..m that are in a set. Only as many as the limit have a sheet.
-pub fn join_all(m: u8, from: u32, sheets: [VoteSet; LIMIT]) -> VoteSet
-    ensures { λ r. ⌜ r ≡ joinAll m from sheets ⌝ }
+pub fn join_all(m: u8, from: u32, sets: [VoteSet; LIMIT]) -> VoteSet
+    ensures { λ r. ⌜ r ≡ joinAll m from sets ⌝ }
 {
     let mut joined = empty_set();
     let end = up_to_limit(m);
     let mut k: u8 = 0;
     while k < end {
         let at = k as usize;
-        let s = sheets[at];
+        let s = sets[at];
         k += 1;
         joined = join_if(joined, s, from, k);
     }

@@ -29,10 +29,10 @@ fn tally_of(n: u8, s: VoteSet) -> Tally
 }
 
 // The sheets of those senders of 1..m that are in a set, gone over once: their join, is it complete for n, is it unanimous for n.
-pub fn tally_all(n: u8, m: u8, from: u32, sheets: [VoteSet; LIMIT]) -> Tally
-    ensures { λ r. ⌜ r ≡ tallyOf n (joinAll m from sheets) ⌝ }
+pub fn tally_all(n: u8, m: u8, from: u32, sets: [VoteSet; LIMIT]) -> Tally
+    ensures { λ r. ⌜ r ≡ tallyOf n (joinAll m from sets) ⌝ }
 {
-    tally_of(n, join_all(m, from, sheets))
+    tally_of(n, join_all(m, from, sets))
 }
 
 // One pass over any list of sheets, for any n, gives the two answers of their join, as a contract.

@@ -223,15 +223,15 @@ module _ (es : List Event) (o : Opened es) (i : ℕ) (a : Accepted es (Timeout i
   is-log = o .silent ∙ log-sim (o .n) (o .f) (o .post) (benchOf true (o .n) (o .f)) (sound₀ es o) (n₀ es o) (f₀ es o) []
 
   -- the log right after the bell
-  bell-log : logAt (es ++ (Timeout i ∷ [])) ≡ (Timeout i ∷ logAt es)
+  timeout-log : logAt (es ++ (Timeout i ∷ [])) ≡ (Timeout i ∷ logAt es)
   unfolding logOf push entered
-  bell-log = log-append es (Timeout i ∷ []) newBench [] ∙ rw (accepted-is _ a)
+  timeout-log = log-append es (Timeout i ∷ []) newBench [] ∙ rw (accepted-is _ a)
 
   prem : Asked (o .n) (o .f) vlog i
   prem = subst (λ (x : ℕ). Asked x (o .f) vlog i) (here es o .is-n) (subst (λ (x : ℕ). Asked ((after es) .shared .n) x vlog i) (here es o .is-f) (subst (λ (l : List Event). Asked ((after es) .shared .n) ((after es) .shared .f) l i) is-log
       (record {
         sec = second-is ((after es) .shared .n) ((after es) .shared .f) es i sec₀;
-        cl = clean-by-steps ((after es) .shared .n) ((after es) .shared .f) (Timeout i ∷ logAt es) (subst (CleanOrder ((after es) .shared .n) ((after es) .shared .f)) bell-log (clean-log ((after es) .shared .n) ((after es) .shared .f) (es ++ (Timeout i ∷ [])) cl₀));
+        cl = clean-by-steps ((after es) .shared .n) ((after es) .shared .f) (Timeout i ∷ logAt es) (subst (CleanOrder ((after es) .shared .n) ((after es) .shared .f)) timeout-log (clean-log ((after es) .shared .n) ((after es) .shared .f) (es ++ (Timeout i ∷ [])) cl₀));
       })))
 
   rings : accepts (o .n) (o .f) vb (Timeout i) ≡ true
@@ -245,17 +245,17 @@ module _ (es : List Event) (o : Opened es) (i : ℕ) (a : Accepted es (Timeout i
   unfolding vb vlog
   decides = clean-decides (o .n) (o .f) (range es o .high) (range es o .low) (range es o .small) (view (benchOf true (o .n) (o .f))) (lock-inv (o .n) (o .f) (o .sized)) (lock-good (o .n) (o .f) (o .sized) (range es o .high)) (o .post) i rings (prem .sec) (prem .cl)
 
-  bell-view : view (step (after es) (Timeout i)) ≡ stepV (o .n) (o .f) vb (Timeout i)
+  timeout-view : view (step (after es) (Timeout i)) ≡ stepV (o .n) (o .f) vb (Timeout i)
   unfolding vb
-  bell-view = further-one es o (Timeout i) ∙ ap (λ (v : View). stepV (o .n) (o .f) v (Timeout i)) (here es o .shows)
+  timeout-view = further-one es o (Timeout i) ∙ ap (λ (v : View). stepV (o .n) (o .f) v (Timeout i)) (here es o .shows)
 
   clean-move₁ : AllWilling es → shownOutcome (step (after es) (Timeout i)) i ≡ Move
   unfolding view
-  clean-move₁ h = ap (λ (v : View). outcome (v .ctl i)) bell-view ∙ decides .move (λ k w t x y m. h k w t (in-order es (Cast k w t) (subst (In (Cast k w t)) (sym is-log) m)))
+  clean-move₁ h = ap (λ (v : View). outcome (v .ctl i)) timeout-view ∙ decides .move (λ k w t x y m. h k w t (in-order es (Cast k w t) (subst (In (Cast k w t)) (sym is-log) m)))
 
   clean-stay₁ : OneUnwilling es → shownOutcome (step (after es) (Timeout i)) i ≡ Stay
   unfolding view
-  clean-stay₁ u = ap (λ (v : View). outcome (v .ctl i)) bell-view ∙ decides .stay (u .who) (u .target) (who .0) (who .1) (subst (In (Cast (u .who) false (u .target))) is-log (in-log es (Cast (u .who) false (u .target)) tt (u .vote)))
+  clean-stay₁ u = ap (λ (v : View). outcome (v .ctl i)) timeout-view ∙ decides .stay (u .who) (u .target) (who .0) (who .1) (subst (In (Cast (u .who) false (u .target))) is-log (in-log es (Cast (u .who) false (u .target)) tt (u .vote)))
     where
       -- the number of one whose vote was accepted is in range
       who : (1 ≤ u .who) × (u .who ≤ o .n)
@@ -273,8 +273,8 @@ module _ (es : List Event) (o : Opened es) (i : ℕ) (a : Accepted es (Timeout i
               ∙ ap (λ (b : Bench). b .shared .n) (sym (run-append (u .vote .before) (Cast (u .who) false (u .target) ∷ u .vote .rest) newBench) ∙ ap after (sym (u .vote .parts))) ∙ here es o .is-n
 
 -- before any lock
-no-bell : {X : Type 0} (es : List Event) (i : ℕ) → after es ≡ newBench → Accepted es (Timeout i) → X
-no-bell es i p a = absurd (false≢true (sym refuses ∙ accepted-is _ (sym (ap (λ (b : Bench). reply b (Timeout i)) p) ∙ a)))
+no-timeout : {X : Type 0} (es : List Event) (i : ℕ) → after es ≡ newBench → Accepted es (Timeout i) → X
+no-timeout es i p a = absurd (false≢true (sym refuses ∙ accepted-is _ (sym (ap (λ (b : Bench). reply b (Timeout i)) p) ∙ a)))
   where
     refuses : isAccepted (reply newBench (Timeout i)) ≡ false
     refuses = unfold reply firstNo unless benchOf in refl
@@ -326,14 +326,14 @@ demand-3 = record {
   still-at-restore = λ es i k m. m (ap (λ (b : Bench). shownPosition b k) (one-more es (Restore i)) ∙ elim (start es) [ inl z ↦ still-at es (Restore i) k z | inr o ↦ still₁ es o i k ]);
   clean-move = λ es i a s c h. record {
     shows = ap (λ (b : Bench). shownOutcome b i) (one-more es (Timeout i)) ∙ elim (start es) [
-      | inl z ↦ no-bell es i z a
+      | inl z ↦ no-timeout es i z a
       | inr o ↦ clean-move₁ es o i a s c h
     ];
     some = refl;
   };
   clean-stay = λ es i a s c u. record {
     shows = ap (λ (b : Bench). shownOutcome b i) (one-more es (Timeout i)) ∙ elim (start es) [
-      | inl z ↦ no-bell es i z a
+      | inl z ↦ no-timeout es i z a
       | inr o ↦ clean-stay₁ es o i a s c u
     ];
     some = refl;

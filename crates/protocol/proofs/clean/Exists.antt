@@ -15,7 +15,7 @@ use Rattle.protocol.proofs.claim.Moments.{in-order, in-log}
 use Rattle.protocol.proofs.clean.Back.{clean-order}
 use Rattle.protocol.proofs.clean.Schedule.{acked, acked-second, acked-clean, acked-cast, acked-as}
 use Rattle.protocol.proofs.clean.Reached.{Reached, log-one}
-use Rattle.protocol.proofs.clean.Run.{ack-all, bell-accepted}
+use Rattle.protocol.proofs.clean.Run.{ack-all, last-timeout-accepted}
 use Rattle.protocol.proofs.claim.Theorem.{demand-3}
 
 -- demand 3 at a list of a known n and f
@@ -27,10 +27,10 @@ module _ (n f i : ℕ) (l : CleanList n f i) where
   clean = subst₂ (λ x y. Clean x y (l .events ++ (Timeout i ∷ []))) (sym (l .lock-n)) (sym (l .lock-f)) (l .clean)
 
   move-list : AllWilling (l .events) → MoveList n f i
-  move-list w = record { list = l; willing = w; holds = demand-3 .clean-move (l .events) i (l .bell) second clean w }
+  move-list w = record { list = l; willing = w; holds = demand-3 .clean-move (l .events) i (l .timeout) second clean w }
 
   stay-list : OneUnwilling (l .events) → StayList n f i
-  stay-list u = record { list = l; unwilling = u; holds = demand-3 .clean-stay (l .events) i (l .bell) second clean u }
+  stay-list u = record { list = l; unwilling = u; holds = demand-3 .clean-stay (l .events) i (l .timeout) second clean u }
 
 -- the list in which each controller k votes w k
 module _ (n f : ℕ) (sized : sizesInRange n f ≡ true) (w : ℕ → Bool) where
@@ -45,9 +45,9 @@ module _ (n f : ℕ) (sized : sizesInRange n f ≡ true) (w : ℕ → Bool) wher
     events = es;
     lock-n = reached .is-n;
     lock-f = reached .is-f;
-    bell = bell-accepted n f sized w i lo hi;
+    timeout = last-timeout-accepted n f sized w i lo hi;
     second = log-second n f es i (subst (Second n f i) (sym (reached .is-log)) (acked-second n f w i lo));
-    clean = clean-order n f (es ++ (Timeout i ∷ [])) (subst (steps.Clean n f) (sym (log-one es (Timeout i) tt (bell-accepted n f sized w i lo hi)))
+    clean = clean-order n f (es ++ (Timeout i ∷ [])) (subst (steps.Clean n f) (sym (log-one es (Timeout i) tt (last-timeout-accepted n f sized w i lo hi)))
         (subst (λ (l : List Event). steps.Clean n f (Timeout i ∷ l)) (sym (reached .is-log)) (acked-clean n f w i)));
   }
 

@@ -62,7 +62,7 @@ module _ (n f : ℕ) where
     low₂ : (j : ℕ) → runs (b .ctl j) ≡ true → phase (b .ctl j) ≤ 2
     far : (j : ℕ) → runs (b .ctl j) ≡ true → suc f < j → 1 ≤ phase (b .ctl j) → 2 ≤ phase (b .ctl j)
     votes : (k : ℕ) (w : Bool) (t : ℕ) → In (Cast k w t) log → (runs (b .ctl k) ≡ true) × (1 ≤ phase (b .ctl k))
-    sheets : (i j : ℕ) → In (Deliver i j Vote) log → (runs (b .ctl j) ≡ true) × (knows ((b .ctl j) .votes) i ≡ true)
+    heard : (i j : ℕ) → In (Deliver i j Vote) log → (runs (b .ctl j) ≡ true) × (knows ((b .ctl j) .votes) i ≡ true)
     blank : (j : ℕ) → ackedBy j (b .state .sent j) ≡ false
     no-acks : (i j : ℕ) → In (Deliver i j Ack) log → ⊥
     no-timeouts : (i : ℕ) → In (Timeout i) log → ⊥
@@ -95,9 +95,9 @@ module _ (n f : ℕ) where
       | inl q ↦ let v : NewVote n f b b′ k w = subst (λ z. New n f z b b′) (sym q) nw in (t k .running ∙ v .ran, v .begun)
       | inr m ↦ let p : (runs (b .ctl k) ≡ true) × (1 ≤ phase (b .ctl k)) = a .votes k w x m in (t k .running ∙ p .0, phase-up e k _ _ 1 (t k .phase (p .0)) (omega arith) (p .1))
     ];
-    sheets = λ i j x. elim x [
+    heard = λ i j x. elim x [
       | inl q ↦ let v : NewVoteTo n f b b′ i j = subst (λ z. New n f z b b′) (sym q) nw in (t j .running ∙ v .ran, v .known (a .low₁ j (v .ran) (route-low i j (v .route))))
-      | inr m ↦ let p : (runs (b .ctl j) ≡ true) × (knows ((b .ctl j) .votes) i ≡ true) = a .sheets i j m in (t j .running ∙ p .0, t j .votes (p .0) i (p .1))
+      | inr m ↦ let p : (runs (b .ctl j) ≡ true) × (knows ((b .ctl j) .votes) i ≡ true) = a .heard i j m in (t j .running ∙ p .0, t j .votes (p .0) i (p .1))
     ];
     blank = λ j. refuted _ (λ h. elim (t j .acked h) [ inl p ↦ no-both _ (p .0) (a .blank j) | inr p ↦ subst NotTimeout (p .0) nb ]);
     no-acks = λ i j x. elim x [
@@ -115,11 +115,11 @@ module _ (n f : ℕ) where
     runs : (k : ℕ) → 1 ≤ k → k ≤ n → runs (b .ctl k) ≡ true
     begun : (k : ℕ) → 1 ≤ k → k ≤ n → 1 ≤ phase (b .ctl k)
     far : (k : ℕ) → suc f < k → k ≤ n → 2 ≤ phase (b .ctl k)
-    sheets : (j k : ℕ) → 1 ≤ j → j ≤ f → 1 ≤ k → k ≤ n → knows ((b .ctl j) .votes) k ≡ true
-    sheet₂ : (k : ℕ) → 1 ≤ k → k ≤ f → knows ((b .ctl (suc f)) .votes) k ≡ true
+    full : (j k : ℕ) → 1 ≤ j → j ≤ f → 1 ≤ k → k ≤ n → knows ((b .ctl j) .votes) k ≡ true
+    full₂ : (k : ℕ) → 1 ≤ k → k ≤ f → knows ((b .ctl (suc f)) .votes) k ≡ true
     acks : (j k : ℕ) → 1 ≤ j → j ≤ f → 1 ≤ k → k ≤ n → ackedBy j (b .state .sent j) ≡ true → knows (ackOn (b .state .sent j)) k ≡ true
     ack₂ : (k : ℕ) → 1 ≤ k → k ≤ f → ackedBy (suc f) (b .state .sent (suc f)) ≡ true → knows (ackOn (b .state .sent (suc f))) k ≡ true
-    belled : (j : ℕ) → 1 ≤ j → j ≤ suc f → 2 ≤ phase (b .ctl j) → In (Timeout j) log
+    timed-out : (j : ℕ) → 1 ≤ j → j ≤ suc f → 2 ≤ phase (b .ctl j) → In (Timeout j) log
     rungs : (j : ℕ) → 1 ≤ j → j ≤ n → In (Timeout j) log → 2 ≤ phase (b .ctl j)
 
   module _ (f<n : f < n) where
@@ -128,16 +128,16 @@ module _ (n f : ℕ) where
       runs = λ k x y. t k .running ∙ a .runs k x y;
       begun = λ k x y. phase-up e k _ _ 1 (t k .phase (a .runs k x y)) (omega arith) (a .begun k x y);
       far = λ k x y. phase-up e k _ _ 2 (t k .phase (a .runs k (omega arith) y)) (omega arith) (a .far k x y);
-      sheets = λ j k x y u v. t j .votes (a .runs j x (omega arith)) k (a .sheets j k x y u v);
-      sheet₂ = λ k x y. t (suc f) .votes (a .runs (suc f) (omega arith) f<n) k (a .sheet₂ k x y);
-      acks = λ j k x y u v h. elim (t j .acked h) [ inl p ↦ rw (p .1) (a .acks j k x y u v (p .0)) | inr p ↦ rw (p .1) (a .sheets j k x y u v) ];
-      ack₂ = λ k x y h. elim (t (suc f) .acked h) [ inl p ↦ rw (p .1) (a .ack₂ k x y (p .0)) | inr p ↦ rw (p .1) (a .sheet₂ k x y) ];
-      belled = λ j x y h. ring j x y (t j .phase (a .runs j x (omega arith))) h;
+      full = λ j k x y u v. t j .votes (a .runs j x (omega arith)) k (a .full j k x y u v);
+      full₂ = λ k x y. t (suc f) .votes (a .runs (suc f) (omega arith) f<n) k (a .full₂ k x y);
+      acks = λ j k x y u v h. elim (t j .acked h) [ inl p ↦ rw (p .1) (a .acks j k x y u v (p .0)) | inr p ↦ rw (p .1) (a .full j k x y u v) ];
+      ack₂ = λ k x y h. elim (t (suc f) .acked h) [ inl p ↦ rw (p .1) (a .ack₂ k x y (p .0)) | inr p ↦ rw (p .1) (a .full₂ k x y) ];
+      timed-out = λ j x y h. ring j x y (t j .phase (a .runs j x (omega arith))) h;
       rungs = λ j x y h. elim h [ inl q ↦ let v : NewTimeout n f b b′ j = subst (λ z. New n f z b b′) (sym q) nw in v .after | inr m ↦ phase-up e j _ _ 2 (t j .phase (a .runs j x y)) (omega arith) (a .rungs j x y m) ];
     }
       where
         ring : (j : ℕ) → 1 ≤ j → j ≤ suc f → PhaseMove n f e j (phase (b .ctl j)) (phase (b′ .ctl j)) → 2 ≤ phase (b′ .ctl j) → In (Timeout j) (e ∷ log)
-        ring j x y (stays p) h = inr (a .belled j x y (omega arith))
+        ring j x y (stays p) h = inr (a .timed-out j x y (omega arith))
         ring j x y (rung q p) h = inl (sym q)
         ring j x y (voted w u q z p) h = let s : 1 ≤ phase (b .ctl j) = a .begun j x (omega arith) in absurd (omega arith)
 
@@ -147,14 +147,14 @@ module _ (n f : ℕ) where
       runs = λ k x y. vote-of k x y .0;
       begun = λ k x y. vote-of k x y .1;
       far = λ k x y. a .far k (vote-of k (omega arith) y .0) x (vote-of k (omega arith) y .1);
-      sheets = λ j k x y u w. elim (ℕ-discrete k j) [
+      full = λ j k x y u w. elim (ℕ-discrete k j) [
         | yes q ↦ rw q (inv .owns j .phased .own (vote-of j x (omega arith) .1))
-        | no q ↦ a .sheets k j (v .sent k j u w x (omega arith) (vote-route k j q y)) .1
+        | no q ↦ a .heard k j (v .sent k j u w x (omega arith) (vote-route k j q y)) .1
       ];
-      sheet₂ = λ k x y. a .sheets k (suc f) (v .sent k (suc f) x (omega arith) (omega arith) f<n (vote-route₂ k y)) .1;
+      full₂ = λ k x y. a .heard k (suc f) (v .sent k (suc f) x (omega arith) (omega arith) f<n (vote-route₂ k y)) .1;
       acks = λ j k x y u w h. absurd (no-both _ h (a .blank j));
       ack₂ = λ k x y h. absurd (no-both _ h (a .blank (suc f)));
-      belled = λ j x y h. let l : phase (b .ctl j) ≤ 1 = a .low₁ j (vote-of j x (omega arith) .0) y in absurd (omega arith);
+      timed-out = λ j x y h. let l : phase (b .ctl j) ≤ 1 = a .low₁ j (vote-of j x (omega arith) .0) y in absurd (omega arith);
       rungs = λ j x y h. absurd (a .no-timeouts j h);
     }
       where
@@ -231,7 +231,7 @@ module _ (n f : ℕ) where
     to-last b log v (inr p) = p
 
     second-of : (b : View) (log : List Event) (i : ℕ) → Base b log → 1 ≤ i → phase (b .ctl i) ≡ 2 → Second n f i log
-    second-of b log i a x s = elim (decLe i (suc f)) [ yes h ↦ inr (a .belled i x h (omega arith)) | no h ↦ inl (omega arith) ]
+    second-of b log i a x s = elim (decLe i (suc f)) [ yes h ↦ inr (a .timed-out i x h (omega arith)) | no h ↦ inl (omega arith) ]
 
     tidy-timeout : (b b′ : View) (i : ℕ) (log : List Event) → Inv n f b → CleanStep n f (Timeout i) log → KeptAll n f (Timeout i) b b′ → New n f (Timeout i) b b′ → Tidy b log → Tidy b′ (Timeout i ∷ log)
     tidy-timeout b b′ i log inv c t nw y = go (to-late b log inv (c .0) y)
@@ -258,7 +258,7 @@ module _ (n f : ℕ) where
         low₂ = λ j r. let s : phase (b .ctl j) ≡ 0 = bl j .phase in omega arith;
         far = λ j r h k. let s : phase (b .ctl j) ≡ 0 = bl j .phase in omega arith;
         votes = λ k w t m. absurd m;
-        sheets = λ i j m. absurd m;
+        heard = λ i j m. absurd m;
         blank = ln;
         no-acks = λ i j m. m;
         no-timeouts = λ i m. m;

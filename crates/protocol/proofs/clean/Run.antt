@@ -73,5 +73,5 @@ module _ (n f : ℕ) (sized : sizesInRange n f ≡ true) where
   ack-all w = deliver-all n f sized Ack _ (λ k. 2) (λ i lo hi. refl) (renamed n f sized (ring-all w (suc f) (omega arith)) (λ k. 2) (λ k lo hi. both-two k))
 
   -- so any timeout is accepted
-  pub bell-accepted : (w : ℕ → Bool) (i : ℕ) → 1 ≤ i → i ≤ n → Accepted (ack-all w .events) (Timeout i)
-  bell-accepted w i lo hi = answers n f sized (ack-all w) (Timeout i) (timeout-accepted n f _ (λ k. 2) (ack-all w .going) i lo hi refl)
+  pub last-timeout-accepted : (w : ℕ → Bool) (i : ℕ) → 1 ≤ i → i ≤ n → Accepted (ack-all w .events) (Timeout i)
+  last-timeout-accepted w i lo hi = answers n f sized (ack-all w) (Timeout i) (timeout-accepted n f _ (λ k. 2) (ack-all w .going) i lo hi refl)

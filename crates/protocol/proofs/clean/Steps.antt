@@ -133,14 +133,14 @@ module _ (n f : ℕ) where
     acks = λ i earlier later p. c .acks i earlier (e ∷ later) (ap (λ (x : List Event). e ∷ x) p);
   }
 
-  bell-votes : (i : ℕ) (log : List Event) → CleanOrder (Timeout i ∷ log) → VotesIn n f log
-  bell-votes i log c = elim (first-timeout log) [
+  timeout-votes : (i : ℕ) (log : List Event) → CleanOrder (Timeout i ∷ log) → VotesIn n f log
+  timeout-votes i log c = elim (first-timeout log) [
     | inl nb ↦ c .votes i log [] refl nb
     | inr r ↦ votes-more log (r .earlier) (r .later) (Timeout (r .at)) (r .parts) (rest-clean (Timeout i) log c .votes (r .at) (r .earlier) (r .later) (r .parts) (r .none-before))
   ]
 
-  bell-acks : (i : ℕ) (log : List Event) → CleanOrder (Timeout i ∷ log) → Second n f i log → AcksIn n f log
-  bell-acks i log c s = elim (first-second log) [
+  timeout-acks : (i : ℕ) (log : List Event) → CleanOrder (Timeout i ∷ log) → Second n f i log → AcksIn n f log
+  timeout-acks i log c s = elim (first-second log) [
     | inl ns ↦ c .acks i log [] refl s ns
     | inr r ↦ acks-more log (r .earlier) (r .later) (Timeout (r .at)) (r .parts) (rest-clean (Timeout i) log c .acks (r .at) (r .earlier) (r .later) (r .parts) (r .sec) (r .none-before))
   ]
@@ -150,7 +150,7 @@ module _ (n f : ℕ) where
   one-step (Order o) log c = tt
   one-step (Cast i w t) log c = tt
   one-step (Deliver i j k) log c = tt
-  one-step (Timeout i) log c = (bell-votes i log c, bell-acks i log c)
+  one-step (Timeout i) log c = (timeout-votes i log c, timeout-acks i log c)
   one-step (Decide i w) log c = tt
   one-step (Stop i) log c = absurd (c .stops i (inl refl))
   one-step (Save i) log c = tt

@@ -13,8 +13,8 @@ use Rattle.protocol.specs.Controllers.{ackOf}
 use Rattle.protocol.proofs.invariant.Invariant.{ackOn, helpOn, Truthful, SentSound, Grows, AllWilling, DirectMove, OutcomeGrounds, StayGrounds, HeldAck, HeldHelp, HeldSound}
 
 module _ (L L′ : ℕ → Sent) (g : Grows L L′) where
-  pub sheet-mono : (s : VoteSet) → Truthful L s → Truthful L′ s
-  sheet-mono s o = record {
+  pub truthful-mono : (s : VoteSet) → Truthful L s → Truthful L′ s
+  truthful-mono s o = record {
     cast = λ k e. g k .voted (o .cast k e);
     true-to = λ k e. o .true-to k e ∙ sym (g k .will (o .cast k e));
     within = o .within;
@@ -22,8 +22,8 @@ module _ (L L′ : ℕ → Sent) (g : Grows L L′) where
 
   pub sent-mono : (f i : ℕ) (l : Sent) → SentSound f L i l → SentSound f L′ i l
   sent-mono f i l o = record {
-    ack-ok = λ e. sheet-mono (ackOn l) (o .ack-ok e);
-    help-ok = λ e. sheet-mono (helpOn l) (o .help-ok e);
+    ack-ok = λ e. truthful-mono (ackOn l) (o .ack-ok e);
+    help-ok = λ e. truthful-mono (helpOn l) (o .help-ok e);
     ack-in-help = o .ack-in-help;
     vote-to = o .vote-to;
     ack-to = o .ack-to;
@@ -65,9 +65,9 @@ module _ (L L′ : ℕ → Sent) (g : Grows L L′) (ch ch′ : Outcome) (gc : (
 
   pub ctl-mono : (i : ℕ) (c : Controller) → HeldSound n f L ch i c → HeldSound n f L′ ch′ i c
   ctl-mono i c o = record {
-    votes-ok = sheet-mono L L′ g (c .votes) (o .votes-ok);
+    votes-ok = truthful-mono L L′ g (c .votes) (o .votes-ok);
     acks-ok = λ j e. ack-mono L L′ g n f i (ackOf c j) j (o .acks-ok j e);
     helps-ok = λ j e. help-mono L L′ g n f (c .helped .votes) j (o .helps-ok j e);
-    helped-ok = sheet-mono L L′ g (c .helped .votes) (o .helped-ok);
+    helped-ok = truthful-mono L L′ g (c .helped .votes) (o .helped-ok);
     outcome-ok = λ v e. out-mono v (o .outcome-ok v e);
   }

@@ -31,7 +31,7 @@ use Rattle.protocol.proofs.view.RuleCases.{second-cases}
 use Rattle.protocol.proofs.view.View.{View}
 use Rattle.protocol.proofs.invariant.Words.{or-else-is}
 use Rattle.protocol.proofs.invariant.Invariant.{helpOn, frozenBy, Truthful, SentSound, Grown, Grows, SecondAck, DirectMove, StayGrounds, OutcomeGrounds, Own, HeldAck, HeldSound, Inv}
-use Rattle.protocol.proofs.invariant.Growth.{sheet-mono, sent-mono, all-mono, stay-mono, out-mono, ctl-mono}
+use Rattle.protocol.proofs.invariant.Growth.{truthful-mono, sent-mono, all-mono, stay-mono, out-mono, ctl-mono}
 use Rattle.protocol.proofs.invariant.TrueVotes.{join-ok, move-all, all-move, stay-unwilling}
 use Rattle.protocol.proofs.invariant.Commit.{Fits, grows-upd}
 use Rattle.protocol.proofs.invariant.Waiting.{acks-true, ack-stay, move-put, stay-put, own-put, ctl-put, settle-fits, count-some, not-above}
@@ -108,7 +108,7 @@ module _ (n f : ℕ) (f<n : f < n) (1≤f : 1 ≤ f) (small : n ≤ limit) (b : 
   sent-ok : (h : Outgoing) → SentSound f (L′ h) i (l′ h)
   sent-ok h = let o : SentSound f (L′ h) i (L i) = sent-mono L (L′ h) (grows h) f i (L i) (inv .lines i) in record {
     ack-ok = o .ack-ok;
-    help-ok = λ e. sheet-mono L (L′ h) (grows h) s s-ok;
+    help-ok = λ e. truthful-mono L (L′ h) (grows h) s s-ok;
     ack-in-help = λ e e′ k q. s-knows k (inv .owns i .phased .same (omega arith) e k q);
     vote-to = o .vote-to;
     ack-to = o .ack-to;
@@ -298,7 +298,7 @@ module _ (n f : ℕ) (f<n : f < n) (1≤f : 1 ≤ f) (small : n ≤ limit) (b : 
     sent-ok = sent-ok h₁;
     own-ok = own-help-kept n f small i (await (frozen n c)) (l′ h₁) i s low high at3 unheard (own-waiting n f i (frozen n c) (l′ h₁) (beyond e) at3′ (own-frozen h₁));
     ctl-ok = subst (λ (x : VoteSet). HeldSound n f (L′ h₁) (b .state .consensus .decision) i (keepHelped (await (frozen n c)) i x)) (sym same)
-        (ctl-help-kept n f small (L′ h₁) (b .state .consensus .decision) i (await (frozen n c)) i low high (rw (upd-same L i (l′ h₁)) s-own) (beyond e) (rw (upd-same L i (l′ h₁)) (sheet-mono L (L′ h₁) (grows h₁) s s-ok)) (ctl-waiting n f (L′ h₁) (b .state .consensus .decision) i (frozen n c) (ctl-frozen h₁)));
+        (ctl-help-kept n f small (L′ h₁) (b .state .consensus .decision) i (await (frozen n c)) i low high (rw (upd-same L i (l′ h₁)) s-own) (beyond e) (rw (upd-same L i (l′ h₁)) (truthful-mono L (L′ h₁) (grows h₁) s s-ok)) (ctl-waiting n f (L′ h₁) (b .state .consensus .decision) i (frozen n c) (ctl-frozen h₁)));
     move-ok = λ p. absurd (false≢true p);
     stay-ok = λ p. absurd (false≢true p);
   }

@@ -12,10 +12,10 @@ use Rattle.votes.proofs.join_all.Statement.{statement}
 use Rattle.votes.proofs.join_all.Tie as tie
 
 abbrev Inv-loop : tie.InvT-loop
-Inv-loop m from sheets joined₀ end k₀ joined k = (k ≤ end) × (joined ≡ joinAll k from sheets)
+Inv-loop m from sets joined₀ end k₀ joined k = (k ≤ end) × (joined ≡ joinAll k from sets)
 
 abbrev μ-loop : tie.MeasureT-loop
-μ-loop m from sheets joined₀ end k₀ joined k = end - k
+μ-loop m from sets joined₀ end k₀ joined k = end - k
 
 empty-set-requires : tie.Need-empty-set-requires Inv-loop μ-loop
 empty-set-requires c κs = search needs

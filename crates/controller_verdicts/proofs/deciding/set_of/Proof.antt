@@ -4,8 +4,8 @@ use lib.ListN.{length}
 use Rattle.ground.specs.Lists.{nth, nth-at, nth-past}
 use Rattle.votes.specs.VoteSets.{empty}
 use borrow.Author.Needs.{needs}
-use Rattle.controller_verdicts.proofs.deciding.sheet_of.Statement.{statement}
-use Rattle.controller_verdicts.proofs.deciding.sheet_of.Tie as tie
+use Rattle.controller_verdicts.proofs.deciding.set_of.Statement.{statement}
+use Rattle.controller_verdicts.proofs.deciding.set_of.Tie as tie
 
 empty-set-requires : tie.Need-empty-set-requires
 empty-set-requires c κs = search needs
@@ -37,8 +37,8 @@ returns-3 c =
     let start = c .before .before .before .args in
     sym (nth-at empty (start .t1) (start .j) (omega arith))
 
-pub sheet-of-spec : {M : Type 1} → statement M
-sheet-of-spec =
+pub set-of-spec : {M : Type 1} → statement M
+set-of-spec =
     tie.close
     (tie.spec
     empty-set-requires
