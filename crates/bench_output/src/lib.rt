@@ -5,15 +5,13 @@ use bench_report::write_report;
 use bench_report::write_too_long;
 use bench_run::run;
 use bench_summary::summary_of;
-ghost use mathlib.Core.Path.{_≡_};
-ghost use Rattle.text.specs.Writing.{fitted, fittedLength};
+ghost use Rattle.text.specs.Writing.{Rendered};
 ghost use Rattle.bench_output.specs.Output.{outputOf};
 ghost use Rattle.bench_output.specs.AlwaysPrints.{AlwaysPrints};
 
 // Writes the program's whole output for a schedule to the front of the buffer and answers its length; 0, and nothing written, if it does not fit.
 pub fn render(s: &[u8], out: &mut [u8]) -> usize
-    ensures { λ r. ⌜ r ≡ fittedLength (outputOf (now (s .entry))) (now (out .entry)) ⌝ }
-    ensures { λ r. ⌜ now (out .exit) ≡ fitted (outputOf (now (s .entry))) (now (out .entry)) ⌝ }
+    ensures { λ r. ⌜ Rendered (outputOf (now (s .entry))) (now (out .entry)) (now (out .exit)) r ⌝ }
 {
     if is_too_long(s.len()) {
         return write_too_long(&mut *out);
@@ -28,8 +26,7 @@ pub fn render(s: &[u8], out: &mut [u8]) -> usize
 // The same for programs in other languages: a slice passes as pointer and length.
 #[no_mangle]
 pub extern "C" fn bench_render(s: &[u8], out: &mut [u8]) -> usize
-    ensures { λ r. ⌜ r ≡ fittedLength (outputOf (now (s .entry))) (now (out .entry)) ⌝ }
-    ensures { λ r. ⌜ now (out .exit) ≡ fitted (outputOf (now (s .entry))) (now (out .entry)) ⌝ }
+    ensures { λ r. ⌜ Rendered (outputOf (now (s .entry))) (now (out .entry)) (now (out .exit)) r ⌝ }
 {
     render(s, &mut *out)
 }

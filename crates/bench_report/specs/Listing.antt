@@ -4,6 +4,7 @@ use Prim.Native.String.{String}
 use mathlib.Core.Path.{_≡_, refl}
 use mathlib.Core.List.{List, [], _∷_, _++_}
 use lib.ListN.{replicate}
+use Rattle.ground.specs.Limit.{limit}
 use Rattle.text.specs.Text.{ascii, digits, decimal, signed, lines}
 use Rattle.model.specs.declared.Outcome.the-variants.{None, Stay, Move}
 use Rattle.bench_report.specs.declared.Row.{Row}
@@ -18,7 +19,7 @@ page (l ∷ rest) = ascii l ++ ascii "\n" ++ page rest
 -- "Output: twelve lines "0 0" to "11 0", then .."
 pub listing : reportOf (replicate 12 0) (record {
   n = 2;
-  rows = record { stage = 3; outcome = Move; position = 500 } ∷ record { stage = 3; outcome = Move; position = 2 ^ 32 - 250 } ∷ replicate 14 blankRow;
+  rows = record { stage = 3; outcome = Move; position = 500 } ∷ record { stage = 3; outcome = Move; position = 2 ^ 32 - 250 } ∷ replicate (limit - 2) blankRow;
   telegrams = record { vote = 2; ack = 2; help = 0; helped = 0 };
 }) ≡ page (
     "0 0" ∷ "1 0" ∷ "2 0" ∷ "3 0" ∷ "4 0" ∷ "5 0" ∷ "6 0" ∷ "7 0" ∷ "8 0" ∷ "9 0" ∷ "10 0" ∷ "11 0" ∷
@@ -42,6 +43,6 @@ unfolding digits decimal signed lines reportOf
 other-signs = refl
 
 -- "With no lock there are no C lines; with no order T is all 0."
-pub nothing-yet : reportOf [] (record { n = 0; rows = replicate 16 blankRow; telegrams = record { vote = 0; ack = 0; help = 0; helped = 0 } }) ≡ page ("T 0 0 0 0" ∷ [])
+pub nothing-yet : reportOf [] (record { n = 0; rows = replicate limit blankRow; telegrams = record { vote = 0; ack = 0; help = 0; helped = 0 } }) ≡ page ("T 0 0 0 0" ∷ [])
 unfolding digits decimal signed lines reportOf
 nothing-yet = refl

@@ -1,12 +1,12 @@
 -- One more record: the bench and the answers after it.
-use Prim.Native.Nat.{ℕ, zero, suc, _+_, _≤_, _<_}
+use Prim.Native.Nat.{ℕ, zero, suc, _+_, _-_, _*_, _≤_, _<_}
 use mathlib.Core.Path.{_≡_, refl, sym, ap, _∙_}
 use mathlib.Core.Bool.{true, false}
 use mathlib.Core.List.{List, [], _∷_, _++_, append-assoc}
 use native.Mathlib.Omega.{arith}
 use native.Mathlib.Numerals.{add-one}
-use lib.ListN.{length, drop, getD, set, length-append, length-set}
-use lib.Seq.{drop-cons, set-at}
+use lib.ListN.{length, take, drop, getD, set, length-append, length-set, length-drop}
+use lib.Seq.{drop-cons, drop-drop, set-at}
 use borrow.Author.Tests.{le-leb, lt-leb}
 use Rattle.model.specs.declared.Event.{Event}
 use Rattle.event_record.specs.Events.{readEvent, answerOf}
@@ -16,12 +16,8 @@ use Rattle.protocol.specs.declared.Bench.{Bench}
 use Rattle.protocol.specs.Benches.{newBench}
 use Rattle.protocol.specs.Questions.{number, reply}
 use Rattle.protocol.specs.Steps.{step, run}
-use Rattle.bench_run.specs.Schedule.{piece, count, letThrough, eventsTo}
-use Rattle.bench_run.specs.Runs.{answerNumber, answersTo, hasRoom, notRun, runOf, answered}
-
-append-nil : {A : Type 0} (l : List A) → l ++ [] ≡ l
-append-nil [] = refl
-append-nil (x ∷ l) = ap (λ (t : List _). x ∷ t) (append-nil l)
+use Rattle.bench_run.specs.Schedule.{piece, pieceAt, count, letThrough, eventsTo}
+use Rattle.bench_run.specs.Runs.{answerNumber, answersTo, hasRoom, notRun, runOf, answered, Ran}
 
 -- what a record does to the bench
 abbrev stepRead : Bench → ReadEvent → Bench
@@ -101,16 +97,27 @@ module _ (s out₀ : List ℕ) (all k : ℕ) (b : Bench) (out : List ℕ) (p : U
   not-read q w a y = next b a (ap (stepRead b) (sym w)) (y ∙ ap (λ (z : ReadEvent). answerOf z .number) w ∙ ap (λ (z : ReadEvent). answerNumber z b) (sym w))
 
 -- the result: with too little room nothing is run, else all are played
-pub no-room : (s out : List ℕ) (all : ℕ) → all ≡ count s → length out < all → (notRun ≡ runOf s out) × (out ≡ answered s out)
+pub no-room : (s out : List ℕ) (all : ℕ) → all ≡ count s → length out < all → Ran s out notRun out
 unfolding runOf answered
 no-room s out all w h =
     let f : hasRoom s out ≡ false = lt-leb (count s) (length out) (omega (arith, w)) in
-    (rw f, rw f)
+    record { result = rw f; buffer = rw f }
 
 pub ended : (s out₀ : List ℕ) (all k : ℕ) (b : Bench) (out : List ℕ) → Upto s out₀ all k b out → all ≤ k
-    → (record { complete = true; count = all; bench = b } ≡ runOf s out₀) × (out ≡ answered s out₀)
+    → Ran s out₀ (record { complete = true; count = all; bench = b }) out
 unfolding runOf answered
 ended s out₀ all k b out p h =
     let e : k ≡ count s = omega (arith, p .upto, p .whole) in
     let f : hasRoom s out₀ ≡ true = le-leb (count s) (length out₀) (omega (arith, p .room, p .whole)) in
-    (rw (f, p .whole, p .bench, e), rw f (p .answers ∙ rw e))
+    record { result = rw (f, p .whole, p .bench, e); buffer = rw f (p .answers ∙ rw e) }
+
+-- a record of what stands from a place on: it lies within the schedule, and is read at that place
+pub place-within : (s : List ℕ) (from all k : ℕ) → all ≡ count (drop from s) → k < all → from + k * 10 < length s
+unfolding count
+place-within s from all k w h =
+    let l : length (drop from s) ≡ length s - from = length-drop from s in
+    omega (arith, l, w, h)
+
+pub read-from : (s : List ℕ) (from k : ℕ) (r : ReadEvent) → r ≡ readEvent (pieceAt s (from + k * 10)) → r ≡ readEvent (piece (drop from s) k)
+unfolding pieceAt
+read-from s from k r e = e ∙ ap (λ (t : List ℕ). readEvent (take 10 t)) (sym (drop-drop (k * 10) from s))

@@ -1,5 +1,6 @@
 -- A whole schedule on a new bench: the bench at its end, and an answer for each record.
 use Prim.Native.Nat.{ℕ, zero, suc}
+use mathlib.Core.Path.{_≡_}
 use mathlib.Core.Bool.{Bool, true, false, cond}
 use mathlib.Core.List.{List, [], _∷_, _++_}
 use lib.Dec.{leb}
@@ -44,3 +45,8 @@ runOf s out = cond (hasRoom s out) (record { complete = true; count = count s; b
 -- the buffer afterwards: the answers at its front, and the rest as before
 unfoldable pub answered : List ℕ → List ℕ → List ℕ
 answered s out = cond (hasRoom s out) (answers s ++ drop (count s) out) out
+
+-- what a run of a schedule promises: of its result, and of the buffer that was lent to it
+pub record Ran (s out : List ℕ) (r : RunResult) (after : List ℕ) : Type 0 where
+  pub result : r ≡ runOf s out
+  pub buffer : after ≡ answered s out

@@ -11,21 +11,27 @@ use ground::LIMIT;
 use model::Event;
 use model::is_controller;
 use protocol::Bench;
+use schedule_reader::Reader;
+use schedule_reader::reader_at;
 use schedule_reader::record_at;
 ghost use mathlib.Core.Path.{_≡_};
 ghost use mathlib.Core.Bool.{_&&_};
 ghost use Prim.Native.Nat.{_-_, _≤_, _<_};
+ghost use lib.ListN.{drop};
 ghost use Rattle.ground.specs.Limit.{limit};
 ghost use Rattle.model.specs.Ranges.{isController};
 ghost use Rattle.protocol.specs.Events.{subject, source};
 ghost use Rattle.bench_run.specs.Schedule.{count};
-ghost use Rattle.bench_run.specs.Runs.{notRun, runOf, answered};
+ghost use Rattle.bench_run.specs.Runs.{notRun, Ran};
 
-// How many records there are, with a short last piece.
-fn count_of(s: &[u8]) -> usize
-    ensures { λ r. ⌜ r ≡ count (now (s .entry)) ⌝ }
+// How many records there are from a place on, with a short last piece.
+fn count_from(s: &[u8], from: usize) -> usize
+    ensures { λ r. ⌜ r ≡ count (drop from (now (s .entry))) ⌝ }
 {
-    (s.len() + (Event::LENGTH - 1)) / Event::LENGTH
+    if s.len() < from {
+        return 0;
+    }
+    (s.len() - from + (Event::LENGTH - 1)) / Event::LENGTH
 }
 
 // Have its subject and its source a station? An event of the whole bench has neither.
@@ -56,13 +62,12 @@ fn not_run() -> RunResult
     }
 }
 
-// Plays the whole schedule. One byte for each record goes into `answers`; if that is too short nothing is run, and the result says so. The bench
-// lies in this function's own variables, and an event of one controller changes its station there: no event copies the bench.
-pub fn run(s: &[u8], answers: &mut [u8]) -> RunResult
-    ensures { λ r. ⌜ r ≡ runOf (now (s .entry)) (now (answers .entry)) ⌝ }
-    ensures { λ r. ⌜ now (answers .exit) ≡ answered (now (s .entry)) (now (answers .entry)) ⌝ }
+// Plays what stands from a place of the schedule on. The bench lies in this function's own variables, and an event of one controller changes its station
+// there: no event copies the bench.
+fn run_from(s: &[u8], from: usize, answers: &mut [u8]) -> RunResult
+    ensures { λ r. ⌜ Ran (drop from (now (s .entry))) (now (answers .entry)) r (now (answers .exit)) ⌝ }
 {
-    let count = count_of(s);
+    let count = count_from(s, from);
     if answers.len() < count {
         return not_run();
     }
@@ -71,7 +76,7 @@ pub fn run(s: &[u8], answers: &mut [u8]) -> RunResult
     let mut stations = b.stations;
     let mut k: usize = 0;
     while k < count {
-        let r = record_at(s, k * Event::LENGTH);
+        let r = record_at(s, from + k * Event::LENGTH);
         let ReadEvent::Read(e) = r else {
             answers[k] = answer_of(r);
             k += 1;
@@ -111,4 +116,19 @@ pub fn run(s: &[u8], answers: &mut [u8]) -> RunResult
             stations,
         },
     }
+}
+
+// Plays what a reader has before it: the run goes by the reader's slice and position.
+fn run_reader<'a>(r: Reader<'a>, answers: &mut [u8]) -> RunResult
+    ensures { λ x. ⌜ Ran (drop (r .entry .at) (now (r .entry .src))) (now (answers .entry)) x (now (answers .exit)) ⌝ }
+{
+    run_from(r.src, r.at, answers)
+}
+
+// Plays the whole schedule, by a reader at its front. One byte for each record goes into `answers`; if that is too short nothing is run, and the result
+// says so.
+pub fn run(s: &[u8], answers: &mut [u8]) -> RunResult
+    ensures { λ r. ⌜ Ran (now (s .entry)) (now (answers .entry)) r (now (answers .exit)) ⌝ }
+{
+    run_reader(reader_at(s, 0), answers)
 }

@@ -22,7 +22,7 @@ ghost use mathlib.Core.Bool.{cond, _||_};
 ghost use lib.Dec.{eqb};
 ghost use Rattle.model.specs.declared.Outcome.the-variants.{None};
 ghost use Rattle.protocol.specs.Controllers.{runs, standsBy};
-ghost use Rattle.protocol.specs.Calls.{awaitsDecision, decide, stop, checkpointOf, save, restore, renew};
+ghost use Rattle.protocol.specs.Calls.{awaitsDecision, decide, stop, checkpointOf, SaveOf, restore, renew};
 
 // It stands by, or runs at stage 3.
 fn awaits_decision(c: Controller) -> bool
@@ -84,9 +84,9 @@ fn checkpoint_of(me: Identity, c: Controller) -> Checkpoint
     }
 }
 
-// The checkpoint, unless it is stopped.
+// The checkpoint (number 0), unless it is stopped (15).
 pub fn save(me: Identity, c: Controller) -> Saved
-    ensures { λ r. ⌜ r ≡ save me c ⌝ }
+    ensures { λ r. ⌜ SaveOf me c r ⌝ }
 {
     if is_up(c) {
         return Saved::Newest(checkpoint_of(me, c));

@@ -8,7 +8,7 @@ use text::put_number;
 use text::write_bytes;
 use text::write_refusal;
 ghost use mathlib.Core.Path.{_≡_};
-ghost use Rattle.text.specs.Writing.{fitted, fittedLength};
+ghost use Rattle.text.specs.Writing.{fitted, fittedLength, Rendered};
 ghost use Rattle.dues_output.specs.Printed.{totalsLine, heldAnswer, outputOf};
 
 // So many bytes the program holds; a longer sheet it refuses with 22.
@@ -41,8 +41,7 @@ fn held_answer(s: &[u8]) -> Answer
 
 // Writes the program's whole output for a sheet to the front of the buffer and answers its length; 0, and nothing written, if it does not fit.
 pub fn render(s: &[u8], out: &mut [u8]) -> usize
-    ensures { λ r. ⌜ r ≡ fittedLength (outputOf (now (s .entry))) (now (out .entry)) ⌝ }
-    ensures { λ r. ⌜ now (out .exit) ≡ fitted (outputOf (now (s .entry))) (now (out .entry)) ⌝ }
+    ensures { λ r. ⌜ Rendered (outputOf (now (s .entry))) (now (out .entry)) (now (out .exit)) r ⌝ }
 {
     match held_answer(s) {
         Answer::Totals(t) => write_totals(&mut *out, t),

@@ -8,7 +8,7 @@ use records::number2;
 use records::number4;
 use text::write_refusal;
 ghost use mathlib.Core.Path.{_≡_};
-ghost use Rattle.text.specs.Writing.{fitted, fittedLength};
+ghost use Rattle.text.specs.Writing.{fitted, fittedLength, Rendered};
 ghost use Rattle.generator_output.specs.Output.{outputFor, outputOf, longestOutput, AllFit};
 
 // No output is longer: the file of the most controllers and the most drawn events, ten bytes for each record.
@@ -32,7 +32,7 @@ fn write_for(out: &mut [u8], n: u8, f: u8, count: u32, start: u32) -> usize
 
 // Writes the program's whole output for an input to the front of the buffer and answers its length; 0, and nothing written, if it does not fit.
 pub fn render(input: &[u8], out: &mut [u8]) -> usize
-    ensures { λ r. ⌜ (r ≡ fittedLength (outputOf (now (input .entry))) (now (out .entry))) × (now (out .exit) ≡ fitted (outputOf (now (input .entry))) (now (out .entry))) ⌝ }
+    ensures { λ r. ⌜ Rendered (outputOf (now (input .entry))) (now (out .entry)) (now (out .exit)) r ⌝ }
 {
     if input.len() != 8 {
         return write_refusal(&mut *out, 1);

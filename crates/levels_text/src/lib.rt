@@ -2,7 +2,7 @@
 ghost use mathlib.Core.Path.{_≡_};
 ghost use Prim.Native.Nat.{_+_, _≤_};
 ghost use lib.ListN.{length};
-ghost use Rattle.text.specs.Writing.{fitted, fittedLength};
+ghost use Rattle.text.specs.Writing.{fitted, fittedLength, Rendered};
 ghost use Rattle.records.specs.Bytes.{number4};
 ghost use Rattle.levels_text.specs.Output.{rangeAt, words, willingnessIn, outputOf};
 use levels::Range;
@@ -61,8 +61,7 @@ fn write_words(out: &mut [u8], w: Willingness) -> usize
 
 // The same of the program's whole output for an input.
 pub fn render(input: &[u8], out: &mut [u8]) -> usize
-    ensures { λ r. ⌜ r ≡ fittedLength (outputOf (now (input .entry))) (now (out .entry)) ⌝ }
-    ensures { λ r. ⌜ now (out .exit) ≡ fitted (outputOf (now (input .entry))) (now (out .entry)) ⌝ }
+    ensures { λ r. ⌜ Rendered (outputOf (now (input .entry))) (now (out .entry)) (now (out .exit)) r ⌝ }
 {
     let w = answer_to(input);
     write_words(&mut *out, w)

@@ -13,7 +13,7 @@ ghost use mathlib.Core.List.{_∷_, [], _++_};
 ghost use Prim.Native.Nat.{_≤_};
 ghost use lib.ListN.{length};
 ghost use Rattle.text.specs.Text.{ascii, decimal, line, lines};
-ghost use Rattle.text.specs.Writing.{Put, fitted, fittedLength};
+ghost use Rattle.text.specs.Writing.{Put, Rendered};
 ghost use Rattle.line_output.specs.Output.{actOf, shown, actLine, outputOf};
 
 // The most acts that are run.
@@ -87,8 +87,7 @@ fn measure(s: &[u8]) -> usize
 
 // Writes the program's whole output for these acts to the front of the buffer and answers its length; 0, and nothing written, if it does not fit.
 pub fn render(s: &[u8], out: &mut [u8]) -> usize
-    ensures { λ r. ⌜ r ≡ fittedLength (outputOf (now (s .entry))) (now (out .entry)) ⌝ }
-    ensures { λ r. ⌜ now (out .exit) ≡ fitted (outputOf (now (s .entry))) (now (out .entry)) ⌝ }
+    ensures { λ r. ⌜ Rendered (outputOf (now (s .entry))) (now (out .entry)) (now (out .exit)) r ⌝ }
 {
     if MOST < s.len() {
         return write_refusal(&mut *out, 1);

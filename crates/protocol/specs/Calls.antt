@@ -1,6 +1,7 @@
 -- What may be asked of a controller, in its lock or alone in a cabinet: the rules behind the tests of condition, stage and address.
 -- A call at a wrong stage or in a wrong condition changes nothing, and its answer says so.
 use Prim.Native.Nat.{ℕ}
+use mathlib.Core.Path.{_≡_}
 use mathlib.Core.Bool.{Bool, cond, _&&_, _||_}
 use mathlib.Core.List.{List, [], _∷_}
 use lib.Dec.{eqb, leb}
@@ -65,6 +66,9 @@ stop c = cond (runs c || standsBy c) (becomes (cleared Stopped c)) (passedOver c
 unfoldable pub checkpointOf : Identity → Controller → Checkpoint
 checkpointOf me c = record { id = me .id; n = me .n; f = me .f; outcome = outcome c; order = me .order; position = c .gate .position }
 
+unfoldable pub save : Identity → Controller → Saved
+save me c = cond (runs c || standsBy c) (Newest (checkpointOf me c)) Nothing
+
 -- what its answer says in document 01's terms: 0 and the card; or 15, "Is the condition right?", and none
 abbrev pub savedNumber : Saved → ℕ
 savedNumber Nothing = 15
@@ -74,8 +78,11 @@ abbrev pub savedValues : Saved → List Checkpoint
 savedValues Nothing = []
 savedValues (Newest p) = p ∷ []
 
-unfoldable pub save : Identity → Controller → Saved
-save me c = cond (runs c || standsBy c) (Newest (checkpointOf me c)) Nothing
+-- what is promised of the answer to a save. 15 asks "save: running or standing by"
+pub record SaveOf (me : Identity) (c : Controller) (r : Saved) : Type 0 where
+  pub answer : r ≡ save me c
+  pub number : savedNumber r ≡ cond (runs c || standsBy c) 0 15
+  pub values : savedValues r ≡ cond (runs c || standsBy c) (checkpointOf me c ∷ []) []
 
 -- **Restore** "brings a stopped controller to standing by, with the card's outcome if the card is of this order, else none.
 -- The gate's position stays what it is; the card's is not used."

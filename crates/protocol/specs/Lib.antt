@@ -2,6 +2,7 @@
 pub mod Controllers
 pub mod Rules
 pub mod Calls
+pub mod CallLaws
 -- "The parts": the bench; "Questions put to a record or event"; what an event does
 pub mod Benches
 pub mod Events

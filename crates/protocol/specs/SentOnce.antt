@@ -1,9 +1,9 @@
--- T COUNTS SENDS. `telegrams` (Display), which the T line shows, is the size of sets of receivers; that is the number of telegrams sent by the
+-- T COUNTS SENDS, and what was sent stays what it was. `telegrams` (Display), which the T line shows, is the size of sets of receivers; that is the number of telegrams sent by the
 -- rules, since none is sent twice in an order. Said of every list of events. `sent_once` in src/lib.rt has it as its contract.
 use Prim.Native.Nat.{ℕ, _+_}
 use mathlib.Core.Path.{_≡_}
 use mathlib.Core.Bool.{true, false, cond}
-use mathlib.Core.List.{List, [], _∷_}
+use mathlib.Core.List.{List, [], _∷_, _++_}
 use Rattle.ground.specs.Quantify.{countTo}
 use Rattle.ground.specs.Mask.{has}
 use Rattle.model.specs.declared.Kind.{Kind}
@@ -13,13 +13,14 @@ use Rattle.model.specs.declared.Event.the-variants.{Lock, Order, Cast, Deliver,
 use Rattle.protocol.specs.declared.Send.{Send}
 use Rattle.protocol.specs.declared.Send.the-variants.{Nothing, To}
 use Rattle.protocol.specs.declared.Sends.{Sends}
+use Rattle.protocol.specs.declared.Outgoing.{Outgoing}
 use Rattle.protocol.specs.declared.Bench.{Bench}
 use Rattle.protocol.specs.Benches.{newBench, station, sentBy, ofKind}
 use Rattle.protocol.specs.Events.{subject, source}
 use Rattle.protocol.specs.Questions.{isAccepted, reply}
 use Rattle.protocol.specs.Steps.{answerTo, step}
 use Rattle.protocol.specs.Display.{telegrams}
-use Rattle.protocol.specs.Claim.{after, Accepted}
+use Rattle.protocol.specs.Claim.{after, Accepted, SameOrder}
 
 -- to whom an answer sends telegrams of a kind
 abbrev pub receiversOf : Send → ℕ
@@ -55,9 +56,21 @@ unfoldable pub countSends : Kind → Bench → List Event → ℕ → ℕ
 countSends kind b [] k = k
 countSends kind b (e ∷ es) k = countSends kind (step b e) es (cond (isAccepted (reply b e)) (countAccepted kind b e k) k)
 
+-- what a controller has sent of a kind: whom it was sent to, and the set
+abbrev pub sentAt : List Event → Kind → ℕ → Outgoing
+sentAt es kind i = ofKind kind (sentBy (after es) i)
+
+-- what was sent to j stays sent, with its set
+pub record StaysSent (j : ℕ) (old new : Outgoing) : Type 0 where
+  pub sent : has (new .to) j ≡ true
+  pub votes : new .votes ≡ old .votes
+
 pub record SentOnce : Type 0 where
   -- what an accepted event sends was not sent before in the order
   pub once : (es : List Event) (e : Event) (kind : Kind) (j : ℕ) → Accepted es e → has (receiversAt (after es) e kind) j ≡ true
-      → has ((ofKind kind (sentBy (after es) (subject e))) .to) j ≡ false
+      → has ((sentAt es kind (subject e)) .to) j ≡ false
+  -- and what was sent is the same at every later moment of the order
+  pub kept : (es more : List Event) (kind : Kind) (i j : ℕ) → SameOrder es more → has ((sentAt es kind i) .to) j ≡ true
+      → StaysSent j (sentAt es kind i) (sentAt (es ++ more) kind i)
   -- so the figures of the T line are the counts of the sends of the order's accepted events
   pub counted : (es : List Event) (kind : Kind) → telegrams (after es) kind ≡ countSends kind newBench es 0

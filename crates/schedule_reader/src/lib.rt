@@ -1,5 +1,5 @@
-// "The schedule is read from its front, one record at a time": a thin struct of the schedule's slice and a position in it. Whoever runs a schedule calls
-// `record_at`, which has plain parameters, so no caller sees a struct that borrows.
+// "The schedule is read from its front, one record at a time": a thin struct of the schedule's slice and a position in it. A run begins with the reader
+// at the front, and reads each record through a reader at its place (`record_at`, which has plain parameters).
 ghost use mathlib.Core.Path.{_≡_};
 ghost use Prim.Native.Nat.{_+_, _≤_, min};
 ghost use Rattle.event_record.specs.Events.{eventLength};
@@ -8,9 +8,9 @@ use event_record::ReadEvent;
 use event_record::read_event;
 use model::Event;
 
-struct Reader<'a> {
-    src: &'a [u8],
-    at: usize,
+pub struct Reader<'a> {
+    pub src: &'a [u8],
+    pub at: usize,
 }
 
 // Where the piece from a place on ends.
@@ -36,7 +36,7 @@ fn event_at(s: &[u8], at: usize) -> ReadEvent
 }
 
 // A reader of a schedule, at a position.
-fn reader_at<'a>(src: &'a [u8], at: usize) -> Reader<'a>
+pub fn reader_at<'a>(src: &'a [u8], at: usize) -> Reader<'a>
     ensures { λ r. ⌜ (r .src ≡ src .entry) × (r .at ≡ at) ⌝ }
 {
     Reader { src, at }

@@ -4,7 +4,7 @@ use mathlib.Core.Path.{_≡_}
 use mathlib.Core.Bool.{cond}
 use mathlib.Core.List.{List, _++_}
 use lib.Dec.{leb}
-use lib.ListN.{length, drop}
+use lib.ListN.{length, take, drop}
 use lib.Seq.{sets}
 
 -- no index of a buffer is higher, and no buffer is longer
@@ -25,3 +25,8 @@ fitted text out = cond (leb (length text) (length out)) (text ++ drop (length te
 -- its length; or 0
 unfoldable pub fittedLength : List ℕ → List ℕ → ℕ
 fittedLength text out = cond (leb (length text) (length out)) (length text) 0
+
+-- What is promised of a program's whole output `text` in a lent buffer, and of the length r that is answered. That r counts bytes of the buffer follows; it is
+-- said so that whoever lends `&buffer[..r]` on needs no proof of it.
+abbrev pub Rendered : List ℕ → List ℕ → List ℕ → ℕ → Type 0
+Rendered text before after r = (r ≡ fittedLength text before) × (after ≡ fitted text before) × (r ≤ length after) × (r ≡ length (take r after))

@@ -9,11 +9,11 @@ use native.Mathlib.Numerals.{add-one}
 use native.Mathlib.Omega.{arith}
 use borrow.Author.Tests.{le-leb, lt-leb, leb-true, leb-false}
 use lib.Dec.{leb}
-use lib.ListN.{length, set, take, drop, length-append, length-set}
-use lib.Seq.{sets, sets-eq, set-out, length-sets, take-append-seam}
+use lib.ListN.{length, set, take, drop, length-append, length-set, length-drop, replicate, length-replicate}
+use lib.Seq.{sets, sets-eq, set-out, length-sets, length-take-le, take-append-seam}
 use Rattle.ground.specs.Tests.{by-cond, split}
 use Rattle.text.specs.Text.{lines}
-use Rattle.text.specs.Writing.{Put, fitted, fittedLength, highest}
+use Rattle.text.specs.Writing.{Put, fitted, fittedLength, Rendered, highest}
 
 sets-then : (s t l : List ℕ) (i : ℕ) → sets (sets l i s) (i + length s) t ≡ sets l i (s ++ t)
 sets-then [] t l i = rw add-zero
@@ -108,6 +108,18 @@ module _ (text out : List ℕ) where
   pub within-buffer : (r : ℕ) (after : List ℕ) → r ≡ fittedLength text out → length after ≡ length out → r ≤ length after
   within-buffer r after e l = omega (arith, fits)
 
+  same-length : length (fitted text out) ≡ length out
+  unfolding fitted
+  same-length =
+      by-cond (λ (l : List ℕ). length l ≡ length out) (leb (length text) (length out)) (text ++ drop (length text) out) out
+      (λ h. let k : length text ≤ length out = leb-true _ _ h in simp (length-append, length-drop) (omega arith))
+      (λ _. refl)
+
+  pub rendered : {after : List ℕ} {r : ℕ} → (r ≡ fittedLength text out) × (after ≡ fitted text out) → Rendered text out after r
+  rendered {after} {r} w =
+      let k : r ≤ length after = within-buffer r after (w .0) (ap length (w .1) ∙ same-length) in
+      (w .0, w .1, k, sym (length-take-le r after k))
+
   -- a buffer that is long enough gets the text
   pub fitted-whole : length text ≤ length out → (fittedLength text out ≡ length text) × (fitted text out ≡ text ++ drop (length text) out)
   unfolding fitted fittedLength
@@ -118,3 +130,10 @@ pub read-front : {l m : List ℕ} {r : ℕ} {text : List ℕ} → length text �
 read-front {l} {m} {r} {text} h p =
     let e : r ≡ length text = measured (omega (arith, p .buffer)) p in
     (e, rw (e, p .bytes, front text l h) (take-append-seam text (drop (length text) l)))
+
+-- the same of an array of its own: a line that is made there, and then lent on
+pub own-line : (n : ℕ) (text : List ℕ) {m : List ℕ} {r : ℕ} → length text ≤ n → Put (replicate n 0) m 0 r text → (take r m ≡ text) × (r ≤ length m)
+own-line n text h p =
+    let l : length (replicate {A = ℕ} n 0) ≡ n = length-replicate n 0 in
+    let w = read-front (omega (arith, l)) p in
+    (w .1, omega (arith, l, w .0, put-length p))

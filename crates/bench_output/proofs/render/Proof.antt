@@ -13,6 +13,7 @@ use Rattle.bench_run.specs.declared.RunResult.{RunResult}
 use Rattle.bench_run.specs.Schedule.{count, events}
 use Rattle.bench_run.specs.Runs.{answers}
 use Rattle.text.specs.Writing.{fitted, fittedLength}
+use Rattle.text.specs.WritingLaws.{rendered}
 use Rattle.bench_report.specs.declared.Summary.{Summary}
 use Rattle.bench_report.specs.Limits.{mostAnswers, isTooLong}
 use Rattle.bench_report.specs.Report.{reported}
@@ -36,7 +37,7 @@ returns c =
     let s = c .before .before .before .before .before .before .before .before .args .s .now in
     let e = is-too-long s (sym (c .before .before .before .before .before .is-too-long .ensures) ∙ c .before .before .before .before .if1 .taken) in
     let w = c .before .before .write-too-long .ensures in
-    (w .0 ∙ rw e, w .1 ∙ rw e)
+    rendered _ _ (w .0 ∙ rw e, w .1 ∙ rw e)
 
 slice-aggregate-run : tie.Need-slice-aggregate-run
 slice-aggregate-run c = search needs
@@ -58,7 +59,7 @@ room : length empty ≡ mostAnswers
 room = length-replicate {A = ℕ} mostAnswers 0
 
 ran : (c : tie.After-run) → c .run .result ≡ record { complete = true; count = count (schedule c); bench = run newBench (events (schedule c)) }
-ran c = c .run .ensures .0 ∙ all-run (schedule c) (short c) empty room
+ran c = c .run .ensures .result ∙ all-run (schedule c) (short c) empty room
 
 all-counted : (c : tie.After-run) → c .run .result .count ≡ count (schedule c)
 all-counted c = ap (λ (r : RunResult). r .count) (ran c)
@@ -69,7 +70,7 @@ within c = omega (arith, all-counted c, counted (schedule c) (short c) empty roo
 given : (c : tie.After-run) → take (c .run .result .count) (c .run .last .1 .0) ≡ answers (schedule c)
 given c =
     ap (λ (n : ℕ). take n (c .run .last .1 .0)) (all-counted c)
-    ∙ ap (take (count (schedule c))) (c .run .ensures .1)
+    ∙ ap (take (count (schedule c))) (c .run .ensures .buffer)
     ∙ all-answered (schedule c) (short c) empty room
 
 summary-of-requires : tie.Need-summary-of-requires
@@ -100,7 +101,7 @@ returns-2 c =
     ∙ few (answers s) (summaryOf (run newBench (events s))) (few-answers s (short r))
     ∙ sym (is-report s (short r)) in
     let w = c .before .before .write-report .ensures in
-    (w .0 ∙ ap (λ (x : List ℕ). fittedLength x out) text, w .1 ∙ ap (λ (x : List ℕ). fitted x out) text)
+    rendered _ _ (w .0 ∙ ap (λ (x : List ℕ). fittedLength x out) text, w .1 ∙ ap (λ (x : List ℕ). fitted x out) text)
 
 pub render-spec : {M : Type 1} → statement M
 render-spec =

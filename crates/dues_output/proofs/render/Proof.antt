@@ -3,6 +3,7 @@ use Prim.Native.Nat.{ℕ}
 use mathlib.Core.Path.{_≡_, sym, _∙_, ap}
 use mathlib.Core.List.{List}
 use Rattle.text.specs.Writing.{fitted, fittedLength}
+use Rattle.text.specs.WritingLaws.{rendered}
 use Rattle.dues_output.specs.Printed.{answerLine}
 use borrow.Author.Needs.{needs}
 use Rattle.dues_output.proofs.render.Statement.{statement}
@@ -37,7 +38,7 @@ returns : tie.Need-returns
 unfolding answerLine
 returns c =
     let told = c .before .before .before .before .before in
-    same-text _ (ap answerLine (sym (told .t .given .1) ∙ told .before .before .held-answer .ensures)) (c .before .before .write-totals .ensures)
+    rendered _ _ (same-text _ (ap answerLine (sym (told .t .given .1) ∙ told .before .before .held-answer .ensures)) (c .before .before .write-totals .ensures))
 
 same-length-2 : tie.Need-same-length-2
 same-length-2 c = search needs
@@ -46,7 +47,7 @@ returns-2 : tie.Need-returns-2
 unfolding answerLine
 returns-2 c =
     let told = c .before .before .before .before .before in
-    same-text _ (ap answerLine (sym (told .q .given .1) ∙ told .before .before .held-answer .ensures)) (c .before .before .write-refusal .ensures)
+    rendered _ _ (same-text _ (ap answerLine (sym (told .q .given .1) ∙ told .before .before .held-answer .ensures)) (c .before .before .write-refusal .ensures))
 
 pub render-spec : {M : Type 1} → statement M
 render-spec =

@@ -2,11 +2,10 @@
 use Prim.Native.Nat.{ℕ, _≤_}
 use mathlib.Core.Path.{_≡_, sym, _∙_, ap}
 use mathlib.Core.List.{List}
-use native.Mathlib.Omega.{arith}
-use lib.ListN.{length, take, replicate, length-replicate}
+use lib.ListN.{length, take, replicate}
 use lib.Seq.{length-take-le}
 use Rattle.text.specs.Writing.{Put, fitted, fittedLength}
-use Rattle.text.specs.WritingLaws.{put-then, put-length, read-front}
+use Rattle.text.specs.WritingLaws.{put-then, own-line}
 use Rattle.tariff.specs.declared.Shares.{Shares}
 use Rattle.dues_output.specs.Printed.{totalsLine}
 use Rattle.dues_output.specs.PrintedLaws.{totals-length}
@@ -42,20 +41,14 @@ line c =
     let second = c .before .before .before in
     put-then (first .put-number .ensures) (put-then (second .put-field .ensures) (c .put-byte .ensures))
 
-array : (c : tie.After-put-byte) → length (c .put-byte .last .0) ≡ 22
-array c = put-length (line c) ∙ length-replicate {A = ℕ} 22 0
-
-whole : (c : tie.After-put-byte) → (c .put-byte .result ≡ length (totalsLine (shares c))) × (take (c .put-byte .result) (c .put-byte .last .0) ≡ totalsLine (shares c))
-whole c = read-front (rw (length-replicate {A = ℕ} 22 0) (totals-length (shares c))) (line c)
-
-short : (c : tie.After-put-byte) → c .put-byte .result ≤ length (c .put-byte .last .0)
-short c = omega (arith, whole c .0, totals-length (shares c), array c)
+stands : (c : tie.After-put-byte) → (take (c .put-byte .result) (c .put-byte .last .0) ≡ totalsLine (shares c)) × (c .put-byte .result ≤ length (c .put-byte .last .0))
+stands c = own-line 22 (totalsLine (shares c)) (totals-length (shares c)) (line c)
 
 array-share-prefix-line : tie.Need-array-share-prefix-line
-array-share-prefix-line c = short (c .before .before)
+array-share-prefix-line c = stands (c .before .before) .1
 
 slice-aggregate-write-bytes : tie.Need-slice-aggregate-write-bytes
-slice-aggregate-write-bytes c = sym (length-take-le _ _ (short (c .before .before .before)))
+slice-aggregate-write-bytes c = sym (length-take-le _ _ (stands (c .before .before .before) .1))
 
 write-bytes-requires : tie.Need-write-bytes-requires
 write-bytes-requires c κs = search needs
@@ -66,7 +59,7 @@ same-length c = search needs
 returns : tie.Need-returns
 returns c =
     let last = c .before .before .before .before .before .before in
-    let line = whole last .1 in
+    let line = stands last .0 in
     let out = last .before .before .before .before .before .before .before .before .before .args .out .now in
     let w = c .before .before .write-bytes .ensures in
     (w .0 ∙ ap (λ (x : List ℕ). fittedLength x out) line, w .1 ∙ ap (λ (x : List ℕ). fitted x out) line)

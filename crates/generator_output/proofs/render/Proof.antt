@@ -1,3 +1,4 @@
+use Rattle.text.specs.WritingLaws.{rendered}
 use borrow.Author.Tests.{eq-eqb, ne-eqb}
 use Rattle.generator_output.specs.Output.{outputOf}
 use borrow.Author.Needs.{needs}
@@ -12,7 +13,7 @@ same-length c = search needs
 
 returns : tie.Need-returns
 unfolding outputOf
-returns c = simp (ne-eqb _ _ (c .before .before .before .before .if1 .taken)) (c .before .before .write-refusal .ensures)
+returns c = rendered _ _ (simp (ne-eqb _ _ (c .before .before .before .before .if1 .taken)) (c .before .before .write-refusal .ensures))
 
 shared-slice-read-number2 : tie.Need-shared-slice-read-number2
 shared-slice-read-number2 c = search needs
@@ -55,7 +56,7 @@ unfolding outputOf
 returns-2 c =
     let numbering = c .before .before .before .before .before .before in
     let counting = numbering .before .before .before .before .before in
-    simp (eq-eqb _ _ (counting .before .before .before .if1 .left), ← counting .number2 .ensures, ← numbering .number4 .ensures) (c .before .before .write-for .ensures)
+    rendered _ _ (simp (eq-eqb _ _ (counting .before .before .before .if1 .left), ← counting .number2 .ensures, ← numbering .number4 .ensures) (c .before .before .write-for .ensures))
 
 pub render-spec : {M : Type 1} → statement M
 render-spec =

@@ -1,3 +1,4 @@
+use Rattle.text.specs.WritingLaws.{rendered}
 use Rattle.levels_text.specs.Output.{outputOf}
 use borrow.Author.Needs.{needs}
 use Rattle.levels_text.proofs.render.Statement.{statement}
@@ -14,7 +15,7 @@ same-length c = search needs
 
 returns : tie.Need-returns
 unfolding outputOf
-returns c = rw (← c .before .before .before .before .answer-to .ensures) (c .before .before .write-words .ensures)
+returns c = rendered _ _ (rw (← c .before .before .before .before .answer-to .ensures) (c .before .before .write-words .ensures))
 
 pub render-spec : {M : Type 1} → statement M
 render-spec = tie.close (tie.spec answer-to-requires write-words-requires same-length returns)

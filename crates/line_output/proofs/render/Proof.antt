@@ -1,5 +1,5 @@
 -- `line_output::render` meets its contract, at each of its returns.
-use Rattle.text.specs.WritingLaws.{nothing-fitted, all-fitted}
+use Rattle.text.specs.WritingLaws.{nothing-fitted, all-fitted, rendered}
 use Rattle.line_output.proofs.Runs.{few, many}
 use borrow.Author.Needs.{needs}
 use Rattle.line_output.proofs.render.Statement.{statement}
@@ -14,7 +14,7 @@ same-length c = search needs
 returns : tie.Need-returns
 returns c =
     let test = c .before .before .before .before in
-    rw (many (test .before .before .before .args .s .now) (test .if1 .taken)) (c .before .before .write-refusal .ensures)
+    rendered _ _ (rw (many (test .before .before .before .args .s .now) (test .if1 .taken)) (c .before .before .write-refusal .ensures))
 
 measure-requires : tie.Need-measure-requires
 measure-requires c κs = search needs
@@ -22,7 +22,7 @@ measure-requires c κs = search needs
 returns-2 : tie.Need-returns-2
 returns-2 c =
     let test = c .before .before in
-    rw (few (test .before .before .before .args .s .now) (test .if1 .left)) (nothing-fitted _ _ (rw (← c .before .measure .ensures) (c .if2 .taken)))
+    rendered _ _ (rw (few (test .before .before .before .args .s .now) (test .if1 .left)) (nothing-fitted _ _ (rw (← c .before .measure .ensures) (c .if2 .taken))))
 
 put-acts-requires : tie.Need-put-acts-requires
 put-acts-requires c κs = search needs
@@ -34,8 +34,8 @@ returns-3 : tie.Need-returns-3
 returns-3 c =
     let room = c .before .before .before .before in
     let test = room .before .before in
-    rw (few (test .before .before .before .args .s .now) (test .if1 .left))
-    (all-fitted _ _ (rw (← room .before .measure .ensures) (room .if2 .left)) (c .before .before .put-acts .ensures))
+    rendered _ _ (rw (few (test .before .before .before .args .s .now) (test .if1 .left))
+    (all-fitted _ _ (rw (← room .before .measure .ensures) (room .if2 .left)) (c .before .before .put-acts .ensures)))
 
 pub render-spec : {M : Type 1} → statement M
 render-spec =

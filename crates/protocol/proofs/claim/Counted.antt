@@ -2,7 +2,7 @@
 use Prim.Native.Nat.{ℕ, zero, suc, _+_, _≤_}
 use mathlib.Core.Path.{_≡_, refl, sym, _∙_, ap, subst}
 use mathlib.Core.Bool.{Bool, true, false, cond, false≢true}
-use mathlib.Core.List.{List, [], _∷_}
+use mathlib.Core.List.{List, [], _∷_, _++_}
 use native.Mathlib.Omega.{arith}
 use mathlib.Core.Logic.{inl, inr}
 use borrow.Author.Tests.{leb-true}
@@ -25,15 +25,15 @@ use Rattle.protocol.specs.Events.{subject, source, concernsOne}
 use Rattle.protocol.specs.Questions.{accepted, isAccepted, firstNo, reply}
 use Rattle.protocol.specs.Steps.{answerTo, perform, step, run, renewed}
 use Rattle.protocol.specs.Display.{sumTo, sentCount, telegrams}
-use Rattle.protocol.specs.Claim.{after}
-use Rattle.protocol.specs.SentOnce.{receiversOf, sendOf, receiversAt, sendsAt, countAccepted, countSends, SentOnce}
+use Rattle.protocol.specs.Claim.{after, opensOrder, opensAny}
+use Rattle.protocol.specs.SentOnce.{receiversOf, sendOf, receiversAt, sendsAt, countAccepted, countSends, StaysSent, SentOnce}
 use Rattle.protocol.proofs.view.View.{View, openedV, accepts, ask-l, ask-r}
 use Rattle.protocol.proofs.view.Performed.{commitV, chosen, savedV, ruleAnswer, answerV, answered-by-rule, performV, stepV}
 use Rattle.protocol.proofs.view.Simulation.{view, reply-sim, step-steps, step-sim}
 use Rattle.protocol.proofs.invariant.Arrivals.{count-zero}
-use Rattle.protocol.proofs.claim.Moments.{accepted-is, lock-refused}
+use Rattle.protocol.proofs.claim.Moments.{accepted-is, lock-refused, run-append, or-false-l, or-false-r}
 use Rattle.protocol.proofs.claim.Start.{unlocked, freshes}
-use Rattle.protocol.proofs.claim.Sends.{New, rule-new, telegramsV, commit-counted}
+use Rattle.protocol.proofs.claim.Sends.{New, rule-new, telegramsV, commit-counted, commit-kept}
 use Rattle.protocol.proofs.claim.Reach.{Alive, Reached, step-reached, reached}
 
 -- a bench on which nothing was sent
@@ -133,6 +133,26 @@ module _ (b : Bench) (a : Alive b) where
       saves Helped = let z : countTo n (has 0) ≡ 0 = count-zero n in omega arith
   step-counted kind (Restore i) q = counted-by kind (Restore i) q (unfold performV ruleAnswer in committed kind (Restore i) refl q)
 
+  -- what was sent stays sent
+  performed-kept : (e : Event) → accepts n f (view b) e ≡ true → opensOrder b e ≡ false → (kind : Kind) (j i : ℕ) → has ((ofKind kind (sentBy b i)) .to) j ≡ true
+      → StaysSent j (ofKind kind (sentBy b i)) (ofKind kind ((performV n f (view b) e) .state .sent i))
+  performed-kept (Lock x y) q o kind j i h = unfold performV view in record { sent = h; votes = refl }
+  performed-kept (Order m) q o kind j i h = absurd (no-both _ (reply-sim b (a .sound) (Order m) ∙ q) o)
+  performed-kept (Cast k w t) q o kind j i h = unfold performV ruleAnswer view in commit-kept n f (view b) k _ (rule-new n f (view b) (a .inv) (Cast k w t) q) kind j i h
+  performed-kept (Deliver k m x) q o kind j i h = unfold performV ruleAnswer view in commit-kept n f (view b) m _ (rule-new n f (view b) (a .inv) (Deliver k m x) q) kind j i h
+  performed-kept (Timeout k) q o kind j i h = unfold performV ruleAnswer view in commit-kept n f (view b) k _ (rule-new n f (view b) (a .inv) (Timeout k) q) kind j i h
+  performed-kept (Decide k w) q o kind j i h = unfold performV ruleAnswer chosen view in commit-kept n f (chosen (view b) w) k _ (rule-new n f (view b) (a .inv) (Decide k w) q) kind j i h
+  performed-kept (Stop k) q o kind j i h = unfold performV ruleAnswer view in commit-kept n f (view b) k _ (rule-new n f (view b) (a .inv) (Stop k) q) kind j i h
+  performed-kept (Save k) q o kind j i h = unfold performV savedV view in record { sent = h; votes = refl }
+  performed-kept (Restore k) q o kind j i h = unfold performV ruleAnswer view in commit-kept n f (view b) k _ (rule-new n f (view b) (a .inv) (Restore k) q) kind j i h
+
+  accepted-kept : (e : Event) → accepts n f (view b) e ≡ true → opensOrder b e ≡ false → (kind : Kind) (j i : ℕ) → has ((ofKind kind (sentBy b i)) .to) j ≡ true
+      → StaysSent j (ofKind kind (sentBy b i)) (ofKind kind (sentBy (step b e) i))
+  accepted-kept e q o kind j i h = unfold view in subst (λ (v : View). StaysSent j (ofKind kind (sentBy b i)) (ofKind kind (v .state .sent i))) (sym (step-sim b (a .sound) e ∙ stepped)) (performed-kept e q o kind j i h)
+    where
+      stepped : stepV n f (view b) e ≡ performV n f (view b) e
+      stepped = unfold stepV in rw q
+
 -- from the new bench the lock alone is accepted, and nothing is sent
 new-counted : (kind : Kind) (e : Event) → isAccepted (reply newBench e) ≡ true → telegrams (step newBench e) kind ≡ countAccepted kind newBench e (telegrams newBench kind)
 new-counted kind (Lock n f) q = ap (λ (b : Bench). telegrams b kind) locks ∙ fresh-silent kind true n f
@@ -152,18 +172,18 @@ accepted-counted : (kind : Kind) (b : Bench) (e : Event) → Reached b → isAcc
 accepted-counted kind b e (inl z) q = subst (λ (x : Bench). telegrams (step x e) kind ≡ countAccepted kind x e (telegrams x kind)) (sym z) (new-counted kind e (ap (λ (x : Bench). isAccepted (reply x e)) (sym z) ∙ q))
 accepted-counted kind b e (inr a) q = step-counted b a kind e (sym (reply-sim b (a .sound) e) ∙ q)
 
+refused-step : (b : Bench) (e : Event) → isAccepted (reply b e) ≡ false → step b e ≡ b
+refused-step b e q = unfold step in rw q
+
 run-counted : (kind : Kind) (es : List Event) (b : Bench) → Reached b → telegrams (run b es) kind ≡ countSends kind b es (telegrams b kind)
 unfolding run countSends
 run-counted kind [] b r = refl
 run-counted kind (e ∷ es) b r = run-counted kind es (step b e) (step-reached b e r) ∙ ap (countSends kind (step b e) es) now
   where
-    refused : isAccepted (reply b e) ≡ false → step b e ≡ b
-    refused q = unfold step in rw q
-
     now : telegrams (step b e) kind ≡ cond (isAccepted (reply b e)) (countAccepted kind b e (telegrams b kind)) (telegrams b kind)
     now = elim (split (isAccepted (reply b e))) [
       | inl q ↦ rw q (accepted-counted kind b e r q)
-      | inr q ↦ rw q (ap (λ (x : Bench). telegrams x kind) (refused q))
+      | inr q ↦ rw q (ap (λ (x : Bench). telegrams x kind) (refused-step b e q))
     ]
 
 once-at : (b : Bench) (e : Event) (kind : Kind) (j : ℕ) → Reached b → reply b e ≡ accepted → has (receiversAt b e kind) j ≡ true → has ((ofKind kind (sentBy b (subject e))) .to) j ≡ false
@@ -171,8 +191,32 @@ once-at b e kind j (inl z) p h = subst (λ (x : Bench). has ((ofKind kind (sentB
     (ap (λ (l : Sent). has ((ofKind kind l) .to) j) (freshes false 0 0 (subject e) .sent) ∙ ap (λ (m : ℕ). has m j) (unsent-kind kind) ∙ has-none j)
 once-at b e kind j (inr a) p h = adds b a e (sym (reply-sim b (a .sound) e) ∙ accepted-is _ p) .fresh kind j h
 
+-- over every list
+step-kept : (b : Bench) (e : Event) → Reached b → opensOrder b e ≡ false → (kind : Kind) (j i : ℕ) → has ((ofKind kind (sentBy b i)) .to) j ≡ true
+    → StaysSent j (ofKind kind (sentBy b i)) (ofKind kind (sentBy (step b e) i))
+step-kept b e (inl z) o kind j i h =
+    absurd (no-both (has 0 j) (sym (ap (λ (x : Bench). has ((ofKind kind (sentBy x i)) .to) j) z ∙ ap (λ (l : Sent). has ((ofKind kind l) .to) j) (freshes false 0 0 i .sent) ∙ ap (λ (m : ℕ). has m j) (unsent-kind kind)) ∙ h) (has-none j))
+step-kept b e (inr a) o kind j i h = elim (split (isAccepted (reply b e))) [
+  | inl q ↦ accepted-kept b a e (sym (reply-sim b (a .sound) e) ∙ q) o kind j i h
+  | inr q ↦ subst (λ (x : Bench). StaysSent j (ofKind kind (sentBy b i)) (ofKind kind (sentBy x i))) (sym (refused-step b e q)) (record { sent = h; votes = refl })
+]
+
+run-kept : (more : List Event) (b : Bench) → Reached b → opensAny b more ≡ false → (kind : Kind) (j i : ℕ) → has ((ofKind kind (sentBy b i)) .to) j ≡ true
+    → StaysSent j (ofKind kind (sentBy b i)) (ofKind kind (sentBy (run b more) i))
+unfolding run opensAny
+run-kept [] b r o kind j i h = record { sent = h; votes = refl }
+run-kept (e ∷ more) b r o kind j i h =
+    let s = step-kept b e r (or-false-l (opensOrder b e) _ o) kind j i h in
+    let t = run-kept more (step b e) (step-reached b e r) (or-false-r (opensOrder b e) _ o) kind j i (s .sent) in
+    record { sent = t .sent; votes = t .votes ∙ s .votes }
+
+kept-from : (es more : List Event) (kind : Kind) (i j : ℕ) → opensAny (after es) more ≡ false → has ((ofKind kind (sentBy (after es) i)) .to) j ≡ true
+    → StaysSent j (ofKind kind (sentBy (after es) i)) (ofKind kind (sentBy (after (es ++ more)) i))
+kept-from es more kind i j o h = subst (λ (x : Bench). StaysSent j (ofKind kind (sentBy (after es) i)) (ofKind kind (sentBy x i))) (sym (run-append es more newBench)) (run-kept more (after es) (reached es) o kind j i h)
+
 pub sent-once : SentOnce
 sent-once = record {
   once = λ es e kind j p h. once-at (after es) e kind j (reached es) p h;
+  kept = kept-from;
   counted = λ es kind. run-counted kind es newBench (inl refl) ∙ ap (countSends kind newBench es) (fresh-silent kind false 0 0);
 }

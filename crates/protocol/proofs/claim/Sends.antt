@@ -9,12 +9,12 @@ use native.Mathlib.Decide.{ℕ-discrete}
 use lib.Dec.{eqb}
 use mathlib.Core.Logic.{inl, inr}
 use borrow.Author.Tests.{eqb-true, ne-eqb}
-use Rattle.ground.specs.Tests.{no-both, refuted, by-cond, and-l, and-r}
+use Rattle.ground.specs.Tests.{no-both, refuted, by-cond, and-l, and-r, or-l}
 use Rattle.ground.specs.Quantify.{countTo}
 use Rattle.ground.specs.Sizes.{count-union}
 use Rattle.ground.specs.Mask.{has}
 use Rattle.ground.specs.MaskLaws.{has-none, has-or, insert-only}
-use Rattle.ground.specs.Update.{upd, upd-same, upd-other}
+use Rattle.ground.specs.Update.{upd, upd-same, upd-other, upd-all}
 use Rattle.votes.specs.declared.VoteSet.{VoteSet}
 use Rattle.model.specs.declared.Kind.{Kind}
 use Rattle.model.specs.declared.Kind.the-variants.{Vote, Ack, Help, Helped}
@@ -34,7 +34,7 @@ use Rattle.protocol.specs.Calls.{arrives, restore}
 use Rattle.protocol.specs.Benches.{ofKind, afterSend, sentAfter}
 use Rattle.protocol.specs.Questions.{firstNo}
 use Rattle.protocol.specs.Display.{sumTo}
-use Rattle.protocol.specs.SentOnce.{receiversOf, sendOf}
+use Rattle.protocol.specs.SentOnce.{receiversOf, sendOf, StaysSent}
 use Rattle.protocol.proofs.view.View.{View, accepts, ask-l, ask-r}
 use Rattle.protocol.proofs.view.Performed.{commitV, ruleAnswer}
 use Rattle.protocol.proofs.view.RuleCases.{vote-cases, ack-cases, helped-cases, help-cases, restore-cases, sufficient-cases, second-cases, timeout-cases}
@@ -42,17 +42,24 @@ use Rattle.protocol.proofs.invariant.Invariant.{votedBy, ackedBy, froze
 use Rattle.protocol.proofs.invariant.Orders.{second}
 use Rattle.protocol.proofs.view.Simulation.{part}
 
--- what an answer sends goes to nobody that was sent the kind before
+-- what an answer sends goes to nobody that was sent the kind before, and leaves the set of a kind as it is, where somebody was sent it
 pub record New (l : Sent) (a : Answer) : Type 0 where
   pub fresh : (kind : Kind) (j : ℕ) → has (receiversOf (sendOf kind (a .sends))) j ≡ true → has ((ofKind kind l) .to) j ≡ false
+  pub same : (kind : Kind) (j : ℕ) → has ((ofKind kind l) .to) j ≡ true → (ofKind kind (sentAfter l (a .sends))) .votes ≡ (ofKind kind l) .votes
 
 nobody : {X : Type 0} (j : ℕ) → has 0 j ≡ true → X
 nobody j e = absurd (no-both (has 0 j) e (has-none j))
 
 becomes-new : (l : Sent) (c : Controller) → New l (becomes c)
 unfolding becomes
-becomes-new l c = record { fresh = fresh }
+becomes-new l c = record { fresh = fresh; same = same }
   where
+    same : (kind : Kind) (j : ℕ) → has ((ofKind kind l) .to) j ≡ true → (ofKind kind (sentAfter l ((becomes c) .sends))) .votes ≡ (ofKind kind l) .votes
+    same Vote j e = unfold becomes sentAfter in refl
+    same Ack j e = unfold becomes sentAfter in refl
+    same Help j e = unfold becomes sentAfter in refl
+    same Helped j e = unfold becomes sentAfter in refl
+
     fresh : (kind : Kind) (j : ℕ) → has (receiversOf (sendOf kind ((becomes c) .sends))) j ≡ true → has ((ofKind kind l) .to) j ≡ false
     fresh Vote j e = unfold becomes in nobody j e
     fresh Ack j e = unfold becomes in nobody j e
@@ -61,7 +68,7 @@ becomes-new l c = record { fresh = fresh }
 
 passed-new : (l : Sent) (c : Controller) → New l (passedOver c)
 unfolding passedOver becomes
-passed-new l c = record { fresh = (becomes-new l c) .fresh }
+passed-new l c = record { fresh = (becomes-new l c) .fresh; same = (becomes-new l c) .same }
 
 -- a sum with one place changed
 sum-out : (m : ℕ) (g : ℕ → ℕ) (i x : ℕ) → m < i → sumTo m (upd g i x) ≡ sumTo m g
@@ -80,7 +87,7 @@ sum-upd (suc m) g i x d lo hi e = elim (ℕ-discrete i (suc m)) [
 module _ (n f : ℕ) where
   puts-new : (l : Sent) (a : Answer) → New l a → New l (proposeIfSufficient n f a)
   unfolding proposing
-  puts-new l a h = sufficient-cases (New l) n f a (λ q. record { fresh = h .fresh }) h
+  puts-new l a h = sufficient-cases (New l) n f a (λ q. record { fresh = h .fresh; same = h .same }) h
 
   module _ (b : View) (inv : Inv n f b) (i : ℕ) where
     abbrev c : Controller
@@ -99,9 +106,18 @@ module _ (n f : ℕ) where
     uncalled : runs c ≡ true → phase c ≡ 2 → (j : ℕ) → has (l .help .to) j ≡ false
     uncalled r p j = refuted _ (λ e. no-both (frozenBy i l) (inv .lines i .help-to j e) (inv .owns i .phased .fresh2 r (omega arith)))
 
+    unanswered : runs c ≡ true → phase c ≡ 2 → (j : ℕ) → has (l .helped .to) j ≡ false
+    unanswered r p j = refuted _ (λ e. no-both (frozenBy i l) (inv .lines i .helped-to j e) (inv .owns i .phased .fresh2 r (omega arith)))
+
     vote-new : (w : Bool) (t : ℕ) → runs c ≡ true → phase c ≡ 0 → New l (voteRule n f i w t c)
-    vote-new w t r p = record { fresh = fresh }
+    vote-new w t r p = record { fresh = fresh; same = same }
       where
+        same : (kind : Kind) (j : ℕ) → has ((ofKind kind l) .to) j ≡ true → (ofKind kind (sentAfter l ((voteRule n f i w t c) .sends))) .votes ≡ (ofKind kind l) .votes
+        same Vote j e = absurd (no-both _ e (unvoted r p j))
+        same Ack j e = unfold voteRule sentAfter in refl
+        same Help j e = unfold voteRule sentAfter in refl
+        same Helped j e = unfold voteRule sentAfter in refl
+
         fresh : (kind : Kind) (j : ℕ) → has (receiversOf (sendOf kind ((voteRule n f i w t c) .sends))) j ≡ true → has ((ofKind kind l) .to) j ≡ false
         fresh Vote j e = unvoted r p j
         fresh Ack j e = unfold voteRule in nobody j e
@@ -109,17 +125,29 @@ module _ (n f : ℕ) where
         fresh Helped j e = unfold voteRule in nobody j e
 
     first-new : runs c ≡ true → phase c ≡ 1 → New l (firstTimeout n f i c)
-    first-new r p = record { fresh = fresh }
+    first-new r p = record { fresh = fresh; same = same }
       where
+        same : (kind : Kind) (j : ℕ) → has ((ofKind kind l) .to) j ≡ true → (ofKind kind (sentAfter l ((firstTimeout n f i c) .sends))) .votes ≡ (ofKind kind l) .votes
+        same Vote j e = unfold firstTimeout sentAfter in refl
+        same Ack j e = absurd (no-both _ e (unacked r p j))
+        same Help j e = unfold firstTimeout sentAfter in refl
+        same Helped j e = unfold firstTimeout sentAfter in refl
+
         fresh : (kind : Kind) (j : ℕ) → has (receiversOf (sendOf kind ((firstTimeout n f i c) .sends))) j ≡ true → has ((ofKind kind l) .to) j ≡ false
         fresh Vote j e = unfold firstTimeout in nobody j e
         fresh Ack j e = unacked r p j
         fresh Help j e = unfold firstTimeout in nobody j e
         fresh Helped j e = unfold firstTimeout in nobody j e
 
-    ready-new : (s : VoteSet) (next : Controller) → New l (ready s next)
-    ready-new s next = record { fresh = fresh }
+    ready-new : (s : VoteSet) (next : Controller) → runs c ≡ true → phase c ≡ 2 → New l (ready s next)
+    ready-new s next r p = record { fresh = fresh; same = same }
       where
+        same : (kind : Kind) (j : ℕ) → has ((ofKind kind l) .to) j ≡ true → (ofKind kind (sentAfter l ((ready s next) .sends))) .votes ≡ (ofKind kind l) .votes
+        same Vote j e = unfold ready sentAfter in refl
+        same Ack j e = unfold ready sentAfter in refl
+        same Help j e = unfold ready sentAfter in refl
+        same Helped j e = absurd (no-both _ e (unanswered r p j))
+
         fresh : (kind : Kind) (j : ℕ) → has (receiversOf (sendOf kind ((ready s next) .sends))) j ≡ true → has ((ofKind kind l) .to) j ≡ false
         fresh Vote j e = unfold ready in nobody j e
         fresh Ack j e = unfold ready in nobody j e
@@ -127,8 +155,14 @@ module _ (n f : ℕ) where
         fresh Helped j e = unfold ready in nobody j e
 
     calls-new : (s : VoteSet) (next : Controller) → runs c ≡ true → phase c ≡ 2 → New l (callsHelp n f i s next)
-    calls-new s next r p = record { fresh = fresh }
+    calls-new s next r p = record { fresh = fresh; same = same }
       where
+        same : (kind : Kind) (j : ℕ) → has ((ofKind kind l) .to) j ≡ true → (ofKind kind (sentAfter l ((callsHelp n f i s next) .sends))) .votes ≡ (ofKind kind l) .votes
+        same Vote j e = unfold callsHelp sentAfter in refl
+        same Ack j e = unfold callsHelp sentAfter in refl
+        same Help j e = absurd (no-both _ e (uncalled r p j))
+        same Helped j e = absurd (no-both _ e (unanswered r p j))
+
         fresh : (kind : Kind) (j : ℕ) → has (receiversOf (sendOf kind ((callsHelp n f i s next) .sends))) j ≡ true → has ((ofKind kind l) .to) j ≡ false
         fresh Vote j e = unfold callsHelp in nobody j e
         fresh Ack j e = unfold callsHelp in nobody j e
@@ -136,12 +170,18 @@ module _ (n f : ℕ) where
         fresh Helped j e = unfold callsHelp in nobody j e
 
     second-new : runs c ≡ true → phase c ≡ 2 → New l (secondTimeout n f i c)
-    second-new r p = second-cases (New l) n f i c (λ d. ready-new _ _) (λ e. unfold proposing in record { fresh = (ready-new _ _) .fresh }) (λ e. puts-new l _ (calls-new _ _ r p))
+    second-new r p = second-cases (New l) n f i c (λ d. ready-new _ _ r p) (λ e. unfold proposing in record { fresh = (ready-new _ _ r p) .fresh; same = (ready-new _ _ r p) .same }) (λ e. puts-new l _ (calls-new _ _ r p))
 
     -- a caller that was answered is among those answered
     answers-new : (j : ℕ) → phase c ≡ 3 → has (c .help .answered) j ≡ false → New l (answersCall j c)
-    answers-new j p q = record { fresh = fresh }
+    answers-new j p q = record { fresh = fresh; same = same }
       where
+        same : (kind : Kind) (k : ℕ) → has ((ofKind kind l) .to) k ≡ true → (ofKind kind (sentAfter l ((answersCall j c) .sends))) .votes ≡ (ofKind kind l) .votes
+        same Vote k e = unfold answersCall sentAfter in refl
+        same Ack k e = unfold answersCall sentAfter in refl
+        same Help k e = unfold answersCall sentAfter in refl
+        same Helped k e = unfold answersCall sentAfter in inv .owns i .helping .help-copy (omega arith)
+
         fresh : (kind : Kind) (k : ℕ) → has (receiversOf (sendOf kind ((answersCall j c) .sends))) k ≡ true → has ((ofKind kind l) .to) k ≡ false
         fresh Vote k e = unfold answersCall in nobody k e
         fresh Ack k e = unfold answersCall in nobody k e
@@ -199,3 +239,10 @@ module _ (n f : ℕ) where
   unfolding commitV
   commit-counted b i a kind lo hi h = ap (sumTo n) (part (sizeOf kind) (b .state .sent) i (sentAfter (b .state .sent i) (a .sends)))
       ∙ sum-upd n (λ k. sizeOf kind (b .state .sent k)) i _ _ lo hi (more-sized (b .state .sent i) a kind h)
+
+  -- after an answer is put back, what anybody has sent stays sent
+  pub commit-kept : (b : View) (i : ℕ) (a : Answer) → New (b .state .sent i) a → (kind : Kind) (j k : ℕ) → has ((ofKind kind (b .state .sent k)) .to) j ≡ true
+      → StaysSent j (ofKind kind (b .state .sent k)) (ofKind kind ((commitV b i a) .state .sent k))
+  unfolding commitV
+  commit-kept b i a h kind j k e = upd-all (λ m l. has ((ofKind kind (b .state .sent m)) .to) j ≡ true → StaysSent j (ofKind kind (b .state .sent m)) (ofKind kind l)) (b .state .sent) i (sentAfter (b .state .sent i) (a .sends))
+      (λ x. record { sent = sent-more (b .state .sent i) (a .sends) kind j ∙ or-l _ _ x; votes = h .same kind j x }) (λ m x. record { sent = x; votes = refl }) k e

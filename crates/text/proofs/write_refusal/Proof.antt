@@ -2,13 +2,12 @@
 use Prim.Native.Nat.{ℕ, _≤_}
 use mathlib.Core.Path.{_≡_, sym, _∙_, ap}
 use mathlib.Core.List.{List}
-use native.Mathlib.Omega.{arith}
-use lib.ListN.{length, take, replicate, length-replicate}
+use lib.ListN.{length, take, replicate}
 use lib.Seq.{length-take-le}
 use Rattle.text.specs.Text.{refusal}
 use Rattle.text.specs.Writing.{Put, fitted, fittedLength}
 use Rattle.text.specs.Lengths.{refusal-length}
-use Rattle.text.specs.WritingLaws.{put-then, put-length, read-front}
+use Rattle.text.specs.WritingLaws.{put-then, own-line}
 use borrow.Author.Needs.{needs}
 use Rattle.text.proofs.write_refusal.Statement.{statement}
 use Rattle.text.proofs.write_refusal.Tie as tie
@@ -41,20 +40,14 @@ line c =
     let second = c .before .before .before in
     put-then (first .put-byte .ensures) (put-then (second .put-field .ensures) (c .put-byte2 .ensures))
 
-array : (c : tie.After-put-byte2) → length (c .put-byte2 .last .0) ≡ 13
-array c = put-length (line c) ∙ length-replicate {A = ℕ} 13 0
-
-whole : (c : tie.After-put-byte2) → (c .put-byte2 .result ≡ length (refusal (number c))) × (take (c .put-byte2 .result) (c .put-byte2 .last .0) ≡ refusal (number c))
-whole c = read-front (rw (length-replicate {A = ℕ} 13 0) (refusal-length (number c))) (line c)
-
-short : (c : tie.After-put-byte2) → c .put-byte2 .result ≤ length (c .put-byte2 .last .0)
-short c = omega (arith, whole c .0, refusal-length (number c), array c)
+stands : (c : tie.After-put-byte2) → (take (c .put-byte2 .result) (c .put-byte2 .last .0) ≡ refusal (number c)) × (c .put-byte2 .result ≤ length (c .put-byte2 .last .0))
+stands c = own-line 13 (refusal (number c)) (refusal-length (number c)) (line c)
 
 array-share-prefix-line : tie.Need-array-share-prefix-line
-array-share-prefix-line c = short (c .before .before)
+array-share-prefix-line c = stands (c .before .before) .1
 
 slice-aggregate-write-bytes : tie.Need-slice-aggregate-write-bytes
-slice-aggregate-write-bytes c = sym (length-take-le _ _ (short (c .before .before .before)))
+slice-aggregate-write-bytes c = sym (length-take-le _ _ (stands (c .before .before .before) .1))
 
 write-bytes-requires : tie.Need-write-bytes-requires
 write-bytes-requires c κs = search needs
@@ -65,7 +58,7 @@ same-length c = search needs
 returns : tie.Need-returns
 returns c =
     let last = c .before .before .before .before .before .before in
-    let line = whole last .1 in
+    let line = stands last .0 in
     let out = last .before .before .before .before .before .before .before .before .before .args .out .now in
     let w = c .before .before .write-bytes .ensures in
     (w .0 ∙ ap (λ (x : List ℕ). fittedLength x out) line, w .1 ∙ ap (λ (x : List ℕ). fitted x out) line)

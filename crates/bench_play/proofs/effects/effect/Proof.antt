@@ -125,7 +125,7 @@ returns-7 c = simp (c .before .before .enum-told3 .given .1, c .before .stop .en
 
 returns-8 : tie.Need-returns-8
 unfolding effect answerTo
-returns-8 c = simp (c .before .before .before .before .e5 .given .1, c .before .before .identity4 .ensures, c .before .save .ensures, c .keeping .ensures)
+returns-8 c = simp (c .before .before .before .before .e5 .given .1, c .before .before .identity4 .ensures, c .before .save .ensures .answer, c .keeping .ensures)
 
 returns-9 : tie.Need-returns-9
 unfolding effect answerTo

@@ -1,4 +1,5 @@
 use Rattle.protocol.specs.Calls.{save}
+use Rattle.protocol.specs.CallLaws.{save-of}
 use borrow.Author.Needs.{needs}
 use Rattle.controller.proofs.lifecycle.save.Statement.{statement}
 use Rattle.controller.proofs.lifecycle.save.Tie as tie
@@ -11,11 +12,11 @@ checkpoint-of-requires c κs = search needs
 
 returns : tie.Need-returns
 unfolding save
-returns c = simp (← c .before .before .is-up .ensures, c .before .if1 .taken, c .checkpoint-of .ensures)
+returns c = save-of _ _ _ (simp (← c .before .before .is-up .ensures, c .before .if1 .taken, c .checkpoint-of .ensures))
 
 returns-2 : tie.Need-returns-2
 unfolding save
-returns-2 c = simp (← c .before .is-up .ensures, c .if1 .left)
+returns-2 c = save-of _ _ _ (simp (← c .before .is-up .ensures, c .if1 .left))
 
 pub save-spec : {M : Type 1} → statement M
 save-spec = tie.close (tie.spec is-up-requires checkpoint-of-requires returns returns-2)
