@@ -2,6 +2,7 @@
 
 pub mod acts;
 pub mod choices;
+pub mod clean_orders;
 pub mod commands;
 pub mod frames;
 pub mod orders;

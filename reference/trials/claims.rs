@@ -21,21 +21,25 @@ struct Seen {
 #[test]
 fn every_run_keeps_the_claims() {
     let mut rng = Rng::new(20);
-    let mut clean = 0;
+    let (mut clean, mut ended) = (0, 0);
     for place in 0..300 {
         let schedule = schedules::schedule(&mut rng, place);
         if schedule.len() <= text::MAX_SCHEDULE {
-            clean += check(&schedule);
+            let (more_clean, more_ended) = check(&schedule);
+            clean += more_clean;
+            ended += more_ended;
         }
     }
     assert!(clean > 1_000);
+    assert!(ended > 1_000);
 }
 
-/// Runs a schedule; answers how many second timeouts came in a clean order.
-fn check(schedule: &[u8]) -> usize {
+/// Runs a schedule; answers how many second timeouts came in a clean order, and at how many moments a clean order had
+/// ended everywhere.
+fn check(schedule: &[u8]) -> (usize, usize) {
     let mut bench = Bench::default();
     let mut order: Option<Seen> = None;
-    let mut clean = 0;
+    let (mut clean, mut ended) = (0, 0);
     for record in schedule.chunks(Event::LENGTH) {
         let before = bench.clone();
         if bench.step_record(record) != 0 {
@@ -59,8 +63,20 @@ fn check(schedule: &[u8]) -> usize {
             assert_eq!(lock.controller(id).outcome(), Some(expected));
             clean += 1;
         }
+        if seen.log.is_clean() && lock.controllers().iter().all(|c| c.outcome().is_some()) {
+            check_clean_end(&bench, lock);
+            ended += 1;
+        }
     }
-    clean
+    (clean, ended)
+}
+
+/// Document 02, U10: "For a clean order that has ended everywhere, the figure is to be exactly 2fn, fn of each kind,
+/// with no help call and no answer, willing or not."
+fn check_clean_end(bench: &Bench, lock: &Lock) {
+    let group = lock.group();
+    let of_each = u64::from(group.f) * u64::from(group.n);
+    assert_eq!(text::sent_by_kind(bench), [of_each, of_each, 0, 0]);
 }
 
 /// Any two outcomes held for one order are the same.

@@ -9,3 +9,4 @@ pub mod Counted
 pub mod Ranges
 pub mod Reached
 pub mod Theorem
+pub mod Exact

@@ -10,8 +10,10 @@ pub mod Questions
 pub mod Steps
 -- "The bench program": what is shown
 pub mod Display
--- "The words of demand 3"; that it is not empty
+-- "The words of demand 3"; the telegrams of a clean order; that neither is empty
 pub mod Claim
+pub mod CleanOrders
+pub mod CleanTelegrams
 pub mod NotHollow
 -- what else holds of every list
 pub mod SentOnce

@@ -1,15 +1,17 @@
--- Document 01, "Trials": the starred ones, a row each, and some other places where it states figures.
+-- Document 01, "Trials": the starred ones, a row each, and some other places where it, or document 02's U10, states figures.
 -- What is expected was written from the document; the definition runs the events. `trials_hold` in src/lib.rt has the theorem as its contract.
 use Prim.Native.Nat.{ℕ, _-_, _^_}
 use mathlib.Core.Path.{_≡_}
 use mathlib.Core.Bool.{Bool, true, false, _&&_}
 use mathlib.Core.List.{List, [], _∷_, _++_}
+use lib.Dec.{ltb}
 use lib.ListN.{replicate}
 use Rattle.model.specs.declared.Kind.the-variants.{Vote, Ack, Help, Helped}
 use Rattle.model.specs.declared.Outcome.{Outcome}
 use Rattle.model.specs.declared.Outcome.the-variants.{None, Stay, Move}
 use Rattle.model.specs.declared.Event.{Event}
 use Rattle.model.specs.declared.Event.the-variants.{Lock, Order, Cast, Deliver, Timeout, Decide, Stop, Save, Restore}
+use Rattle.protocol.specs.CleanOrders.{cleanOrder}
 use Rattle.protocol.specs.Rows.{Line, Inside, Trial, passes}
 
 -- a C line, and a T line
@@ -124,6 +126,10 @@ table =
     }
     -- else none."
     ∷ silent (restored ++ (Order 2 ∷ Stop 2 ∷ Restore 2 ∷ [])) (allAccepted 18) (C 0 None 500 ∷ C 9 None 250 ∷ []) (T 0 0 0 0) (held 0 0 ∷ held 0 0 ∷ [])
+    -- Document 02, U10: "For a clean order that has ended everywhere, the figure is to be exactly 2fn, fn of each kind, with no help call and no answer,
+    ∷ silent (cleanOrder 16 15 (λ k. true)) (allAccepted 530) (replicate 16 (C 3 Move 0)) (T 240 240 0 0) (replicate 15 (held 16 0) ++ (held 15 0 ∷ []))
+    -- willing or not." Here 5 is not
+    ∷ silent (cleanOrder 5 2 (λ k. ltb k 5)) (allAccepted 35) (replicate 5 (C 3 Stay 0)) (T 10 10 0 0) (held 3 0 ∷ held 3 0 ∷ replicate 3 (held 2 0))
     -- "The bench program": "With no lock there are no C lines; with no order T is all 0."
     ∷ silent [] [] [] (T 0 0 0 0) []
     -- "Questions put to a record or event": "The first "no" gives its number." The other numbers that the bench gives

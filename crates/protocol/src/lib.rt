@@ -1,5 +1,6 @@
 // The state of the controllers and of the bench. The rules over it stand in specs/, and so does the claim about them.
 ghost use Rattle.protocol.specs.Claim.{Demand3};
+ghost use Rattle.protocol.specs.CleanTelegrams.{CleanTelegrams};
 ghost use Rattle.protocol.specs.NotHollow.{NotHollow};
 ghost use Rattle.protocol.specs.Reach.{Reach};
 ghost use Rattle.protocol.specs.SentOnce.{SentOnce};
@@ -168,9 +169,15 @@ pub fn demand_3()
     ensures { λ _. ⌜ Demand3 ⌝ }
 {}
 
-// It is not hollow: for every lock and each of its controllers there are lists with a clean order, and the claim gives their outcomes.
+// It is not hollow: for every lock and each of its controllers there are lists with a clean order, and the claim gives their outcomes; and for every
+// lock there are clean orders that end everywhere.
 pub fn clean_orders_exist()
     ensures { λ _. ⌜ NotHollow ⌝ }
+{}
+
+// The telegrams of a clean order that has ended everywhere (document 02, U10): fn votes, fn acknowledgements, no help call, no answer.
+pub fn clean_telegrams()
+    ensures { λ _. ⌜ CleanTelegrams ⌝ }
 {}
 
 // The T line counts the telegrams that were sent by the rules: none is sent twice in an order.

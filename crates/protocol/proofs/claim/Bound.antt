@@ -40,11 +40,11 @@ count-other m k i p a b c e h =
     ]) in omega arith
 
 module _ (n f : ℕ) where
-  vote-self : (i : ℕ) → voteRoute f i i ≡ false
+  pub vote-self : (i : ℕ) → voteRoute f i i ≡ false
   unfolding voteRoute
   vote-self i = rw (eqb-same i)
 
-  ack-self : (i : ℕ) → ackRoute f i i ≡ false
+  pub ack-self : (i : ℕ) → ackRoute f i i ≡ false
   unfolding ackRoute
   ack-self i = rw (eqb-same i)
 

@@ -37,7 +37,7 @@ use Rattle.protocol.proofs.claim.Sends.{New, rule-new, telegramsV, comm
 use Rattle.protocol.proofs.claim.Reach.{Alive, Reached, step-reached, reached}
 
 -- a bench on which nothing was sent
-sum-zero : (m : ℕ) (g : ℕ → ℕ) → ((k : ℕ) → g k ≡ 0) → sumTo m g ≡ 0
+pub sum-zero : (m : ℕ) (g : ℕ → ℕ) → ((k : ℕ) → g k ≡ 0) → sumTo m g ≡ 0
 unfolding sumTo
 sum-zero zero g h = refl
 sum-zero (suc m) g h = rw (h (suc m), sum-zero m g h)
@@ -56,7 +56,7 @@ silent : (kind : Kind) (b : Bench) → ((k : ℕ) → sentBy b k ≡ unsentAll) 
 unfolding telegrams sentCount
 silent kind b h = sum-zero (b .shared .n) _ (λ k. unsent-size (b .shared .n) kind (sentBy b k) (h k))
 
-fresh-silent : (kind : Kind) (locked : Bool) (n f : ℕ) → telegrams (benchOf locked n f) kind ≡ 0
+pub fresh-silent : (kind : Kind) (locked : Bool) (n f : ℕ) → telegrams (benchOf locked n f) kind ≡ 0
 fresh-silent kind locked n f = silent kind (benchOf locked n f) (λ k. freshes locked n f k .sent)
 
 -- telegrams, of the view

@@ -42,7 +42,7 @@ unfolding runV
 vrun-one n f e b = refl
 
 -- the log by the views
-log-sim : (n f : ℕ) (es : List Event) (b : Bench) → Sound b → b .shared .n ≡ n → b .shared .f ≡ f → (log : List Event) → logOf b log es ≡ logV n f (view b) log es
+pub log-sim : (n f : ℕ) (es : List Event) (b : Bench) → Sound b → b .shared .n ≡ n → b .shared .f ≡ f → (log : List Event) → logOf b log es ≡ logV n f (view b) log es
 unfolding logOf logV push pushV
 log-sim n f [] b ok p q log = refl
 log-sim n f (e ∷ es) b ok p q log =
@@ -54,11 +54,11 @@ log-sim n f (e ∷ es) b ok p q log =
     ∙ ap (λ (t : Bool). logV n f (stepV n f (view b) e) (cond t (entered e log) log) es) a
 
 -- an outcome held is one of the two words
-record Word (x : Outcome) : Type 0 where
-  move : Bool
-  is : x ≡ wordOf move
+pub record Word (x : Outcome) : Type 0 where
+  pub move : Bool
+  pub is : x ≡ wordOf move
 
-word-of : (x : Outcome) → isNone x ≡ false → Word x
+pub word-of : (x : Outcome) → isNone x ≡ false → Word x
 word-of None e = absurd (true≢false e)
 word-of Stay e = record { move = false; is = refl }
 word-of Move e = record { move = true; is = refl }
@@ -74,16 +74,16 @@ module _ (es : List Event) (o : Opened es) where
   abbrev b₀ : Bench
   b₀ = benchOf true (o .n) (o .f)
 
-  range : Ranges n f
+  pub range : Ranges n f
   range = ranges n f (o .sized)
 
-  sound₀ : Sound b₀
+  pub sound₀ : Sound b₀
   sound₀ = lock-sound n f (o .sized)
 
-  n₀ : b₀ .shared .n ≡ n
+  pub n₀ : b₀ .shared .n ≡ n
   n₀ = unfold benchOf in refl
 
-  f₀ : b₀ .shared .f ≡ f
+  pub f₀ : b₀ .shared .f ≡ f
   f₀ = unfold benchOf in refl
 
   from-lock : (l : List Event) → Runs b₀ (run b₀ l) (runV n f (view b₀) l)
@@ -93,13 +93,13 @@ module _ (es : List Event) (o : Opened es) where
   reach : (l : List Event) → after (o .pre ++ (Lock n f ∷ l)) ≡ run b₀ l
   reach l = run-append (o .pre) (Lock n f ∷ l) newBench ∙ ap (λ (b : Bench). run b (Lock n f ∷ l)) (o .idle) ∙ run-cons (Lock n f) l newBench ∙ ap (λ (b : Bench). run b l) (o .locks)
 
-  record Here : Type 0 where
-    sound : Sound (after es)
-    is-n : (after es) .shared .n ≡ n
-    is-f : (after es) .shared .f ≡ f
-    shows : view (after es) ≡ runV n f (view b₀) (o .post)
+  pub record Here : Type 0 where
+    pub sound : Sound (after es)
+    pub is-n : (after es) .shared .n ≡ n
+    pub is-f : (after es) .shared .f ≡ f
+    pub shows : view (after es) ≡ runV n f (view b₀) (o .post)
 
-  here : Here
+  pub here : Here
   here = let r : Runs b₀ (run b₀ (o .post)) (runV n f (view b₀) (o .post)) = from-lock (o .post) in
       record {
         sound = subst Sound (sym (o .is)) (r .sound);

@@ -83,14 +83,14 @@ module _ (n f : ℕ) where
       and-yes false y e = refl
 
   -- the phase after a timeout
-  record Reaches (s : ℕ) (a : Answer) : Type 0 where
-    is : phase (a .controller) ≡ s
+  pub record Reaches (s : ℕ) (a : Answer) : Type 0 where
+    pub is : phase (a .controller) ≡ s
 
   settle-rings : (s : ℕ) (a : Answer) → Reaches s a → Reaches s (proposeIfSufficient n f a)
   unfolding proposing propose
   settle-rings s a h = sufficient-cases (Reaches s) n f a (λ q. record { is = h .is }) h
 
-  second-rings : (j : ℕ) (c : Controller) → Reaches 3 (secondTimeout n f j c)
+  pub second-rings : (j : ℕ) (c : Controller) → Reaches 3 (secondTimeout n f j c)
   second-rings j c = second-cases (Reaches 3) n f j c (λ d. direct) (λ e. put) (λ e. settle-rings 3 _ waits)
     where
       direct : Reaches 3 (ready (helpVotes n c) (conclude (frozen n c) (verdict n (ackJoin n c))))

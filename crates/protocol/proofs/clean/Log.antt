@@ -108,7 +108,7 @@ module _ (n f : ℕ) where
     fact : (j : ℕ) → hasAck c j ≡ true → HeldAck n f L i (ackOf c j) j
     fact = inv .ctls i .acks-ok
 
-    is-direct : decides n f i c ≡ true
+    pub is-direct : decides n f i c ≡ true
     unfolding decides backupsComplete secondKnows
     is-direct = and-i (allTo f (λ j. hasAck c j && complete n (ackOf c j))) (not (leb i f) || (hasAck c (suc f) && complete f (ackOf c (suc f))))
         (all-of f (λ j. hasAck c j && complete n (ackOf c j)) (λ j a h. and-i (hasAck c j) (complete n (ackOf c j)) (held j a h) (rw (fact j (held j a h) .copy) (knows-complete n (ackOn (L j)) (whole j a h)))))

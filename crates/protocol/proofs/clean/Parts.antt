@@ -19,7 +19,7 @@ use Rattle.model.specs.declared.Kind.the-variants.{Vote, Ack}
 use Rattle.model.specs.declared.Event.{Event}
 use Rattle.model.specs.declared.Event.the-variants.{Lock, Order, Cast, Deliver, Timeout, Decide, Stop, Save, Restore}
 use Rattle.protocol.specs.Controllers.{runs, phase, outcome, hasAck}
-use Rattle.protocol.specs.Rules.{secondTimeout}
+use Rattle.protocol.specs.Rules.{decides, secondTimeout}
 use Rattle.protocol.specs.Benches.{unsentAll}
 use Rattle.protocol.specs.Questions.{firstNo}
 use Rattle.protocol.specs.Steps.{renewed, orderOpened}
@@ -28,7 +28,7 @@ use Rattle.protocol.proofs.view.Performed.{commitV, chosen, savedV, tim
 use Rattle.protocol.proofs.invariant.Invariant.{votedBy, willBy, ackOn, ackedBy, Grows, Inv}
 use Rattle.protocol.proofs.invariant.Decisions.{Blank, renew-blank}
 use Rattle.protocol.proofs.invariant.Orders.{step-next, perform-next, next-inv, run-inv}
-use Rattle.protocol.proofs.clean.Log.{NotTimeout, In, Voted, VotesIn, AcksIn, Second, CleanStep, Clean, entered, pushV, logV, decides-move, decides-stay}
+use Rattle.protocol.proofs.clean.Log.{NotTimeout, In, Voted, VotesIn, AcksIn, Second, CleanStep, Clean, entered, pushV, logV, is-direct, decides-move, decides-stay}
 use Rattle.protocol.proofs.clean.Kept.{PhaseMove, stays, rung, voted, KeptAll, Goes, perform-tame}
 use Rattle.protocol.proofs.clean.Added.{NewVote, NewVoteTo, NewAckTo, NewTimeout, New, perform-new}
 
@@ -40,19 +40,19 @@ module _ (n f : ℕ) where
     | inr q ↦ let h : j ≡ suc f = eqb-true j (suc f) (and-r (leb i f) _ q) in omega arith
   ]
 
-  vote-route : (i j : ℕ) → (i ≡ j → ⊥) → j ≤ f → voteRoute f i j ≡ true
+  pub vote-route : (i j : ℕ) → (i ≡ j → ⊥) → j ≤ f → voteRoute f i j ≡ true
   unfolding voteRoute
   vote-route i j d h = rw (ne-eqb i j d) (or-l (leb j f) _ (le-leb j f h))
 
-  vote-route₂ : (i : ℕ) → i ≤ f → voteRoute f i (suc f) ≡ true
+  pub vote-route₂ : (i : ℕ) → i ≤ f → voteRoute f i (suc f) ≡ true
   unfolding voteRoute
   vote-route₂ i h = rw (ne-eqb i (suc f) (λ e. omega arith)) (or-r (leb (suc f) f) _ (and-i (leb i f) (eqb (suc f) (suc f)) (le-leb i f h) (eqb-same (suc f))))
 
-  ack-route : (i j : ℕ) → (i ≡ j → ⊥) → i ≤ f → ackRoute f i j ≡ true
+  pub ack-route : (i j : ℕ) → (i ≡ j → ⊥) → i ≤ f → ackRoute f i j ≡ true
   unfolding ackRoute
   ack-route i j d h = rw (ne-eqb i j d) (or-l (leb i f) _ (le-leb i f h))
 
-  ack-route₂ : (j : ℕ) → j ≤ f → ackRoute f (suc f) j ≡ true
+  pub ack-route₂ : (j : ℕ) → j ≤ f → ackRoute f (suc f) j ≡ true
   unfolding ackRoute
   ack-route₂ j h = rw (ne-eqb (suc f) j (λ e. omega arith)) (or-r (leb (suc f) f) _ (and-i (eqb (suc f) (suc f)) (leb j f) (eqb-same (suc f)) (le-leb j f h)))
 
@@ -312,11 +312,11 @@ module _ (n f : ℕ) where
       perform-good b (Save i) log inv q h c = quiet-good b _ log inv tt tt q (h (c .0))
       perform-good b (Restore i) log inv q h c = quiet-good b _ log inv tt tt q (h (c .0))
 
-      step-good : (b : View) (e : Event) (log : List Event) → Inv n f b → (Clean n f log → Good b log) → Clean n f (pushV n f b e log) → Good (stepV n f b e) (pushV n f b e log)
+      pub step-good : (b : View) (e : Event) (log : List Event) → Inv n f b → (Clean n f log → Good b log) → Clean n f (pushV n f b e log) → Good (stepV n f b e) (pushV n f b e log)
       unfolding stepV pushV
       step-good b e log inv h = elim (split (accepts n f b e)) [ inl q ↦ rw q (perform-good b e log inv q h) | inr q ↦ rw q h ]
 
-      run-good : (es : List Event) (b : View) (log : List Event) → Inv n f b → (Clean n f log → Good b log) → Clean n f (logV n f b log es) → Good (runV n f b es) (logV n f b log es)
+      pub run-good : (es : List Event) (b : View) (log : List Event) → Inv n f b → (Clean n f log → Good b log) → Clean n f (logV n f b log es) → Good (runV n f b es) (logV n f b log es)
       unfolding runV logV
       run-good [] b log inv h = h
       run-good (e ∷ es) b log inv h = run-good es (stepV n f b e) (pushV n f b e log) (next-inv n f f<n 1≤f small b _ (step-next n f f<n 1≤f small b e inv)) (step-good b e log inv h)
@@ -351,6 +351,9 @@ module _ (n f : ℕ) where
         secondary h = let a : hasAck (b .ctl i) (suc f) ≡ true = last .all (suc f) i (omega arith) f<n (nw .at .lo) (nw .at .hi) (ack-route₂ i h) in
             (a, λ k x y. last .base .ack₂ k x y (inv .ctls i .acks-ok (suc f) a .acked))
 
+        direct : decides n f i (b .ctl i) ≡ true
+        direct = is-direct n f f<n 1≤f b inv i (nw .ran) at2 held whole secondary
+
         timeout-outcome : (v : Bool) → outcome ((secondTimeout n f i (b .ctl i)) .controller) ≡ wordOf v → outcome ((performV n f b (Timeout i)) .ctl i) ≡ wordOf v
         unfolding performV commitV timeoutRule
         timeout-outcome v e = rw (upd-same (b .ctl) i _, not-first) e
@@ -366,6 +369,22 @@ module _ (n f : ℕ) where
 
         stays-one : (k t : ℕ) → 1 ≤ k → k ≤ n → In (Cast k false t) log → outcome ((performV n f b (Timeout i)) .ctl i) ≡ wordOf false
         stays-one k t x y m = timeout-outcome false (decides-stay n f f<n 1≤f b inv i (nw .ran) at2 held whole secondary k x y (good .told k false t m .1))
+
+      -- a timeout in phase 2 of a clean order: every vote and acknowledgement was delivered, and it decides
+      pub record Final (b : View) (log : List Event) (i : ℕ) : Type 0 where
+        pub votes : VotesIn n f log
+        pub acks : AcksIn n f log
+        pub direct : decides n f i (b .ctl i) ≡ true
+
+      late-base : (b : View) (log : List Event) → Late b log → Base b log
+      late-base b log (inl p) = p .base
+      late-base b log (inr p) = p .base
+
+      pub final : (b : View) (log : List Event) (i : ℕ) → Inv n f b → Good b log → accepts n f b (Timeout i) ≡ true → CleanStep n f (Timeout i) log → phase (b .ctl i) ≡ 2 → Final b log i
+      final b log i inv good q cl p =
+          let nw : NewTimeout n f b (performV n f b (Timeout i)) i = perform-new n f small b (Timeout i) inv q in
+          let sec : Second n f i log = second-of b log i (late-base b log (to-late b log inv (cl .0) (good .tidy))) (nw .at .lo) p in
+          record { votes = cl .0; acks = cl .1 sec; direct = direct b log i inv good q sec cl }
 
       -- right after a second timeout of a clean order its controller holds Move if all votes were willing, and Stay if one was not
       pub record Decides (b : View) (log : List Event) (i : ℕ) : Type 0 where

@@ -2,7 +2,7 @@
 use Prim.Native.Nat.{ℕ, _≤_}
 use mathlib.Core.Path.{_≡_, refl, sym, _∙_, ap, subst}
 use mathlib.Core.Bool.{Bool, true, false≢true}
-use mathlib.Core.List.{List, [], _∷_, _++_}
+use mathlib.Core.List.{List, [], _∷_, _++_, reverse-cons}
 use native.Mathlib.Omega.{arith}
 use lib.ListN.{replicate}
 use Rattle.ground.specs.Tests.{by-cond}
@@ -21,6 +21,7 @@ use Rattle.protocol.specs.Benches.{fresh, freshStation, benchOf, newBenc
 use Rattle.protocol.specs.Questions.{isAccepted, unless, firstNo, reply}
 use Rattle.protocol.specs.Steps.{orderOpened, perform, step, run, renewed}
 use Rattle.protocol.specs.Claim.{after, Accepted}
+use Rattle.protocol.specs.CleanOrders.{deliveries, fromLock}
 use Rattle.ground.specs.Limit.{limit}
 use Rattle.protocol.proofs.view.View.{View, openedV, accepts}
 use Rattle.protocol.proofs.view.Performed.{performV, stepV}
@@ -28,8 +29,8 @@ use Rattle.protocol.proofs.clean.Log.{entered}
 use Rattle.protocol.proofs.claim.Moments.{is-accepted, accepted-is, push, logOf, logAt, Enters, entry-of, run-append, run-one, log-append}
 use Rattle.protocol.proofs.view.Simulation.{view, Sound, Ranges, ranges, Steps, step-steps, reply-sim, step-sim}
 use Rattle.protocol.proofs.claim.Start.{all-of-copies, lock-sound}
-use Rattle.protocol.proofs.clean.Loops.{rows, rows-all}
-use Rattle.protocol.proofs.clean.Ready.{due, begun, ReadyAll, ElseSame, vote-accepted, vote-going, deliver-accepted, deliver-going, timeout-accepted, first-going}
+use Rattle.protocol.proofs.clean.Loops.{rows-all}
+use Rattle.protocol.proofs.clean.Ready.{due, begun, ReadyAll, ElseSame, vote-accepted, vote-going, deliver-accepted, deliver-going, timeout-accepted, first-going, second-going}
 
 -- an accepted event that enters the log
 pub log-one : (es : List Event) (e : Event) → Enters e → Accepted es e → logAt (es ++ (e ∷ [])) ≡ (e ∷ logAt es)
@@ -40,39 +41,40 @@ module _ (n f : ℕ) (sized : sizesInRange n f ≡ true) where
   range : Ranges n f
   range = ranges n f sized
 
-  -- events after which the order has this log, and each controller this phase
+  -- the events of this log, put to a new bench after lock and order, are all accepted, and then each controller is in this phase
   pub record Reached (log : List Event) (p : ℕ → ℕ) : Type 0 where
-    pub events : List Event
-    pub sound : Sound (after events)
-    pub is-n : (after events) .shared .n ≡ n
-    pub is-f : (after events) .shared .f ≡ f
-    pub is-log : logAt events ≡ log
-    pub going : ReadyAll n f (view (after events)) p
+    pub sound : Sound (after (fromLock n f log))
+    pub is-n : (after (fromLock n f log)) .shared .n ≡ n
+    pub is-f : (after (fromLock n f log)) .shared .f ≡ f
+    pub is-log : logAt (fromLock n f log) ≡ log
+    pub going : ReadyAll n f (view (after (fromLock n f log))) p
+
+  pub one-later : (log : List Event) (e : Event) → fromLock n f (e ∷ log) ≡ fromLock n f log ++ (e ∷ [])
+  one-later log e = ap (λ (l : List Event). Lock n f ∷ Order 1 ∷ l) (reverse-cons e log)
 
   module _ {log : List Event} {p : ℕ → ℕ} (r : Reached log p) where
     abbrev b : Bench
-    b = after (r .events)
+    b = after (fromLock n f log)
 
     abbrev v : View
-    v = view (after (r .events))
+    v = view (after (fromLock n f log))
 
-    pub answers : (e : Event) → accepts n f v e ≡ true → Accepted (r .events) e
+    pub answers : (e : Event) → accepts n f v e ≡ true → Accepted (fromLock n f log) e
     answers e q = is-accepted _ (reply-sim b (r .sound) e ∙ ap (λ (x : ℕ). accepts x (b .shared .f) v e) (r .is-n) ∙ ap (λ (x : ℕ). accepts n x v e) (r .is-f) ∙ q)
 
-    performs : (e : Event) → accepts n f v e ≡ true → view (step b e) ≡ performV n f v e
+    pub performs : (e : Event) → accepts n f v e ≡ true → view (step b e) ≡ performV n f v e
     unfolding stepV
     performs e q = step-sim b (r .sound) e ∙ ap (λ (x : ℕ). stepV x (b .shared .f) v e) (r .is-n) ∙ ap (λ (x : ℕ). stepV n x v e) (r .is-f) ∙ rw q
 
     extend : (p′ : ℕ → ℕ) (e : Event) → Enters e → accepts n f v e ≡ true → ReadyAll n f (performV n f v e) p′ → Reached (e ∷ log) p′
     extend p′ e u q g =
-        let w : after (r .events ++ (e ∷ [])) ≡ step b e = run-append (r .events) (e ∷ []) newBench ∙ run-one e b in
+        let w : after (fromLock n f (e ∷ log)) ≡ step b e = ap after (one-later log e) ∙ run-append (fromLock n f log) (e ∷ []) newBench ∙ run-one e b in
         let s : Steps b (r .sound) (step b e) = step-steps b (r .sound) e in
         record {
-          events = r .events ++ (e ∷ []);
           sound = subst Sound (sym w) (s .sound);
           is-n = ap (λ (x : Bench). x .shared .n) w ∙ s .same-n ∙ r .is-n;
           is-f = ap (λ (x : Bench). x .shared .f) w ∙ s .same-f ∙ r .is-f;
-          is-log = log-one (r .events) e u (answers e q) ∙ ap (λ (l : List Event). e ∷ l) (r .is-log);
+          is-log = ap logAt (one-later log e) ∙ log-one (fromLock n f log) e u (answers e q) ∙ ap (λ (l : List Event). e ∷ l) (r .is-log);
           going = subst (λ (x : View). ReadyAll n f x p′) (sym (ap view w ∙ performs e q)) g;
         }
 
@@ -82,12 +84,15 @@ module _ (n f : ℕ) (sized : sizesInRange n f ≡ true) where
     pub ring-next : (p′ : ℕ → ℕ) (k : ℕ) → 1 ≤ k → k ≤ n → p k ≡ 1 → p′ k ≡ 2 → ElseSame k p p′ → Reached (Timeout k ∷ log) p′
     ring-next p′ k lo hi e e′ same = extend p′ (Timeout k) tt (timeout-accepted n f v p (r .going) k lo hi (rw e)) (first-going n f v p (r .going) (range .small) p′ k lo hi e e′ same)
 
+    pub end-next : (p′ : ℕ → ℕ) (k : ℕ) → 1 ≤ k → k ≤ n → p k ≡ 2 → p′ k ≡ 3 → ElseSame k p p′ → Reached (Timeout k ∷ log) p′
+    end-next p′ k lo hi e e′ same = extend p′ (Timeout k) tt (timeout-accepted n f v p (r .going) k lo hi (rw e)) (second-going n f v p (r .going) p′ k lo hi e e′ same)
+
     -- phases named otherwise
     pub renamed : (p′ : ℕ → ℕ) → ((k : ℕ) → 1 ≤ k → k ≤ n → p′ k ≡ p k) → Reached log p′
-    renamed p′ same = record { events = r .events; sound = r .sound; is-n = r .is-n; is-f = r .is-f; is-log = r .is-log; going = record { opened = r .going .opened; able = λ k lo hi. rw (same k lo hi) (r .going .able k lo hi) } }
+    renamed p′ same = record { sound = r .sound; is-n = r .is-n; is-f = r .is-f; is-log = r .is-log; going = record { opened = r .going .opened; able = λ k lo hi. rw (same k lo hi) (r .going .able k lo hi) } }
 
   -- all telegrams of a kind
-  pub deliver-all : (kind : Kind) (log : List Event) (p : ℕ → ℕ) → ((i : ℕ) → 1 ≤ i → i ≤ n → due kind (p i) ≡ true) → Reached log p → Reached (rows n f kind n log) p
+  pub deliver-all : (kind : Kind) (log : List Event) (p : ℕ → ℕ) → ((i : ℕ) → 1 ≤ i → i ≤ n → due kind (p i) ≡ true) → Reached log p → Reached (deliveries n f kind n log) p
   deliver-all kind log p sent = rows-all n f (λ l. Reached l p) kind (λ i j a b c d e l r.
       extend r p (Deliver i j kind) tt (deliver-accepted n f _ p (r .going) kind i j a b c d (sent i a b) e) (deliver-going n f _ p (r .going) kind i j c d (sent i a b))) n (omega arith) log
 
@@ -125,7 +130,6 @@ module _ (n f : ℕ) (sized : sizesInRange n f ≡ true) where
 
   pub start : Reached [] (λ k. 0)
   start = record {
-    events = Lock n f ∷ Order 1 ∷ [];
     sound = subst Sound (sym begins) (s .sound);
     is-n = ap (λ (x : Bench). x .shared .n) begins ∙ s .same-n ∙ (unfold benchOf in refl);
     is-f = ap (λ (x : Bench). x .shared .f) begins ∙ s .same-f ∙ (unfold benchOf in refl);

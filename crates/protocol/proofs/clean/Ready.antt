@@ -1,5 +1,5 @@
 -- What the questions need to know of a controller while a clean order goes its way: it runs, its phase, and what it has sent by then.
--- Votes, deliveries and first timeouts keep this up.
+-- Votes, deliveries and timeouts keep this up.
 use Prim.Native.Nat.{ℕ, suc, _≤_}
 use mathlib.Core.Path.{_≡_, refl, _∙_, ap}
 use mathlib.Core.Bool.{Bool, true, false, not, cond, _&&_, _||_, false≢true}
@@ -8,7 +8,7 @@ use lib.Dec.{eqb, leb}
 use lib.Bits.{bitOr}
 use mathlib.Core.Logic.{inl, inr}
 use borrow.Author.Tests.{leb-true, le-leb, eqb-true, eq-eqb}
-use Rattle.ground.specs.Tests.{no-both, split, by-cond, and-l, and-r, or-e, or-r}
+use Rattle.ground.specs.Tests.{no-both, split, by-cond, and-l, and-r, or-e, or-l, or-r}
 use Rattle.ground.specs.Mask.{has}
 use Rattle.ground.specs.MaskLaws.{has-or}
 use Rattle.ground.specs.Collect.{collect-at}
@@ -20,16 +20,20 @@ use Rattle.model.specs.Routes.{voteRoute, ackRoute, helpRoute, route, recipient
 use Rattle.model.specs.declared.Kind.{Kind}
 use Rattle.model.specs.declared.Kind.the-variants.{Vote, Ack, Help, Helped}
 use Rattle.model.specs.declared.Event.the-variants.{Cast, Deliver, Timeout}
+use Rattle.protocol.specs.declared.Condition.{Condition}
+use Rattle.protocol.specs.declared.Condition.the-variants.{Running, Stopped, Standby}
 use Rattle.protocol.specs.declared.Controller.{Controller}
 use Rattle.protocol.specs.declared.Answer.{Answer}
 use Rattle.protocol.specs.declared.Sent.{Sent}
 use Rattle.protocol.specs.Controllers.{isRunning, phaseIn, runs, phase, hasAck, advance, learn, keepAck, propose}
-use Rattle.protocol.specs.Rules.{passedOver, becomes, proposing, voteRule, voteArrives, firstTimeout, sufficient, proposeIfSufficient, ackArrives}
+use Rattle.protocol.specs.Rules.{passedOver, becomes, proposing, voteRule, voteArrives, firstTimeout, sufficient, proposeIfSufficient, secondTimeout, ackArrives}
 use Rattle.protocol.specs.Calls.{arrives}
 use Rattle.protocol.specs.Benches.{ofKind, sentAfter}
 use Rattle.protocol.specs.Questions.{unless, firstNo}
 use Rattle.protocol.proofs.view.View.{View, accepts}
 use Rattle.protocol.proofs.view.Performed.{commitV, timeoutRule, performV}
+use Rattle.protocol.proofs.claim.Sends.{sent-more}
+use Rattle.protocol.proofs.clean.Added.{second-rings}
 
 -- which telegrams a controller has sent by its phase; its phase after its vote
 abbrev pub due : Kind → ℕ → Bool
@@ -64,6 +68,12 @@ ack-from f i j r = elim (or-e (leb i f) _ (and-r (not (eqb i j)) _ r)) [
   | inr q ↦ let h : i ≡ suc f = eqb-true i (suc f) (and-l _ _ q) in omega arith
 ]
 
+-- one in phase 3 runs
+in-phase-3 : (k : Condition) → phaseIn k ≡ 3 → isRunning k ≡ true
+in-phase-3 (Running p) e = refl
+in-phase-3 Stopped e = absurd (omega arith)
+in-phase-3 (Standby o) e = absurd (omega arith)
+
 module _ (n f : ℕ) where
   pub record ReadyAt (k s : ℕ) (c : Controller) (l : Sent) : Type 0 where
     pub running : runs c ≡ true
@@ -97,6 +107,20 @@ module _ (n f : ℕ) where
       sent Ack j a b d r = unfold firstTimeout sentAfter in posted-to small Ack k (l .ack .to) j a b r
       sent Help j a b d r = absurd (false≢true d)
       sent Helped j a b d r = absurd (false≢true d)
+
+  -- whatever comes of a second timeout, what was sent stays sent
+  second-able : (k : ℕ) (c : Controller) (l : Sent) → ReadyAt k 2 c l → ReadyAt k 3 ((secondTimeout n f k c) .controller) (sentAfter l ((secondTimeout n f k c) .sends))
+  second-able k c l h = record {
+    running = in-phase-3 ((secondTimeout n f k c) .controller .condition) (second-rings n f k c .is);
+    at = second-rings n f k c .is;
+    sent = λ kind j a b d r. sent-more n f l _ kind j ∙ or-l _ _ (h .sent kind j a b (as-before kind d) r);
+  }
+    where
+      as-before : (kind : Kind) → due kind 3 ≡ true → due kind 2 ≡ true
+      as-before Vote d = refl
+      as-before Ack d = refl
+      as-before Help d = d
+      as-before Helped d = d
 
   calm-able : (k s : ℕ) (c : Controller) (l : Sent) (a : Answer) → Unmoved c l a → ReadyAt k s c l → ReadyAt k s (a .controller) (sentAfter l (a .sends))
   calm-able k s c l a q h = rw (q .sent) (record { running = ap isRunning (q .condition) ∙ h .running; at = ap phaseIn (q .condition) ∙ h .at; sent = h .sent })
@@ -151,3 +175,7 @@ module _ (n f : ℕ) where
     pub first-going : n ≤ limit → (p′ : ℕ → ℕ) (k : ℕ) → 1 ≤ k → k ≤ n → p k ≡ 1 → p′ k ≡ 2 → ElseSame k p p′ → ReadyAll (performV n f v (Timeout k)) p′
     unfolding performV timeoutRule
     first-going small p′ k lo hi e e′ same = commit-going v p p′ k _ g same (rw (e′, g .able k lo hi .at ∙ e) (first-able small k (v .ctl k) (v .state .sent k) (rw e at (g .able k lo hi))))
+
+    pub second-going : (p′ : ℕ → ℕ) (k : ℕ) → 1 ≤ k → k ≤ n → p k ≡ 2 → p′ k ≡ 3 → ElseSame k p p′ → ReadyAll (performV n f v (Timeout k)) p′
+    unfolding performV timeoutRule
+    second-going p′ k lo hi e e′ same = commit-going v p p′ k _ g same (rw (e′, g .able k lo hi .at ∙ e) (second-able k (v .ctl k) (v .state .sent k) (rw e at (g .able k lo hi))))

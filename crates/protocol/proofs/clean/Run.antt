@@ -9,12 +9,12 @@ use Rattle.ground.specs.Tests.{same-test}
 use Rattle.model.specs.Ranges.{sizesInRange}
 use Rattle.model.specs.declared.Kind.the-variants.{Vote, Ack}
 use Rattle.model.specs.declared.Event.the-variants.{Timeout}
-use Rattle.protocol.specs.Claim.{Accepted}
-use Rattle.protocol.proofs.view.Simulation.{ranges}
-use Rattle.protocol.proofs.clean.Loops.{casts, rings}
-use Rattle.protocol.proofs.clean.Schedule.{voted, acked}
+use Rattle.protocol.specs.Claim.{after}
+use Rattle.protocol.specs.CleanOrders.{casts, timeouts, allVoted, allAcked, fromLock}
+use Rattle.protocol.proofs.view.View.{accepts}
+use Rattle.protocol.proofs.view.Simulation.{view, ranges}
 use Rattle.protocol.proofs.clean.Ready.{begun, timeout-accepted}
-use Rattle.protocol.proofs.clean.Reached.{Reached, answers, cast-next, ring-next, renamed, deliver-all, start}
+use Rattle.protocol.proofs.clean.Reached.{Reached, cast-next, ring-next, end-next, renamed, deliver-all, start}
 
 -- x up to m, y beyond
 abbrev upTo : ℕ → (ℕ → ℕ) → (ℕ → ℕ) → ℕ → ℕ
@@ -45,8 +45,8 @@ module _ (n f : ℕ) (sized : sizesInRange n f ≡ true) where
   begun-one : (k : ℕ) → k ≤ suc f → begun f k ≡ 1
   begun-one k h = rw (le-leb k (suc f) h)
 
-  vote-all : (w : ℕ → Bool) → Reached n f sized (voted n f w) (ringing 0)
-  unfolding voted
+  vote-all : (w : ℕ → Bool) → Reached n f sized (allVoted n f w) (ringing 0)
+  unfolding allVoted
   vote-all w = renamed n f sized (deliver-all n f sized Vote (casts w n) (casting n) (λ i lo hi. rw (le-leb i n hi) (sent (leb i (suc f)))) (cast-all w n (omega arith))) (ringing 0)
       (λ k lo hi. high-is 0 k (λ x. 2) (begun f) lo ∙ sym (low-is n k (begun f) (λ x. 0) hi))
     where
@@ -54,8 +54,8 @@ module _ (n f : ℕ) (sized : sizesInRange n f ≡ true) where
       sent true = refl
       sent false = refl
 
-  ring-all : (w : ℕ → Bool) (m : ℕ) → m ≤ suc f → Reached n f sized (rings m (voted n f w)) (ringing m)
-  unfolding rings
+  ring-all : (w : ℕ → Bool) (m : ℕ) → m ≤ suc f → Reached n f sized (timeouts m (allVoted n f w)) (ringing m)
+  unfolding timeouts
   ring-all w zero h = vote-all w
   ring-all w (suc m) h = ring-next n f sized (ring-all w m (omega arith)) (ringing (suc m)) (suc m) (omega arith) (let z : f < n = ranges n f sized .high in omega arith)
       (high-is m (suc m) (λ x. 2) (begun f) (omega arith) ∙ begun-one (suc m) h) (low-is (suc m) (suc m) (λ x. 2) (begun f) (omega arith)) (λ k d. one-up m k (λ x. 2) (begun f) d)
@@ -68,10 +68,20 @@ module _ (n f : ℕ) (sized : sizesInRange n f ≡ true) where
       same true = refl
       same false = refl
 
-  pub ack-all : (w : ℕ → Bool) → Reached n f sized (acked n f w) (λ k. 2)
-  unfolding acked
+  ack-all : (w : ℕ → Bool) → Reached n f sized (allAcked n f w) (λ k. 2)
+  unfolding allAcked
   ack-all w = deliver-all n f sized Ack _ (λ k. 2) (λ i lo hi. refl) (renamed n f sized (ring-all w (suc f) (omega arith)) (λ k. 2) (λ k lo hi. both-two k))
 
-  -- so any timeout is accepted
-  pub last-timeout-accepted : (w : ℕ → Bool) (i : ℕ) → 1 ≤ i → i ≤ n → Accepted (ack-all w .events) (Timeout i)
-  last-timeout-accepted w i lo hi = answers n f sized (ack-all w) (Timeout i) (timeout-accepted n f _ (λ k. 2) (ack-all w .going) i lo hi refl)
+  -- 1 to m have had their second timeout
+  abbrev pub endPhase : ℕ → ℕ → ℕ
+  endPhase m = upTo m (λ k. 3) (λ k. 2)
+
+  pub end-all : (w : ℕ → Bool) (m : ℕ) → m ≤ n → Reached n f sized (timeouts m (allAcked n f w)) (endPhase m)
+  unfolding timeouts
+  end-all w zero h = renamed n f sized (ack-all w) (endPhase 0) (λ k lo hi. high-is 0 k (λ x. 3) (λ x. 2) lo)
+  end-all w (suc m) h = end-next n f sized (end-all w m (omega arith)) (endPhase (suc m)) (suc m) (omega arith) h
+      (high-is m (suc m) (λ x. 3) (λ x. 2) (omega arith)) (low-is (suc m) (suc m) (λ x. 3) (λ x. 2) (omega arith)) (λ k d. one-up m k (λ x. 3) (λ x. 2) d)
+
+  -- the timeout of another is accepted then
+  pub end-accepts : (w : ℕ → Bool) (m i : ℕ) (h : m ≤ n) → m < i → i ≤ n → accepts n f (view (after (fromLock n f (timeouts m (allAcked n f w))))) (Timeout i) ≡ true
+  end-accepts w m i h lo hi = timeout-accepted n f _ (endPhase m) (end-all w m h .going) i (omega arith) hi (rw (high-is m i (λ x. 3) (λ x. 2) lo))

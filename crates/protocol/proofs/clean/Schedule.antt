@@ -1,5 +1,6 @@
 -- A clean order, as the log of its accepted events, newest first: all vote, every vote telegram is delivered, 1 to f + 1 have their first
--- timeout, every acknowledgement is delivered. Then the timeout of any controller is a second one, and the log with it is clean.
+-- timeout, every acknowledgement is delivered. Then the timeout of any controller is a second one, and the log with it is clean; so it stays while
+-- 1 to m have theirs.
 use Prim.Native.Nat.{ℕ, zero, suc, _≤_}
 use mathlib.Core.Path.{_≡_, refl}
 use mathlib.Core.Bool.{Bool}
@@ -12,38 +13,32 @@ use Rattle.model.specs.declared.Kind.{Kind}
 use Rattle.model.specs.declared.Kind.the-variants.{Vote, Ack}
 use Rattle.model.specs.declared.Event.{Event}
 use Rattle.model.specs.declared.Event.the-variants.{Cast, Deliver, Timeout}
+use Rattle.protocol.specs.CleanOrders.{casts, timeouts, deliveries, allVoted, allAcked}
 use Rattle.protocol.proofs.clean.Log.{In, VotesIn, AcksIn, Second, Clean}
-use Rattle.protocol.proofs.clean.Steps.{votes-more}
-use Rattle.protocol.proofs.clean.Loops.{differ, casts, cast-in, cast-as, cast-calm, rings, ring-in, ring-keep, ring-back, ring-low, rows, rows-all, rows-keep, rows-back, rows-in}
+use Rattle.protocol.proofs.clean.Steps.{votes-more, acks-more}
+use Rattle.protocol.proofs.clean.Loops.{differ, cast-in, cast-as, cast-calm, ring-in, ring-keep, ring-back, ring-low, rows-all, rows-keep, rows-back, rows-in}
 
 module _ (n f : ℕ) where
-  -- the order: up to the vote telegrams, and up to the acknowledgements
-  unfoldable pub voted : (ℕ → Bool) → List Event
-  voted w = rows n f Vote n (casts w n)
-
-  unfoldable pub acked : (ℕ → Bool) → List Event
-  acked w = rows n f Ack n (rings (suc f) (voted w))
-
   one-more : (log : List Event) (e : Event) → VotesIn n f log → VotesIn n f (e ∷ log)
   one-more log e = votes-more n f (e ∷ log) log [] e refl
 
   module _ (w : ℕ → Bool) where
-    voted-votes : VotesIn n f (voted w)
-    unfolding voted route
+    voted-votes : VotesIn n f (allVoted n f w)
+    unfolding allVoted route
     voted-votes = record {
       votes = λ k a b. record { willing = w k; target = 0; entry = rows-keep n f _ Vote (casts w n) (cast-in w n k a b) };
       sent = λ i j a b c d r. rows-in n f Vote n i j (casts w n) (omega arith) a b c d r;
     }
 
-    voted-calm : (k : ℕ) → In (Timeout k) (voted w) → ⊥
-    unfolding voted
+    voted-calm : (k : ℕ) → In (Timeout k) (allVoted n f w) → ⊥
+    unfolding allVoted
     voted-calm k e = cast-calm w n k (rows-back n f _ Vote away _ e)
       where
         away : (i j : ℕ) → Timeout k ≡ Deliver i j Vote → ⊥
         away i j q = let z : _≡_ {A = ℕ} 0 1 = cc in differ z
 
-    ring-votes : (m : ℕ) → VotesIn n f (rings m (voted w))
-    unfolding rings
+    ring-votes : (m : ℕ) → VotesIn n f (timeouts m (allVoted n f w))
+    unfolding timeouts
     ring-votes zero = voted-votes
     ring-votes (suc m) = one-more _ _ (ring-votes m)
 
@@ -53,48 +48,64 @@ module _ (n f : ℕ) where
     cast-clean (suc m) = (cast-clean m, tt)
 
     -- deliveries leave the log clean; so does a timeout that is not a second one, once the votes are in
-    rows-clean : (kind : Kind) (log : List Event) → Clean n f log → Clean n f (rows n f kind n log)
+    rows-clean : (kind : Kind) (log : List Event) → Clean n f log → Clean n f (deliveries n f kind n log)
     rows-clean kind = rows-all n f (Clean n f) kind (λ i j a b c d r l h. (h, tt)) n (omega arith)
 
-    ring-clean : (m : ℕ) → m ≤ suc f → Clean n f (rings m (voted w))
-    unfolding rings
-    ring-clean zero h = unfold voted in rows-clean Vote (casts w n) (cast-clean n)
+    ring-clean : (m : ℕ) → m ≤ suc f → Clean n f (timeouts m (allVoted n f w))
+    unfolding timeouts
+    ring-clean zero h = unfold allVoted in rows-clean Vote (casts w n) (cast-clean n)
     ring-clean (suc m) h = (ring-clean m (omega arith), (ring-votes m, λ s. absurd (first s)))
       where
-        first : Second n f (suc m) (rings m (voted w)) → ⊥
+        first : Second n f (suc m) (timeouts m (allVoted n f w)) → ⊥
         first (inl x) = omega arith
-        first (inr e) = let z : suc m ≤ m = ring-low m (suc m) (voted w) (voted-calm (suc m)) e in omega arith
+        first (inr e) = let z : suc m ≤ m = ring-low m (suc m) (allVoted n f w) (voted-calm (suc m)) e in omega arith
 
-    acked-acks : AcksIn n f (acked w)
-    unfolding acked route
-    acked-acks = record { sent = λ i j a b c d r. rows-in n f Ack n i j (rings (suc f) (voted w)) (omega arith) a b c d r }
+    -- the acknowledgements are in
+    acked-acks : AcksIn n f (allAcked n f w)
+    unfolding allAcked route
+    acked-acks = record { sent = λ i j a b c d r. rows-in n f Ack n i j (timeouts (suc f) (allVoted n f w)) (omega arith) a b c d r }
 
-    acked-votes : VotesIn n f (acked w)
-    unfolding acked
+    acked-votes : VotesIn n f (allAcked n f w)
+    unfolding allAcked
     acked-votes = rows-all n f (VotesIn n f) Ack (λ i j a b c d r l. one-more l _) n (omega arith) _ (ring-votes (suc f))
 
+    -- 1 to m have had their second timeout
+    abbrev pub ending : ℕ → List Event
+    ending m = timeouts m (allAcked n f w)
+
+    ending-votes : (m : ℕ) → VotesIn n f (ending m)
+    unfolding timeouts
+    ending-votes zero = acked-votes
+    ending-votes (suc m) = one-more _ _ (ending-votes m)
+
+    ending-acks : (m : ℕ) → AcksIn n f (ending m)
+    unfolding timeouts
+    ending-acks zero = acked-acks
+    ending-acks (suc m) = acks-more n f _ _ [] _ refl (ending-acks m)
+
     -- the timeout of any controller is now a second one, and the log is clean with it
-    pub acked-second : (i : ℕ) → 1 ≤ i → Second n f i (acked w)
-    unfolding acked
-    acked-second i a = elim (decLe i (suc f)) [
-      | yes h ↦ inr (rows-keep n f (Timeout i) Ack _ (ring-in (suc f) i (voted w) a h))
+    pub ending-second : (m i : ℕ) → 1 ≤ i → Second n f i (ending m)
+    ending-second m i a = elim (decLe i (suc f)) [
+      | yes h ↦ inr (ring-keep (Timeout i) m _ (unfold allAcked in rows-keep n f (Timeout i) Ack _ (ring-in (suc f) i (allVoted n f w) a h)))
       | no h ↦ inl (omega arith)
     ]
 
-    pub acked-clean : (i : ℕ) → Clean n f (Timeout i ∷ acked w)
-    acked-clean i = (clean, (acked-votes, λ s. acked-acks))
-      where
-        clean : Clean n f (acked w)
-        clean = unfold acked in rows-clean Ack _ (ring-clean (suc f) (omega arith))
+    pub ending-clean : (m : ℕ) → Clean n f (ending m)
+    unfolding timeouts
+    ending-clean zero = unfold allAcked in rows-clean Ack _ (ring-clean (suc f) (omega arith))
+    ending-clean (suc m) = (ending-clean m, (ending-votes m, λ s. ending-acks m))
+
+    pub next-clean : (m i : ℕ) → Clean n f (Timeout i ∷ ending m)
+    next-clean m i = (ending-clean m, (ending-votes m, λ s. ending-acks m))
 
     -- the votes in it are those of w
-    pub acked-cast : (k : ℕ) → 1 ≤ k → k ≤ n → In (Cast k (w k) 0) (acked w)
-    unfolding acked voted
-    acked-cast k a b = rows-keep n f _ Ack _ (ring-keep _ (suc f) _ (rows-keep n f _ Vote _ (cast-in w n k a b)))
+    pub ending-cast : (m k : ℕ) → 1 ≤ k → k ≤ n → In (Cast k (w k) 0) (ending m)
+    unfolding allAcked allVoted
+    ending-cast m k a b = ring-keep _ m _ (rows-keep n f _ Ack _ (ring-keep _ (suc f) _ (rows-keep n f _ Vote _ (cast-in w n k a b))))
 
-    pub acked-as : (k : ℕ) (x : Bool) (t : ℕ) → In (Cast k x t) (acked w) → x ≡ w k
-    unfolding acked voted
-    acked-as k x t e = cast-as w n k x t (rows-back n f _ Vote (away Vote) _ (ring-back _ (suc f) rung _ (rows-back n f _ Ack (away Ack) _ e)))
+    pub ending-as : (m k : ℕ) (x : Bool) (t : ℕ) → In (Cast k x t) (ending m) → x ≡ w k
+    unfolding allAcked allVoted
+    ending-as m k x t e = cast-as w n k x t (rows-back n f _ Vote (away Vote) _ (ring-back _ (suc f) rung _ (rows-back n f _ Ack (away Ack) _ (ring-back _ m rung _ e))))
       where
         away : (kind : Kind) (i j : ℕ) → Cast k x t ≡ Deliver i j kind → ⊥
         away kind i j q = let z : _≡_ {A = ℕ} 0 1 = cc in differ z

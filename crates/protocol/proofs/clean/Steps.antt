@@ -123,7 +123,7 @@ module _ (n f : ℕ) where
     sent = λ i j a b c d r. in-later _ e later earlier (v .sent i j a b c d r);
   })
 
-  acks-more : (l earlier later : List Event) (e : Event) → l ≡ later ++ (e ∷ earlier) → AcksIn n f earlier → AcksIn n f l
+  pub acks-more : (l earlier later : List Event) (e : Event) → l ≡ later ++ (e ∷ earlier) → AcksIn n f earlier → AcksIn n f l
   acks-more l earlier later e p v = subst (AcksIn n f) (sym p) (record { sent = λ i j a b c d r. in-later _ e later earlier (v .sent i j a b c d r) })
 
   rest-clean : (e : Event) (log : List Event) → CleanOrder (e ∷ log) → CleanOrder log
