@@ -1,5 +1,5 @@
 #!/usr/bin/env bash
-# Measures the proved bench beside the reference implementation: ./benchmark/run.sh
+# Measures the proved bench beside the reference implementation, then an order event alone: ./benchmark/run.sh
 set -euo pipefail
 cd "$(dirname "$0")/.."
 ref=target/reference
@@ -8,3 +8,5 @@ reference/build.sh
 rustc --edition 2021 -O -L native=target/staticlib --extern reference="$ref/libreference.rlib" -o "$ref/benchmark" benchmark/main.rs
 "$ref/gen_schedules" 400 21 > "$ref/benchmark.schedules"
 "$ref/benchmark" "$ref/benchmark.schedules"
+rustc --edition 2021 -O -L native=target/staticlib -o "$ref/orders" benchmark/orders.rs
+"$ref/orders"

@@ -32,6 +32,13 @@ impl Bench {
         self.lock.as_ref()
     }
 
+    /// Document 02, U9: "how many running controllers lack an outcome", counted over all of them.
+    pub fn open_gates(&self) -> u8 {
+        let controllers = self.lock().map_or(&[][..], Lock::controllers);
+        let is_open = |c: &&Controller| c.is_running() && c.outcome().is_none();
+        controllers.iter().filter(is_open).count() as u8
+    }
+
     /// "a record that reading refuses leaves the bench as it is"
     pub fn step_record(&mut self, record: &[u8]) -> u8 {
         match Event::read(record) {

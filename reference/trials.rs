@@ -10,6 +10,8 @@ mod generator;
 mod listed;
 #[path = "trials/questions.rs"]
 mod questions;
+#[path = "trials/open_gates.rs"]
+mod open_gates;
 #[path = "trials/readings.rs"]
 mod readings;
 #[path = "trials/records.rs"]

@@ -18,8 +18,9 @@ use Rattle.schedule_reader.specs.Pieces.{pieceAt}
 use Rattle.protocol.specs.Controllers.{advance, learn, aim, keepAck, freeze, conclude, cleared}
 use Rattle.protocol.specs.Rules.{becomes, verdict, voteRule, voteArrives, countOwn, firstTimeout, ackJoin, backupsComplete, secondKnows, decides, sufficient, proposeIfSufficient, helpVotes, frozen, ready, secondTimeout, ackArrives}
 use Rattle.protocol.specs.Calls.{validIdentity, vote, addressed, arrives, receive, timeout, renew}
+use Rattle.protocol.specs.Counts.{countsAfter}
 use Rattle.protocol.specs.Benches.{unsentAll, fresh, freshStation, benchOf, station, sentAfter}
-use Rattle.protocol.specs.Questions.{unless, firstNo, ended, reply}
+use Rattle.protocol.specs.Questions.{unless, firstNo, reply}
 use Rattle.protocol.specs.Steps.{renewed, orderOpened, proposedTo, stationAfter, answering, answerTo, effect, perform, step, run}
 use Rattle.protocol.specs.Display.{sumTo, sentCount, telegrams}
 use Rattle.protocol.specs.Trials.{listing}
@@ -43,5 +44,5 @@ pub listing-printed : outputOf (schedule (listing true)) ≡ page (
     "C 1 3 M 500" ∷
     "C 2 3 M -250" ∷
     "T 2 2 0 0" ∷ [])
-unfolding outputOf isTooLong summaryOf reportOf lines signed decimal digits answersTo eventsTo count pieceAt reads rowFor rows rowOf fieldsIn fieldsOf isKind kindOf run step perform effect answerTo answering stationAfter proposedTo orderOpened renewed telegrams sentCount sumTo reply ended firstNo unless station benchOf freshStation fresh unsentAll sentAfter renew timeout receive arrives addressed vote validIdentity secondTimeout ready frozen helpVotes proposeIfSufficient sufficient decides secondKnows backupsComplete ackJoin firstTimeout countOwn voteArrives voteRule verdict becomes ackArrives conclude freeze keepAck aim learn advance cleared recipients route ackRoute voteRoute positionInRange isController sizesInRange joinAll put nth unanimous complete join single collect fullTo insert has countTo allTo
+unfolding outputOf isTooLong summaryOf reportOf lines signed decimal digits answersTo eventsTo count pieceAt reads rowFor rows rowOf fieldsIn fieldsOf isKind kindOf run step perform effect answerTo answering stationAfter proposedTo orderOpened renewed telegrams sentCount sumTo reply countsAfter firstNo unless station benchOf freshStation fresh unsentAll sentAfter renew timeout receive arrives addressed vote validIdentity secondTimeout ready frozen helpVotes proposeIfSufficient sufficient decides secondKnows backupsComplete ackJoin firstTimeout countOwn voteArrives voteRule verdict becomes ackArrives conclude freeze keepAck aim learn advance cleared recipients route ackRoute voteRoute positionInRange isController sizesInRange joinAll put nth unanimous complete join single collect fullTo insert has countTo allTo
 listing-printed = refl

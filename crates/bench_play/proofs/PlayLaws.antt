@@ -55,7 +55,7 @@ same-reply b (Stop i) o = refl
 same-reply b (Save i) o = refl
 same-reply b (Restore i) o = refl
 
-performed : (b : Bench) (e : Event) → concernsOne e ≡ true → perform b e ≡ performOne b e
+pub performed : (b : Bench) (e : Event) → concernsOne e ≡ true → perform b e ≡ performOne b e
 unfolding perform
 performed b (Lock n f) o = absurd (false≢true o)
 performed b (Order k) o = absurd (false≢true o)
@@ -74,6 +74,11 @@ played-answer (refused q) m s t = refl
 pub play-answer : (m : Shared) (e : Event) (sent : Sent) (s : Station) → (play m e sent s) .answer ≡ number (replyOfOne m e sent s)
 unfolding play
 play-answer m e sent s = played-answer (replyOfOne m e sent s) m s (effect m e sent s)
+
+-- what is shared after it is accepted
+pub play-shares : (m : Shared) (e : Event) (sent : Sent) (s : Station) → (play m e sent s) .answer ≡ 0 → (play m e sent s) .shared ≡ (effect m e sent s) .shared
+unfolding play
+play-shares m e sent s z = rw (accepted-of-one (concernsOne e) _ (all-numbered _ e) (sym (play-answer m e sent s) ∙ z))
 
 pub play-answers : (b : Bench) (e : Event) → concernsOne e ≡ true → (playAt b e) .answer ≡ number (reply b e)
 play-answers b e o = play-answer (b .shared) e (sentBy b (source e)) (station b (subject e)) ∙ ap number (same-reply b e o)

@@ -2,6 +2,7 @@
 use crate::calls::identity;
 use crate::calls::message;
 use crate::calls::restore_from;
+use crate::counts::counts_after;
 use crate::sends::sent_after;
 use controller::decide;
 use controller::receive;
@@ -62,11 +63,20 @@ fn station_after(s: Station, a: Answer) -> Station
     }
 }
 
+// The controller's answer put back; the counts follow its condition.
 fn answering(m: Shared, s: Station, a: Answer) -> Effect
     ensures { λ r. ⌜ r ≡ answering m s a ⌝ }
 {
+    let old = s.controller;
+    let before = old.condition;
+    let new = a.controller;
+    let after = new.condition;
+    let counts = counts_after(before, after, m.counts);
     let proposal = a.proposal;
-    let shared = proposed_to(m, proposal);
+    let shared = Shared {
+        counts,
+        ..proposed_to(m, proposal)
+    };
     let station = station_after(s, a);
     Effect { shared, station }
 }

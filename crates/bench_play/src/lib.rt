@@ -1,5 +1,6 @@
 // An event of one controller: its answer, and what it leaves.
 mod calls;
+mod counts;
 mod effects;
 mod plays;
 mod sends;

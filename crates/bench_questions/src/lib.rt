@@ -9,3 +9,4 @@ pub use events::of_kind;
 pub use events::source;
 pub use events::subject;
 pub use table::question;
+pub use tests::is_present;

@@ -10,7 +10,7 @@ ghost use mathlib.Core.Path.{_≡_};
 ghost use mathlib.Core.Bool.{not, _&&_, _||_};
 ghost use lib.Dec.{eqb};
 ghost use Rattle.model.specs.Ranges.{isController};
-ghost use Rattle.protocol.specs.Controllers.{isRunning, isStandby, phaseIn};
+ghost use Rattle.protocol.specs.Controllers.{isStandby, isPresent, phaseIn};
 ghost use Rattle.protocol.specs.Questions.{wasProposed, noOther};
 
 // 7, of a delivery: numbers in range, and not the same.
@@ -26,8 +26,8 @@ pub(crate) fn two_members(n: u8, from: u8, to: u8) -> bool
 }
 
 // 15: running or standing by.
-pub(crate) fn is_present(k: Condition) -> bool
-    ensures { λ r. ⌜ r ≡ (isRunning k || isStandby k) ⌝ }
+pub fn is_present(k: Condition) -> bool
+    ensures { λ r. ⌜ r ≡ isPresent k ⌝ }
 {
     if is_running(k) {
         return true;

@@ -1,5 +1,4 @@
 pub mod Defaults
-pub mod Ended
 pub mod Maps
 pub mod Outside
 pub mod Seen

@@ -1,34 +1,35 @@
--- A bench that says it has more controllers than the limit (no run leads there): an event of one that it has not is accepted or refused as any
--- other, and changes nothing.
+-- A bench that says it has more controllers than the limit (no run leads there): an event of one that it has no station for is accepted or refused
+-- as any other, and changes no station.
 use Prim.Native.Nat.{ℕ, _<_, _≤_, _-_}
-use mathlib.Core.Path.{_≡_, refl, sym, subst}
-use mathlib.Core.Bool.{true, false, _&&_, _||_, false≢true, or-false}
-use mathlib.Core.List.{[]}
+use mathlib.Core.Path.{_≡_, refl, _∙_}
+use mathlib.Core.Bool.{true, false, _&&_, false≢true}
+use mathlib.Core.List.{List, []}
 use native.Mathlib.Omega.{arith}
-use lib.Dec.{eqb, leb, ltb}
-use lib.ListN.{length}
+use lib.Dec.{leb, ltb}
+use lib.ListN.{length, replicate}
 use lib.Seq.{set-out}
 use borrow.Author.Tests.{leb-true}
 use Rattle.ground.specs.Limit.{limit}
 use Rattle.ground.specs.Tests.{refuted, and-l, and-r}
-use Rattle.ground.specs.Lists.{put, nth-past}
+use Rattle.ground.specs.Lists.{nth, put, nth-past}
+use Rattle.votes.specs.VoteSets.{empty}
+use Rattle.votes.specs.declared.VoteSet.{VoteSet}
 use Rattle.model.specs.Ranges.{sizesInRange, isController}
-use Rattle.model.specs.declared.Outcome.the-variants.{None}
 use Rattle.model.specs.declared.Event.{Event}
 use Rattle.model.specs.declared.Event.the-variants.{Lock, Order, Cast, Deliver, Timeout, Decide, Stop, Save, Restore}
 use Rattle.protocol.specs.declared.Identity.{Identity}
-use Rattle.protocol.specs.declared.Answer.{Answer}
+use Rattle.protocol.specs.declared.Sent.{Sent}
 use Rattle.protocol.specs.declared.Station.{Station}
 use Rattle.protocol.specs.declared.Shared.{Shared}
 use Rattle.protocol.specs.declared.Bench.{Bench}
-use Rattle.protocol.specs.Controllers.{standsBy, phase}
+use Rattle.protocol.specs.Controllers.{cleared}
 use Rattle.protocol.specs.Rules.{passedOver, becomes}
-use Rattle.protocol.specs.Calls.{validIdentity, vote, receive, timeout, stop}
-use Rattle.protocol.specs.Benches.{freshStation, fresh, station, identity}
-use Rattle.protocol.specs.Questions.{number, reply}
-use Rattle.protocol.specs.Steps.{perform, effect, answerTo, answering, proposedTo, restoreFrom, putBack}
-use Rattle.protocol.specs.Events.{concernsOne, subject}
-use Rattle.bench_play.proofs.Replies.{zero-yes}
+use Rattle.protocol.specs.Calls.{validIdentity, vote, receive, timeout, awaitsDecision, decide, stop}
+use Rattle.protocol.specs.Benches.{freshStation, fresh, station, sentBy, identity}
+use Rattle.protocol.specs.Steps.{perform, effect, answerTo, answering, restoreFrom}
+use Rattle.protocol.specs.Events.{concernsOne, subject, source}
+use Rattle.bench_play.proofs.PlayLaws.{performed}
+use Rattle.bench_step.proofs.Seen.{seen}
 
 -- the number of no lock's controller
 few : (n f : ℕ) → sizesInRange n f ≡ true → n ≤ limit
@@ -47,48 +48,28 @@ no-member me h = refuted (validIdentity me) (λ e.
     let k : me .id ≤ me .n = within (me .n) (me .id) (and-r (sizesInRange (me .n) (me .f)) (isController (me .n) (me .id)) both) in
     omega arith)
 
--- no word put changes nothing that is shared
-no-word : (m : Shared) → proposedTo m None ≡ m
-unfolding proposedTo
-no-word m = rw (or-false (m .consensus .«move_proposed»), or-false (m .consensus .«stay_proposed»))
+-- then what a controller that has just begun leaves of what is shared does not depend on the list that it holds
+alike : (m : Shared) (e : Event) (sent : Sent) (l l′ : List VoteSet) → concernsOne e ≡ true → limit < subject e
+    → (effect m e sent (freshStation l)) .shared ≡ (effect m e sent (freshStation l′)) .shared
+unfolding effect answerTo answering vote receive timeout decide awaitsDecision stop restoreFrom passedOver becomes cleared freshStation fresh
+alike m (Lock n f) sent l l′ o h = absurd (false≢true o)
+alike m (Order k) sent l l′ o h = absurd (false≢true o)
+alike m (Cast i willing target) sent l l′ o h = rw (no-member (identity m i) h)
+alike m (Deliver i j kind) sent l l′ o h = rw (no-member (identity m j) h)
+alike m (Timeout i) sent l l′ o h = rw (no-member (identity m i) h)
+alike m (Decide i move) sent l l′ o h = refl
+alike m (Stop i) sent l l′ o h = refl
+alike m (Save i) sent l l′ o h = refl
+alike m (Restore i) sent l l′ o h = refl
 
-module _ (b : Bench) (i : ℕ) (l : length (b .stations) ≡ limit) (h : limit < i) where
-  -- a store past the end
-  put-past : (s : Station) → put (b .stations) i s ≡ b .stations
-  unfolding put
-  put-past s = set-out (b .stations) (i - 1) s (omega arith)
+-- an accepted event of a number past the limit changes no station; what it leaves of what is shared, the code finds on the station that it reads
+pub outside : (b : Bench) (e : Event) → length (b .stations) ≡ limit → concernsOne e ≡ true → limit < subject e
+    → perform b e ≡ record { shared = (effect (b .shared) e (sentBy b (source e)) (seen b (subject e))) .shared; stations = b .stations }
+unfolding put
+outside b e l o h = performed b e o ∙ λ t. record { shared = same t; stations = set-out (b .stations) (subject e - 1) ((effect (b .shared) e (sentBy b (source e)) (station b (subject e))) .station) (omega arith) t }
+  where
+    past : (d : Station) → nth d (b .stations) (subject e) ≡ d
+    past d = nth-past d (b .stations) (subject e) (omega arith)
 
-  past : station b i ≡ freshStation []
-  unfolding station
-  past = nth-past (freshStation []) (b .stations) i (omega arith)
-
-  answer-past : (s : Station) (a : Answer) → a .proposal ≡ None → putBack b i (answering (b .shared) s a) ≡ b
-  unfolding answering
-  answer-past s a p = rw (put-past, p, no-word (b .shared))
-
-  not-mine : validIdentity (identity (b .shared) i) ≡ false
-  not-mine = no-member (identity (b .shared) i) h
-
--- question 16 of the arbiter's word
-abbrev Awaits : Station → Type 0
-Awaits s = (standsBy (s .controller) || eqb (phase (s .controller)) 3) ≡ true
-
--- a stop puts no word, and neither does a restore
-abbrev StopsSilently : Station → Type 0
-StopsSilently s = (stop (s .controller)) .proposal ≡ None
-
-abbrev RestoresSilently : Identity → Station → Type 0
-RestoresSilently me s = (restoreFrom me (s .saved) (s .controller)) .proposal ≡ None
-
--- whatever it is, an accepted event of a number past the limit changes nothing
-pub outside : (b : Bench) (e : Event) → length (b .stations) ≡ limit → concernsOne e ≡ true → limit < subject e → number (reply b e) ≡ 0 → perform b e ≡ b
-unfolding perform effect answerTo vote receive timeout stop restoreFrom passedOver becomes freshStation fresh
-outside b (Lock n f) l o h z = absurd (false≢true o)
-outside b (Order k) l o h z = absurd (false≢true o)
-outside b (Cast i willing target) l o h z = rw (not-mine b i l h) (answer-past b i l h _ _ refl)
-outside b (Deliver i j kind) l o h z = rw (not-mine b j l h) (answer-past b j l h _ _ refl)
-outside b (Timeout i) l o h z = rw (not-mine b i l h) (answer-past b i l h _ _ refl)
-outside b (Decide i move) l o h z = absurd (false≢true (subst Awaits (past b i l h) (zero-yes b (Decide i move) z .1 .1 .1 .1 .0)))
-outside b (Stop i) l o h z = answer-past b i l h (station b i) (stop ((station b i) .controller)) (subst StopsSilently (sym (past b i l h)) refl)
-outside b (Save i) l o h z = rw (put-past b i l h)
-outside b (Restore i) l o h z = answer-past b i l h (station b i) (restoreFrom (identity (b .shared) i) ((station b i) .saved) ((station b i) .controller)) (subst (RestoresSilently (identity (b .shared) i)) (sym (past b i l h)) refl)
+    same : (effect (b .shared) e (sentBy b (source e)) (station b (subject e))) .shared ≡ (effect (b .shared) e (sentBy b (source e)) (seen b (subject e))) .shared
+    same = unfold station in rw (past (freshStation []), past (freshStation (replicate limit empty))) (alike (b .shared) e (sentBy b (source e)) [] (replicate limit empty) o h)

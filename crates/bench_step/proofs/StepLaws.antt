@@ -11,20 +11,18 @@ use Rattle.ground.specs.Lists.{put}
 use Rattle.model.specs.Ranges.{isController}
 use Rattle.model.specs.declared.Event.{Event}
 use Rattle.model.specs.declared.Event.the-variants.{Lock, Order, Cast, Deliver, Timeout, Decide, Stop, Save, Restore}
-use Rattle.protocol.specs.declared.Station.{Station}
-use Rattle.protocol.specs.declared.Sent.{Sent}
 use Rattle.protocol.specs.declared.Facts.{Facts}
 use Rattle.protocol.specs.declared.Bench.{Bench}
 use Rattle.protocol.specs.Benches.{station}
 use Rattle.protocol.specs.Events.{concernsOne, subject, source}
-use Rattle.protocol.specs.Questions.{refused, number, firstNo, questionsOf, factsOf, mayOpen, reply}
-use Rattle.protocol.specs.Steps.{perform}
+use Rattle.protocol.specs.Questions.{refused, number, firstNo, questionsOf, reply}
+use Rattle.protocol.specs.Steps.{effect, perform}
 use Rattle.bench_play.specs.declared.Played.{Played}
 use Rattle.bench_play.specs.Plays.{play}
 use Rattle.bench_play.proofs.Replies.{zero-yes, step-accepted, step-refused}
-use Rattle.bench_play.proofs.PlayLaws.{playAt, same-reply, play-answer, play-steps}
+use Rattle.bench_play.proofs.PlayLaws.{playAt, same-reply, play-answer, play-shares, play-steps}
 use Rattle.bench_step.specs.declared.Stepped.{Stepped}
-use Rattle.bench_step.specs.Steps.{stepped}
+use Rattle.bench_step.specs.Steps.{stepped, wholeReply}
 use Rattle.bench_step.proofs.Seen.{seen, seen-sent, seen-station, seen-facts}
 use Rattle.bench_step.proofs.Outside.{outside}
 
@@ -36,18 +34,17 @@ module _ (b : Bench) (e : Event) (q : ℕ) (asked : q ≡ number (reply b e)) wh
   accepts z next p = rw (asked, p, step-accepted b e (sym asked ∙ z))
 
 -- a lock or an order asks nothing of a station
-pub whole-reply : (b : Bench) (e : Event) (s : Station) (sent : Sent) → concernsOne e ≡ false
-    → number (firstNo (questionsOf (factsOf (b .shared) e s sent (mayOpen b)) e)) ≡ number (reply b e)
+pub whole-reply : (b : Bench) (e : Event) → concernsOne e ≡ false → number (wholeReply (b .shared) e) ≡ number (reply b e)
 unfolding reply
-whole-reply b (Lock n f) s sent o = refl
-whole-reply b (Order k) s sent o = refl
-whole-reply b (Cast i willing target) s sent o = absurd (false≢true (sym o))
-whole-reply b (Deliver i j kind) s sent o = absurd (false≢true (sym o))
-whole-reply b (Timeout i) s sent o = absurd (false≢true (sym o))
-whole-reply b (Decide i move) s sent o = absurd (false≢true (sym o))
-whole-reply b (Stop i) s sent o = absurd (false≢true (sym o))
-whole-reply b (Save i) s sent o = absurd (false≢true (sym o))
-whole-reply b (Restore i) s sent o = absurd (false≢true (sym o))
+whole-reply b (Lock n f) o = refl
+whole-reply b (Order k) o = refl
+whole-reply b (Cast i willing target) o = absurd (false≢true (sym o))
+whole-reply b (Deliver i j kind) o = absurd (false≢true (sym o))
+whole-reply b (Timeout i) o = absurd (false≢true (sym o))
+whole-reply b (Decide i move) o = absurd (false≢true (sym o))
+whole-reply b (Stop i) o = absurd (false≢true (sym o))
+whole-reply b (Save i) o = absurd (false≢true (sym o))
+whole-reply b (Restore i) o = absurd (false≢true (sym o))
 
 -- question 7: an accepted event of one controller has a number from 1 on
 first : (n k : ℕ) → isController n k ≡ true → 1 ≤ k
@@ -79,8 +76,12 @@ module _ (b : Bench) (e : Event) (o : concernsOne e ≡ true) (p : Played) (w : 
   pub one-first : p .answer ≡ 0 → 1 ≤ subject e
   one-first z = numbered-from-1 b e o (sym one-answer ∙ z)
 
-  pub one-past : length (b .stations) ≡ limit → p .answer ≡ 0 → limit < subject e → _≡_ {A = Stepped} (record { answer = p .answer; bench = b }) (stepped b e)
-  one-past l z h = accepts b e (p .answer) one-answer z b (sym (outside b e l o h (sym one-answer ∙ z)))
+  pub one-past : length (b .stations) ≡ limit → p .answer ≡ 0 → limit < subject e
+      → _≡_ {A = Stepped} (record { answer = p .answer; bench = record { shared = p .shared; stations = b .stations } }) (stepped b e)
+  one-past l z h =
+      let y : (play (b .shared) e ((seen b (source e)) .sent) (seen b (subject e))) .answer ≡ 0 = ap (λ (x : Played). x .answer) (sym w) ∙ z in
+      let s : p .shared ≡ (effect (b .shared) e ((seen b (source e)) .sent) (seen b (subject e))) .shared = ap (λ (x : Played). x .shared) w ∙ play-shares (b .shared) e _ _ y in
+      accepts b e (p .answer) one-answer z _ (rw (s, seen-sent b (source e)) (sym (outside b e l o h)))
 
   pub one-within : length (b .stations) ≡ limit → p .answer ≡ 0 → subject e ≤ limit
       → _≡_ {A = Stepped} (record { answer = p .answer; bench = record { shared = p .shared; stations = put (b .stations) (subject e) (p .station) } }) (stepped b e)

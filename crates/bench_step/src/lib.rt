@@ -3,6 +3,7 @@ mod orders;
 mod parts;
 mod whole;
 
+pub use orders::open_gates;
 pub use parts::new_bench;
 use protocol::Bench;
 pub use whole::step;

@@ -1,72 +1,34 @@
 // A new order: whether it may be opened, and what it leaves.
+use crate::parts::all_undecided;
 use crate::parts::no_consensus;
 use crate::parts::unsent_all;
 use controller::renew;
-use controller_state::is_running;
-use controller_state::outcome_in;
 use ground::LIMIT;
-use model::is_none;
 use protocol::Bench;
-use protocol::Controller;
 use protocol::Shared;
 use protocol::Station;
 ghost use mathlib.Core.Path.{_≡_};
-ghost use mathlib.Core.Bool.{_&&_};
-ghost use mathlib.Core.List.{[], map};
-ghost use Rattle.ground.specs.Quantify.{allTo};
-ghost use Rattle.ground.specs.Lists.{nth};
+ghost use mathlib.Core.List.{map};
 ghost use Rattle.model.specs.declared.Event.the-variants.{Order};
-ghost use Rattle.protocol.specs.Benches.{freshStation};
-ghost use Rattle.protocol.specs.Questions.{ended, mayOpen};
+ghost use Rattle.protocol.specs.Counts.{openGates};
+ghost use Rattle.protocol.specs.Questions.{mayOpen};
 ghost use Rattle.protocol.specs.Steps.{renewed, perform};
 
-// Does it not run, or has it an outcome?
-fn ended(c: Controller) -> bool
-    ensures { λ r. ⌜ r ≡ ended c ⌝ }
+// How many gates are still open: the number that the bench keeps, for the panel.
+pub fn open_gates(m: Shared) -> u8
+    ensures { λ r. ⌜ r ≡ openGates m ⌝ }
 {
-    let k = c.condition;
-    if is_running(k) {
-        return !is_none(outcome_in(k));
-    }
-    true
+    m.counts.undecided
 }
 
-fn and_ended(c: Controller, all: bool) -> bool
-    ensures { λ r. ⌜ r ≡ (ended c && all) ⌝ }
+// 13: no order yet, or no gate still open.
+pub(crate) fn may_open(m: Shared) -> bool
+    ensures { λ r. ⌜ r ≡ mayOpen m ⌝ }
 {
-    if ended(c) {
-        return all;
-    }
-    false
-}
-
-// Has every running controller of 1..n an outcome? A number above the limit has no controller that could.
-fn all_ended(stations: [Station; LIMIT], n: u8) -> bool
-    ensures { λ r. ⌜ r ≡ allTo n (λ k. ended ((nth (freshStation []) stations k) .controller)) ⌝ }
-{
-    if LIMIT < n as usize {
-        return false;
-    }
-    let mut all = true;
-    let mut k: u8 = 0;
-    while k < n {
-        let at = k as usize;
-        let s = stations[at];
-        all = and_ended(s.controller, all);
-        k += 1;
-    }
-    all
-}
-
-// 13: no order yet, or every running controller has an outcome.
-pub(crate) fn may_open(b: Bench) -> bool
-    ensures { λ r. ⌜ r ≡ mayOpen b ⌝ }
-{
-    if b.shared.order == 0 {
+    if m.order == 0 {
         return true;
     }
-    let stations = b.stations;
-    all_ended(stations, b.shared.n)
+    open_gates(m) == 0
 }
 
 // A station in a new order: old telegrams are gone, the checkpoint remains.
@@ -100,9 +62,11 @@ pub(crate) fn opened(b: Bench, order: u32) -> Bench
 {
     let m = b.shared;
     let consensus = no_consensus();
+    let counts = all_undecided(m.counts.present);
     let shared = Shared {
         order,
         consensus,
+        counts,
         ..m
     };
     let stations = b.stations;

@@ -4,6 +4,7 @@ use ground::LIMIT;
 use model::Outcome;
 use protocol::Bench;
 use protocol::Consensus;
+use protocol::Counts;
 use protocol::Outgoing;
 use protocol::Saved;
 use protocol::Sent;
@@ -15,7 +16,7 @@ ghost use lib.ListN.{replicate};
 ghost use Rattle.ground.specs.Limit.{limit};
 ghost use Rattle.ground.specs.Lists.{nth};
 ghost use Rattle.votes.specs.VoteSets.{empty};
-ghost use Rattle.protocol.specs.Benches.{unsentAll, freshStation, noConsensus, benchOf, newBench};
+ghost use Rattle.protocol.specs.Benches.{unsentAll, freshStation, noConsensus, allUndecided, benchOf, newBench};
 
 // Nothing sent yet.
 pub(crate) fn unsent_all() -> Sent
@@ -54,6 +55,16 @@ pub(crate) fn no_consensus() -> Consensus
     }
 }
 
+// As many undecided as present.
+pub(crate) fn all_undecided(present: u8) -> Counts
+    ensures { λ r. ⌜ r ≡ allUndecided present ⌝ }
+{
+    Counts {
+        undecided: present,
+        present,
+    }
+}
+
 // A bench whose controllers have just begun.
 pub(crate) fn bench_of(locked: bool, n: u8, f: u8) -> Bench
     ensures { λ r. ⌜ r ≡ benchOf locked n f ⌝ }
@@ -65,6 +76,7 @@ pub(crate) fn bench_of(locked: bool, n: u8, f: u8) -> Bench
         f,
         order: 0,
         consensus,
+        counts: all_undecided(n),
     };
     Bench {
         shared,

@@ -15,19 +15,19 @@ use bench_questions::subject;
 use ground::LIMIT;
 use model::Event;
 use protocol::Bench;
+use protocol::Shared;
 ghost use mathlib.Core.Path.{_≡_};
 ghost use mathlib.Core.Bool.{true, false};
 ghost use Rattle.protocol.specs.Events.{concernsOne};
-ghost use Rattle.protocol.specs.Questions.{number, reply};
+ghost use Rattle.protocol.specs.Questions.{number};
 ghost use Rattle.protocol.specs.Steps.{perform};
-ghost use Rattle.bench_step.specs.Steps.{stepped};
+ghost use Rattle.bench_step.specs.Steps.{stepped, wholeReply};
 
-// The answer to a lock or an order. Of a station they ask nothing: any would do.
-fn answer_whole(b: Bench, e: Event) -> u8
-    requires { ⌜ concernsOne e ≡ false ⌝ }
-    ensures { λ r. ⌜ r ≡ number (reply b e) ⌝ }
+// The answer to a lock or an order, from what is shared alone. Of a station they ask nothing: any would do.
+fn answer_whole(m: Shared, e: Event) -> u8
+    ensures { λ r. ⌜ r ≡ number (wholeReply m e) ⌝ }
 {
-    let facts = facts_of(b.shared, e, fresh_station(), unsent_all(), may_open(b));
+    let facts = facts_of(m, e, fresh_station(), unsent_all(), may_open(m));
     question(facts, e)
 }
 
@@ -53,7 +53,7 @@ fn step_whole(b: Bench, e: Event) -> Stepped
     requires { ⌜ concernsOne e ≡ false ⌝ }
     ensures { λ r. ⌜ r ≡ stepped b e ⌝ }
 {
-    let answer = answer_whole(b, e);
+    let answer = answer_whole(b.shared, e);
     if answer != 0 {
         return Stepped { answer, bench: b };
     }
@@ -73,14 +73,15 @@ fn step_one(b: Bench, e: Event) -> Stepped
     if answer != 0 {
         return Stepped { answer, bench: b };
     }
+    let shared = played.shared;
+    let mut stations = b.stations;
     // no lock has more controllers
     if LIMIT < id as usize {
-        return Stepped { answer, bench: b };
+        let bench = Bench { shared, stations };
+        return Stepped { answer, bench };
     }
     let at = (id - 1) as usize;
-    let shared = played.shared;
     let station = played.station;
-    let mut stations = b.stations;
     stations[at] = station;
     let bench = Bench { shared, stations };
     Stepped { answer, bench }

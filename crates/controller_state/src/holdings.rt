@@ -14,7 +14,7 @@ ghost use Rattle.ground.specs.Lists.{put};
 ghost use Rattle.protocol.specs.Controllers.{bump, keepAck, keepHelped};
 
 // One more, as far as a byte counts.
-fn bump(k: u8) -> u8
+pub fn bump(k: u8) -> u8
     ensures { λ r. ⌜ r ≡ bump k ⌝ }
 {
     if k < 255 {

@@ -26,5 +26,6 @@ pub use conditions::is_standby;
 pub use conditions::is_stopped;
 pub use conditions::outcome_in;
 pub use conditions::phase_in;
+pub use holdings::bump;
 pub use holdings::keep_ack;
 pub use holdings::keep_helped;

@@ -6,6 +6,7 @@ pub mod OrderNumbers
 pub mod Reach
 pub mod Sends
 pub mod Counted
+pub mod OpenGates
 pub mod Ranges
 pub mod Reached
 pub mod Theorem

@@ -22,6 +22,7 @@ use Rattle.protocol.specs.declared.Saved.the-variants.{Nothing}
 use Rattle.protocol.specs.declared.Sent.{Sent}
 use Rattle.protocol.specs.declared.Station.{Station}
 use Rattle.protocol.specs.declared.Consensus.{Consensus}
+use Rattle.protocol.specs.declared.Counts.{Counts}
 use Rattle.protocol.specs.declared.Shared.{Shared}
 use Rattle.protocol.specs.declared.Bench.{Bench}
 use Rattle.protocol.specs.Controllers.{inPhase, blank}
@@ -44,10 +45,14 @@ freshStation sets = record { controller = fresh sets; sent = unsentAll; saved = 
 abbrev pub noConsensus : Consensus
 noConsensus = record { «move_proposed» = false; «stay_proposed» = false; decision = None }
 
+-- as many are undecided as are present: no outcome is held
+abbrev pub allUndecided : ℕ → Counts
+allUndecided k = record { undecided = k; present = k }
+
 -- "a new bench, without lock, order, telegrams, words or cards"; and the bench after a lock of n and f
 unfoldable pub benchOf : Bool → ℕ → ℕ → Bench
 benchOf locked n f = record {
-  shared = record { locked = locked; n = n; f = f; order = 0; consensus = noConsensus };
+  shared = record { locked = locked; n = n; f = f; order = 0; consensus = noConsensus; counts = allUndecided n };
   stations = replicate limit (freshStation (replicate limit empty));
 }
 

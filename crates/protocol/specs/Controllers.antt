@@ -1,6 +1,6 @@
 -- What a controller shows, and the small changes that the rules are made of.
 use Prim.Native.Nat.{ℕ, suc}
-use mathlib.Core.Bool.{Bool, true, false, cond, _&&_}
+use mathlib.Core.Bool.{Bool, true, false, cond, _&&_, _||_}
 use mathlib.Core.List.{List}
 use lib.Dec.{ltb}
 use Rattle.ground.specs.Lists.{nth, put}
@@ -34,6 +34,10 @@ abbrev pub isStopped : Condition → Bool
 isStopped (Running p) = false
 isStopped Stopped = true
 isStopped (Standby o) = false
+
+-- running or standing by
+abbrev pub isPresent : Condition → Bool
+isPresent k = isRunning k || isStandby k
 
 abbrev pub phaseIn : Condition → ℕ
 phaseIn (Running p) = p .phase

@@ -4,6 +4,7 @@ pub mod Rules
 pub mod Calls
 pub mod CallLaws
 -- "The parts": the bench; "Questions put to a record or event"; what an event does
+pub mod Counts
 pub mod Benches
 pub mod Events
 pub mod Questions
@@ -17,6 +18,7 @@ pub mod CleanTelegrams
 pub mod NotHollow
 -- what else holds of every list
 pub mod SentOnce
+pub mod OpenCount
 pub mod Reach
 -- "Trials"
 pub mod Rows

@@ -2,18 +2,15 @@
 use mathlib.Core.Bool.{Bool, true, false, not, _&&_, _||_}
 use mathlib.Core.List.{List, [], _∷_}
 use lib.Dec.{eqb, leb, ltb}
-use Rattle.ground.specs.Quantify.{allTo}
 use Rattle.ground.specs.Mask.{has}
 use Rattle.model.specs.Ranges.{sizesInRange, isController, differentControllers, positionInRange}
 use Rattle.model.specs.Routes.{route}
-use Rattle.model.specs.Numbers.{isNone}
 pub use Rattle.model.specs.Questions.{Reply, accepted, refused, number, isAccepted, Question, ask}
 unfoldable pub use Rattle.model.specs.Questions.{unless, firstNo}
 use Rattle.model.specs.declared.Outcome.{Outcome}
 use Rattle.model.specs.declared.Outcome.the-variants.{None, Stay, Move}
 use Rattle.model.specs.declared.Event.{Event}
 use Rattle.model.specs.declared.Event.the-variants.{Lock, Order, Cast, Deliver, Timeout, Decide, Stop, Save, Restore}
-use Rattle.protocol.specs.declared.Controller.{Controller}
 use Rattle.protocol.specs.declared.Saved.{Saved}
 use Rattle.protocol.specs.declared.Saved.the-variants.{Nothing, Newest}
 use Rattle.protocol.specs.declared.Sent.{Sent}
@@ -22,16 +19,15 @@ use Rattle.protocol.specs.declared.Consensus.{Consensus}
 use Rattle.protocol.specs.declared.Shared.{Shared}
 use Rattle.protocol.specs.declared.Bench.{Bench}
 use Rattle.protocol.specs.declared.Facts.{Facts}
-use Rattle.protocol.specs.Controllers.{isRunning, isStandby, isStopped, phaseIn, runs, outcome}
-use Rattle.protocol.specs.Benches.{station, controller, sentBy}
+use Rattle.protocol.specs.Controllers.{isRunning, isStandby, isStopped, phaseIn}
+use Rattle.protocol.specs.Counts.{openGates}
+use Rattle.protocol.specs.Benches.{station, sentBy}
 use Rattle.protocol.specs.Events.{subject, source, receiversIn}
 
--- 13: "Has every running controller an outcome, or has no order been opened yet?"
-unfoldable pub ended : Controller → Bool
-ended c = not (runs c) || not (isNone (outcome c))
-
-abbrev pub mayOpen : Bench → Bool
-mayOpen b = eqb (b .shared .order) 0 || allTo (b .shared .n) (λ k. ended (controller b k))
+-- 13: "Has every running controller an outcome, or has no order been opened yet?" It goes by the number of gates still open that the bench keeps;
+-- OpenCount.antt says that this asks the same of every controller.
+abbrev pub mayOpen : Shared → Bool
+mayOpen m = eqb (m .order) 0 || eqb (openGates m) 0
 
 -- 18: "Was the word put in this order, and no other given?"
 abbrev pub wasProposed : Consensus → Bool → Bool
@@ -73,7 +69,7 @@ abbrev pub factsOf : Shared → Event → Station → Sent → Bool → Facts
 factsOf m e s sent may = record { shared = m; condition = s .controller .condition; «has_checkpoint» = isSaved (s .saved); receivers = receiversIn e sent; «may_open» = may }
 
 abbrev pub questions : Bench → Event → List Question
-questions b e = questionsOf (factsOf (b .shared) e (station b (subject e)) (sentBy b (source e)) (mayOpen b)) e
+questions b e = questionsOf (factsOf (b .shared) e (station b (subject e)) (sentBy b (source e)) (mayOpen (b .shared))) e
 
 -- the bench's answer to an event
 unfoldable pub reply : Bench → Event → Reply

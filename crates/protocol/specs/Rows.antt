@@ -10,6 +10,7 @@ use Rattle.model.specs.declared.Outcome.the-variants.{Stay, Move}
 use Rattle.model.specs.declared.Event.{Event}
 use Rattle.protocol.specs.declared.Bench.{Bench}
 use Rattle.protocol.specs.declared.Consensus.{Consensus}
+use Rattle.protocol.specs.Counts.{openGates}
 use Rattle.protocol.specs.Benches.{newBench, controller}
 use Rattle.protocol.specs.Questions.{number, reply}
 use Rattle.protocol.specs.Steps.{step, run}
@@ -46,6 +47,11 @@ pub record Trial : Type 0 where
 unfoldable pub answersTo : Bench → List Event → List ℕ
 answersTo b [] = []
 answersTo b (e ∷ es) = number (reply b e) ∷ answersTo (step b e) es
+
+-- the count of gates still open after each
+unfoldable pub openAfter : Bench → List Event → List ℕ
+openAfter b [] = []
+openAfter b (e ∷ es) = openGates ((step b e) .shared) ∷ openAfter (step b e) es
 
 -- a value for each of 1 to m
 unfoldable pub each : {A : Type 0} → ℕ → (ℕ → A) → List A

@@ -15,25 +15,30 @@ use Rattle.protocol.specs.declared.Saved.the-variants.{Nothing, Newest}
 use Rattle.protocol.specs.declared.Sent.{Sent}
 use Rattle.protocol.specs.declared.Station.{Station}
 use Rattle.protocol.specs.declared.Consensus.{Consensus}
+use Rattle.protocol.specs.declared.Counts.{Counts}
 use Rattle.protocol.specs.declared.Shared.{Shared}
 use Rattle.protocol.specs.declared.Bench.{Bench}
 use Rattle.protocol.specs.declared.Effect.{Effect}
 use Rattle.protocol.specs.Rules.{passedOver}
 use Rattle.protocol.specs.Calls.{vote, receive, timeout, decide, stop, save, restore, renew}
-use Rattle.protocol.specs.Benches.{benchOf, noConsensus, station, sentBy, identity, message, unsentAll, sentAfter}
+use Rattle.protocol.specs.Counts.{countsAfter}
+use Rattle.protocol.specs.Benches.{benchOf, noConsensus, allUndecided, station, sentBy, identity, message, unsentAll, sentAfter}
 use Rattle.protocol.specs.Events.{subject, source}
 use Rattle.protocol.specs.Questions.{reply, isAccepted}
 
--- **New order**: "Old telegrams, words put and the arbiter's choice are gone; cards remain."
+-- **New order**: "Old telegrams, words put and the arbiter's choice are gone; cards remain." All that are present are undecided.
 unfoldable pub renewed : Station → Station
 renewed s = record { controller = renew (s .controller); sent = unsentAll; saved = s .saved }
 
 unfoldable pub orderOpened : Shared → ℕ → Shared
-orderOpened m o = record { locked = m .locked; n = m .n; f = m .f; order = o; consensus = noConsensus }
+orderOpened m o = record { locked = m .locked; n = m .n; f = m .f; order = o; consensus = noConsensus; counts = allUndecided (m .counts .present) }
 
 -- what is shared, with another state of the consensus: a word put to it, if any; its choice in this order
 abbrev pub withConsensus : Shared → Consensus → Shared
-withConsensus m k = record { locked = m .locked; n = m .n; f = m .f; order = m .order; consensus = k }
+withConsensus m k = record { locked = m .locked; n = m .n; f = m .f; order = m .order; consensus = k; counts = m .counts }
+
+abbrev pub withCounts : Shared → Counts → Shared
+withCounts m k = record { locked = m .locked; n = m .n; f = m .f; order = m .order; consensus = m .consensus; counts = k }
 
 unfoldable pub proposedTo : Shared → Outcome → Shared
 proposedTo m o = withConsensus m (record {
@@ -45,12 +50,15 @@ proposedTo m o = withConsensus m (record {
 unfoldable pub decidedAs : Shared → Bool → Shared
 decidedAs m move = withConsensus m (record { «move_proposed» = m .consensus .«move_proposed»; «stay_proposed» = m .consensus .«stay_proposed»; decision = wordOf move })
 
--- a controller's answer put back: its next state, what it sent, the word it put
+-- a controller's answer put back: its next state, what it sent, the word it put; the counts follow its condition
 unfoldable pub stationAfter : Station → Answer → Station
 stationAfter s a = record { controller = a .controller; sent = sentAfter (s .sent) (a .sends); saved = s .saved }
 
 unfoldable pub answering : Shared → Station → Answer → Effect
-answering m s a = record { shared = proposedTo m (a .proposal); station = stationAfter s a }
+answering m s a = record {
+  shared = withCounts (proposedTo m (a .proposal)) (countsAfter (s .controller .condition) (a .controller .condition) (m .counts));
+  station = stationAfter s a;
+}
 
 -- "the bench keeps the newest [card] per controller"
 unfoldable pub keeping : Station → Saved → Station

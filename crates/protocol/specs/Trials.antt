@@ -4,15 +4,16 @@ use Prim.Native.Nat.{ℕ, _-_, _^_}
 use mathlib.Core.Path.{_≡_}
 use mathlib.Core.Bool.{Bool, true, false, _&&_}
 use mathlib.Core.List.{List, [], _∷_, _++_}
-use lib.Dec.{ltb}
+use lib.Dec.{eqb, ltb}
 use lib.ListN.{replicate}
 use Rattle.model.specs.declared.Kind.the-variants.{Vote, Ack, Help, Helped}
 use Rattle.model.specs.declared.Outcome.{Outcome}
 use Rattle.model.specs.declared.Outcome.the-variants.{None, Stay, Move}
 use Rattle.model.specs.declared.Event.{Event}
 use Rattle.model.specs.declared.Event.the-variants.{Lock, Order, Cast, Deliver, Timeout, Decide, Stop, Save, Restore}
+use Rattle.protocol.specs.Benches.{newBench}
 use Rattle.protocol.specs.CleanOrders.{cleanOrder}
-use Rattle.protocol.specs.Rows.{Line, Inside, Trial, passes}
+use Rattle.protocol.specs.Rows.{Line, Inside, Trial, openAfter, same, passes}
 
 -- a C line, and a T line
 abbrev pub C : ℕ → Outcome → ℕ → Line
@@ -143,5 +144,14 @@ unfoldable pub allPass : List Trial → Bool
 allPass [] = true
 allPass (r ∷ rs) = passes r && allPass rs
 
+-- Document 02, U9: the count of gates still open after each event. Saved, stopped, restored; an order refused by 13; the arbiter's word, given again,
+-- also to the one standing by; and a new order, which that one is in again.
+abbrev pub reopened : List Event
+reopened = Lock 3 1 ∷ Order 1 ∷ Save 2 ∷ Stop 2 ∷ Order 2 ∷ Restore 2 ∷ Cast 1 true 10 ∷ Timeout 1 ∷ Timeout 1 ∷ Decide 1 false ∷ Decide 1 false ∷ Decide 2 false
+    ∷ Stop 3 ∷ Order 2 ∷ []
+
+abbrev pub stillOpen : List ℕ
+stillOpen = 3 ∷ 3 ∷ 3 ∷ 2 ∷ 2 ∷ 2 ∷ 2 ∷ 2 ∷ 2 ∷ 1 ∷ 1 ∷ 1 ∷ 0 ∷ 2 ∷ []
+
 abbrev pub TrialsHold : Type 0
-TrialsHold = allPass table ≡ true
+TrialsHold = (allPass table && same eqb (openAfter newBench reopened) stillOpen) ≡ true

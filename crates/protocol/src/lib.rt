@@ -2,6 +2,7 @@
 ghost use Rattle.protocol.specs.Claim.{Demand3};
 ghost use Rattle.protocol.specs.CleanTelegrams.{CleanTelegrams};
 ghost use Rattle.protocol.specs.NotHollow.{NotHollow};
+ghost use Rattle.protocol.specs.OpenCount.{OpenCount};
 ghost use Rattle.protocol.specs.Reach.{Reach};
 ghost use Rattle.protocol.specs.SentOnce.{SentOnce};
 ghost use Rattle.protocol.specs.Trials.{TrialsHold};
@@ -133,13 +134,21 @@ pub struct Consensus {
     pub decision: Outcome,
 }
 
-// What the controllers of a bench share: their lock, their order (0 before the first), the consensus.
+// How many controllers of the lock are undecided (they run, and have no outcome: document 02's gates still open), and how many are present (they run
+// or stand by). A new order makes all that are present undecided.
+pub struct Counts {
+    pub undecided: u8,
+    pub present: u8,
+}
+
+// What the controllers of a bench share: their lock, their order (0 before the first), the consensus, and how many of them are undecided.
 pub struct Shared {
     pub locked: bool,
     pub n: u8,
     pub f: u8,
     pub order: u32,
     pub consensus: Consensus,
+    pub counts: Counts,
 }
 
 // The bench: what is shared, and up to 16 controllers.
@@ -185,12 +194,18 @@ pub fn sent_once()
     ensures { λ _. ⌜ SentOnce ⌝ }
 {}
 
+// The number of gates still open that the bench keeps is the full count, after every list of events, and question 13 goes by it as document 01 says.
+pub fn open_count()
+    ensures { λ _. ⌜ OpenCount ⌝ }
+{}
+
 // Stages, positions and sheets stay in range, and what is sent or saved passes the questions of its record and is read back as it was.
 pub fn reach()
     ensures { λ _. ⌜ Reach ⌝ }
 {}
 
-// The starred trials of document 01, run by the definitions: every row of the table in specs/Trials.antt shows what the document says of it.
+// The starred trials of document 01, run by the definitions: every row of the table in specs/Trials.antt shows what the document says of it. And the count of
+// gates still open, event by event, on one list.
 pub fn trials_hold()
     ensures { λ _. ⌜ TrialsHold ⌝ }
 {}

@@ -1,16 +1,14 @@
 -- The T line follows the sends: over every list, event by event, the sizes of the sets of receivers grow by what the event sends.
 use Prim.Native.Nat.{ℕ, zero, suc, _+_, _≤_}
 use mathlib.Core.Path.{_≡_, refl, sym, _∙_, ap, subst}
-use mathlib.Core.Bool.{Bool, true, false, cond, false≢true}
+use mathlib.Core.Bool.{Bool, true, false, cond}
 use mathlib.Core.List.{List, [], _∷_, _++_}
 use native.Mathlib.Omega.{arith}
 use mathlib.Core.Logic.{inl, inr}
-use borrow.Author.Tests.{leb-true}
-use Rattle.ground.specs.Tests.{no-both, split, and-l, and-r}
+use Rattle.ground.specs.Tests.{no-both, split}
 use Rattle.ground.specs.Quantify.{countTo}
 use Rattle.ground.specs.Mask.{has}
 use Rattle.ground.specs.MaskLaws.{has-none}
-use Rattle.model.specs.Ranges.{isController}
 use Rattle.model.specs.declared.Kind.{Kind}
 use Rattle.model.specs.declared.Kind.the-variants.{Vote, Ack, Help, Helped}
 use Rattle.model.specs.declared.Event.{Event}
@@ -22,13 +20,13 @@ use Rattle.protocol.specs.declared.Bench.{Bench}
 use Rattle.protocol.specs.Rules.{passedOver}
 use Rattle.protocol.specs.Benches.{newBench, benchOf, unsentAll, station, sentBy, ofKind}
 use Rattle.protocol.specs.Events.{subject, source, concernsOne}
-use Rattle.protocol.specs.Questions.{accepted, isAccepted, firstNo, reply}
+use Rattle.protocol.specs.Questions.{accepted, isAccepted, reply}
 use Rattle.protocol.specs.Steps.{answerTo, perform, step, run, renewed}
 use Rattle.protocol.specs.Display.{sumTo, sentCount, telegrams}
 use Rattle.protocol.specs.Claim.{after, opensOrder, opensAny}
 use Rattle.protocol.specs.SentOnce.{receiversOf, sendOf, receiversAt, sendsAt, countAccepted, countSends, StaysSent, SentOnce}
-use Rattle.protocol.proofs.view.View.{View, openedV, accepts, ask-l, ask-r}
-use Rattle.protocol.proofs.view.Performed.{commitV, chosen, savedV, ruleAnswer, answerV, answered-by-rule, performV, stepV}
+use Rattle.protocol.proofs.view.View.{View, openedV, accepts}
+use Rattle.protocol.proofs.view.Performed.{commitV, chosen, savedV, ruleAnswer, answerV, answered-by-rule, performV, place, stepV}
 use Rattle.protocol.proofs.view.Simulation.{view, reply-sim, step-steps, step-sim}
 use Rattle.protocol.proofs.invariant.Arrivals.{count-zero}
 use Rattle.protocol.proofs.claim.Moments.{accepted-is, lock-refused, run-append, or-false-l, or-false-r}
@@ -98,22 +96,9 @@ module _ (b : Bench) (a : Alive b) where
     counted-by : telegramsV n f (performV n f (view b) e) kind ≡ telegramsV n f (view b) kind + sends (ruleAnswer n f (view b) e) → telegrams (step b e) kind ≡ telegrams b kind + sendsAt b e kind
     counted-by h = after-view ∙ h ∙ by-rule
 
-  -- a delivered telegram has a receiver among the controllers, and so on: the controller that an accepted event concerns is one of them
-  place : (e : Event) → concernsOne e ≡ true → accepts n f (view b) e ≡ true → (1 ≤ subject e) × (subject e ≤ n)
-  unfolding accepts firstNo isController
-  place (Lock x y) c q = absurd (false≢true c)
-  place (Order o) c q = absurd (false≢true c)
-  place (Cast i w t) c q = (leb-true _ _ (search (ask-l, ask-r, and-l, and-r) depth 14), leb-true _ _ (search (ask-l, ask-r, and-l, and-r) depth 14))
-  place (Deliver i j k) c q = (leb-true _ _ (search (ask-l, ask-r, and-l, and-r) depth 14), leb-true _ _ (search (ask-l, ask-r, and-l, and-r) depth 14))
-  place (Timeout i) c q = (leb-true _ _ (search (ask-l, ask-r, and-l, and-r) depth 14), leb-true _ _ (search (ask-l, ask-r, and-l, and-r) depth 14))
-  place (Decide i w) c q = (leb-true _ _ (search (ask-l, ask-r, and-l, and-r) depth 14), leb-true _ _ (search (ask-l, ask-r, and-l, and-r) depth 14))
-  place (Stop i) c q = (leb-true _ _ (search (ask-l, ask-r, and-l, and-r) depth 14), leb-true _ _ (search (ask-l, ask-r, and-l, and-r) depth 14))
-  place (Save i) c q = (leb-true _ _ (search (ask-l, ask-r, and-l, and-r) depth 14), leb-true _ _ (search (ask-l, ask-r, and-l, and-r) depth 14))
-  place (Restore i) c q = (leb-true _ _ (search (ask-l, ask-r, and-l, and-r) depth 14), leb-true _ _ (search (ask-l, ask-r, and-l, and-r) depth 14))
-
   committed : (kind : Kind) (e : Event) → concernsOne e ≡ true → accepts n f (view b) e ≡ true
       → telegramsV n f (commitV (view b) (subject e) (ruleAnswer n f (view b) e)) kind ≡ telegramsV n f (view b) kind + countTo n (has (receiversOf (sendOf kind ((ruleAnswer n f (view b) e) .sends))))
-  committed kind e c q = let p : (1 ≤ subject e) × (subject e ≤ n) = place e c q in commit-counted n f (view b) (subject e) (ruleAnswer n f (view b) e) kind (p .0) (p .1) (rule-new n f (view b) (a .inv) e q)
+  committed kind e c q = let p : (1 ≤ subject e) × (subject e ≤ n) = place n f (view b) e c q in commit-counted n f (view b) (subject e) (ruleAnswer n f (view b) e) kind (p .0) (p .1) (rule-new n f (view b) (a .inv) e q)
 
   step-counted : (kind : Kind) (e : Event) → accepts n f (view b) e ≡ true → telegrams (step b e) kind ≡ countAccepted kind b e (telegrams b kind)
   step-counted kind (Lock x y) q = absurd (no-both _ (reply-sim b (a .sound) (Lock x y) ∙ q) (lock-refused b x y (a .sound .locked)))

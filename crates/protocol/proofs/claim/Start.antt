@@ -177,7 +177,7 @@ module _ (n f : ℕ) (sized : sizesInRange n f ≡ true) where
 
   pub lock-inv : Inv n f (view b₀)
   unfolding view
-  lock-inv = blank-inv n f _ _ _ _ (λ k. freshes true n f k .sent) (nothing .0) (nothing .1) (nothing .2) (λ k. freshes true n f k .ctl)
+  lock-inv = blank-inv n f _ _ _ _ _ (λ k. freshes true n f k .sent) (nothing .0) (nothing .1) (nothing .2) (λ k. freshes true n f k .ctl)
       (λ k x y. let q : length ((station b₀ k) .controller .acks .sets) ≡ limit = room k x (let s : n ≤ limit = ranges n f sized .small in omega arith) in let s : n ≤ limit = ranges n f sized .small in omega arith)
       (λ k. rw (freshes true n f k .saved) (omega arith)) (λ k e. rw (freshes true n f k .saved))
     where

@@ -18,6 +18,7 @@ use Rattle.model.specs.declared.Outcome.the-variants.{None}
 use Rattle.protocol.specs.declared.Condition.{Condition}
 use Rattle.protocol.specs.declared.Condition.the-variants.{Stopped}
 use Rattle.protocol.specs.declared.Controller.{Controller}
+use Rattle.protocol.specs.declared.Counts.{Counts}
 use Rattle.protocol.specs.declared.Saved.{Saved}
 use Rattle.protocol.specs.declared.Saved.the-variants.{Newest}
 use Rattle.protocol.specs.declared.Sent.{Sent}
@@ -140,11 +141,11 @@ unfolding renew cleared
 renew-keeps c = by-cond (RenewKeeps c) (isStopped (c .condition)) (cleared Stopped c) (cleared (inPhase 0 None) c) (λ e. record { acks = refl; position = refl }) (λ e. record { acks = refl; position = refl })
 
 -- a bench on which nothing has happened keeps the invariant, whatever cards of older orders it has
-pub blank-inv : (n f o : ℕ) (w : OrderState) (ctl : ℕ → Controller) (saved : ℕ → Saved) → ((k : ℕ) → w .sent k ≡ unsentAll) → w .consensus .«move_proposed» ≡ false → w .consensus .«stay_proposed» ≡ false → w .consensus .decision ≡ None
+pub blank-inv : (n f o : ℕ) (w : OrderState) (ctl : ℕ → Controller) (saved : ℕ → Saved) (counts : Counts) → ((k : ℕ) → w .sent k ≡ unsentAll) → w .consensus .«move_proposed» ≡ false → w .consensus .«stay_proposed» ≡ false → w .consensus .decision ≡ None
     → ((k : ℕ) → Blank (ctl k)) → ((k : ℕ) → 1 ≤ k → k ≤ n → n ≤ length ((ctl k) .acks .sets)) → ((k : ℕ) → savedOrder (saved k) ≤ o) → ((k : ℕ) → savedOrder (saved k) ≡ o → savedOutcome (saved k) ≡ None)
-    → Inv n f (record { order = o; state = w; ctl = ctl; saved = saved })
+    → Inv n f (record { order = o; state = w; ctl = ctl; saved = saved; counts = counts })
 unfolding unsentAll
-blank-inv n f o w ctl saved ln pm ps ch bl room old fresh = record {
+blank-inv n f o w ctl saved counts ln pm ps ch bl room old fresh = record {
   lines = λ k. rw (ln k) (record { ack-ok = λ e. none k e; help-ok = λ e. none k e; ack-in-help = λ e. none k e; vote-to = λ j e. none j e; ack-to = λ j e. none j e; help-to = λ j e. none j e; helped-to = λ j e. none j e; vote-within = λ j e. none j e; vote-only = λ j e. none j e });
   owns = λ k. let s : phase (ctl k) ≡ 0 = bl k .phase in record {
     phased = record {
@@ -189,5 +190,5 @@ blank-inv n f o w ctl saved ln pm ps ch bl room old fresh = record {
 
 pub opened-inv : (n f : ℕ) (b : View) (o : ℕ) → b .order < o → Inv n f b → Inv n f (openedV n f b o)
 unfolding openedV newOrderState orderOpened renewed
-opened-inv n f b o h inv = blank-inv n f o _ _ (b .saved) (λ k. refl) refl refl refl (λ k. renew-blank (b .ctl k)) (λ k x y. rw (renew-keeps (b .ctl k) .acks) (inv .owns k .counted .room x y))
+opened-inv n f b o h inv = blank-inv n f o _ _ (b .saved) _ (λ k. refl) refl refl refl (λ k. renew-blank (b .ctl k)) (λ k x y. rw (renew-keeps (b .ctl k) .acks) (inv .owns k .counted .room x y))
     (λ k. let q : savedOrder (b .saved k) ≤ b .order = inv .saved-old k in omega arith) (λ k e. let q : savedOrder (b .saved k) ≤ b .order = inv .saved-old k in absurd (omega arith))

@@ -1,12 +1,12 @@
 -- What an accepted event comes down to: behind the questions every call of a controller is its rule. `performV` gives each event's rule, and the
 -- arguments about orders go by its cases.
-use Prim.Native.Nat.{ℕ}
+use Prim.Native.Nat.{ℕ, _≤_}
 use mathlib.Core.Path.{_≡_, refl, _∙_, ap}
 use mathlib.Core.Bool.{Bool, true, false, _&&_, _||_, cond, false≢true}
 use mathlib.Core.List.{List, [], _∷_}
 use lib.Dec.{eqb, leb}
 use mathlib.Core.Logic.{inl, inr}
-use borrow.Author.Tests.{eqb-true}
+use borrow.Author.Tests.{eqb-true, leb-true}
 use Rattle.ground.specs.Tests.{split, and-l, and-r, eqb-same}
 use Rattle.ground.specs.Update.{upd, fun-ext}
 use Rattle.model.specs.Ranges.{sizesInRange, isController}
@@ -24,8 +24,9 @@ use Rattle.protocol.specs.declared.Saved.the-variants.{Newest}
 use Rattle.protocol.specs.Controllers.{runs, standsBy, phase, outcome, cleared, conclude}
 use Rattle.protocol.specs.Rules.{passedOver, becomes, voteRule, firstTimeout, secondTimeout}
 use Rattle.protocol.specs.Calls.{validIdentity, vote, addressed, arrives, receive, timeout, awaitsDecision, decide, stop, checkpointOf, save}
+use Rattle.protocol.specs.Counts.{countsAfter}
 use Rattle.protocol.specs.Benches.{identity, message, ofKind, sentAfter}
-use Rattle.protocol.specs.Events.{subject, source}
+use Rattle.protocol.specs.Events.{concernsOne, subject, source}
 use Rattle.protocol.specs.Questions.{firstNo}
 use Rattle.protocol.specs.Steps.{answerTo, proposedTo, decidedAs, stationAfter, answering, keeping, restoreFrom, effect}
 use Rattle.protocol.proofs.view.View.{View, stationV, putBackV, sharedV, openedV, accepts, playV, ask-l, ask-r}
@@ -44,6 +45,7 @@ commitV v i a = record {
   };
   ctl = upd (v .ctl) i (a .controller);
   saved = v .saved;
+  counts = countsAfter ((v .ctl i) .condition) (a .controller .condition) (v .counts);
 }
 
 -- the consensus has chosen
@@ -56,13 +58,14 @@ chosen v move = record {
   };
   ctl = v .ctl;
   saved = v .saved;
+  counts = v .counts;
 }
 
 -- a checkpoint kept
 unfoldable pub savedV : View → ℕ → Checkpoint → View
-savedV v i card = record { order = v .order; state = v .state; ctl = v .ctl; saved = upd (v .saved) i (Newest card) }
+savedV v i card = record { order = v .order; state = v .state; ctl = v .ctl; saved = upd (v .saved) i (Newest card); counts = v .counts }
 
-upd-id : {A : Type 0} (F : ℕ → A) (i : ℕ) → upd F i (F i) ≡ F
+pub upd-id : {A : Type 0} (F : ℕ → A) (i : ℕ) → upd F i (F i) ≡ F
 unfolding upd
 upd-id F i = fun-ext (upd F i (F i)) F (λ k. elim (split (eqb k i)) [ inl e ↦ rw (e, eqb-true k i e) | inr e ↦ rw e ])
 
@@ -118,6 +121,7 @@ module _ (n f : ℕ) where
           };
           ctl = upd (v .ctl) i (a .controller);
           saved = upd-id (v .saved) i p;
+          counts = countsAfter ((v .ctl i) .condition) (a .controller .condition) (v .counts);
         }
 
     decision-back : (i : ℕ) (w : Bool) (a a′ : Answer) → a ≡ a′ → putBackV v i (answering (decidedAs (sharedV n f v) w) (stationV v i) a) ≡ commitV (chosen v w) i a′
@@ -136,6 +140,7 @@ module _ (n f : ℕ) where
           };
           ctl = upd (v .ctl) i (a .controller);
           saved = upd-id (v .saved) i p;
+          counts = countsAfter ((v .ctl i) .condition) (a .controller .condition) (v .counts);
         }
 
     saved-back : (i : ℕ) → (runs (v .ctl i) || standsBy (v .ctl i)) ≡ true → playV n f v (Save i) ≡ savedV v i (checkpointAt v i)
@@ -145,6 +150,7 @@ module _ (n f : ℕ) where
       state = record { sent = upd-id (v .state .sent) i t; consensus = v .state .consensus };
       ctl = upd-id (v .ctl) i t;
       saved = upd (v .saved) i (save-is t);
+      counts = v .counts;
     }
       where
         save-is : save (identityV v i) (v .ctl i) ≡ Newest (checkpointAt v i)
@@ -218,6 +224,19 @@ module _ (n f : ℕ) where
   performed z v (Stop i) q = answer-back v i _ _ (answered-by-rule z v (Stop i) q)
   performed z v (Save i) q = saved-back v i (unfold accepts firstNo in search (ask-l, ask-r) depth 14)
   performed z v (Restore i) q = answer-back v i _ _ (answered-by-rule z v (Restore i) q)
+
+  -- a delivered telegram has a receiver among the controllers, and so on: the controller that an accepted event concerns is one of them
+  pub place : (v : View) (e : Event) → concernsOne e ≡ true → accepts n f v e ≡ true → (1 ≤ subject e) × (subject e ≤ n)
+  unfolding accepts firstNo isController
+  place v (Lock x y) c q = absurd (false≢true c)
+  place v (Order o) c q = absurd (false≢true c)
+  place v (Cast i w t) c q = (leb-true _ _ (search (ask-l, ask-r, and-l, and-r) depth 14), leb-true _ _ (search (ask-l, ask-r, and-l, and-r) depth 14))
+  place v (Deliver i j k) c q = (leb-true _ _ (search (ask-l, ask-r, and-l, and-r) depth 14), leb-true _ _ (search (ask-l, ask-r, and-l, and-r) depth 14))
+  place v (Timeout i) c q = (leb-true _ _ (search (ask-l, ask-r, and-l, and-r) depth 14), leb-true _ _ (search (ask-l, ask-r, and-l, and-r) depth 14))
+  place v (Decide i w) c q = (leb-true _ _ (search (ask-l, ask-r, and-l, and-r) depth 14), leb-true _ _ (search (ask-l, ask-r, and-l, and-r) depth 14))
+  place v (Stop i) c q = (leb-true _ _ (search (ask-l, ask-r, and-l, and-r) depth 14), leb-true _ _ (search (ask-l, ask-r, and-l, and-r) depth 14))
+  place v (Save i) c q = (leb-true _ _ (search (ask-l, ask-r, and-l, and-r) depth 14), leb-true _ _ (search (ask-l, ask-r, and-l, and-r) depth 14))
+  place v (Restore i) c q = (leb-true _ _ (search (ask-l, ask-r, and-l, and-r) depth 14), leb-true _ _ (search (ask-l, ask-r, and-l, and-r) depth 14))
 
   unfoldable pub stepV : View → Event → View
   stepV v e = cond (accepts n f v e) (performV v e) v

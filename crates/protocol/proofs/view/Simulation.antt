@@ -34,6 +34,7 @@ view b = record {
   state = record { sent = λ k. sentBy b k; consensus = b .shared .consensus };
   ctl = λ k. controller b k;
   saved = λ k. (station b k) .saved;
+  counts = b .shared .counts;
 }
 
 -- a part of a function changed at one place
@@ -54,6 +55,7 @@ view-put-back b i lo hi t = λ p. record {
   state = record { sent = field b i lo hi (λ s. s .sent) (t .station) p; consensus = t .shared .consensus };
   ctl = field b i lo hi (λ s. s .controller) (t .station) p;
   saved = field b i lo hi (λ s. s .saved) (t .station) p;
+  counts = t .shared .counts;
 }
 
 renewed-fresh : renewed (freshStation []) ≡ freshStation []
@@ -106,6 +108,7 @@ module _ (b : Bench) (ok : Sound b) where
     state = record { sent = renewed-at (λ s. s .sent) b t; consensus = (orderOpened (b .shared) o) .consensus };
     ctl = renewed-at (λ s. s .controller) b t;
     saved = renewed-at (λ s. s .saved) b t;
+    counts = (orderOpened (b .shared) o) .counts;
   }
 
   -- an event of one controller

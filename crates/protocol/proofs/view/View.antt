@@ -4,9 +4,7 @@
 use Prim.Native.Nat.{ℕ}
 use mathlib.Core.Path.{_≡_, refl, sym}
 use native.Mathlib.Omega.{arith}
-use mathlib.Core.Bool.{Bool, true, false, _||_}
-use lib.Dec.{eqb}
-use Rattle.ground.specs.Quantify.{allTo}
+use mathlib.Core.Bool.{Bool, true, false}
 use Rattle.ground.specs.Update.{upd}
 use Rattle.model.specs.declared.Outcome.{Outcome}
 use Rattle.model.specs.declared.Outcome.the-variants.{None}
@@ -18,11 +16,12 @@ use Rattle.protocol.specs.declared.Saved.the-variants.{Nothing, Newest}
 use Rattle.protocol.specs.declared.Sent.{Sent}
 use Rattle.protocol.specs.declared.Station.{Station}
 use Rattle.protocol.specs.declared.Consensus.{Consensus}
+use Rattle.protocol.specs.declared.Counts.{Counts}
 use Rattle.protocol.specs.declared.Shared.{Shared}
 use Rattle.protocol.specs.declared.Effect.{Effect}
 use Rattle.protocol.specs.Benches.{unsentAll, noConsensus}
 use Rattle.protocol.specs.Events.{subject, source}
-use Rattle.protocol.specs.Questions.{Reply, isAccepted, unless, firstNo, ended, factsOf, questionsOf}
+use Rattle.protocol.specs.Questions.{Reply, isAccepted, unless, firstNo, mayOpen, factsOf, questionsOf}
 use Rattle.protocol.specs.Steps.{renewed, orderOpened, effect}
 
 -- what one order has brought: what was sent, the consensus
@@ -35,6 +34,7 @@ pub record View : Type 0 where
   pub state : OrderState
   pub ctl : ℕ → Controller
   pub saved : ℕ → Saved
+  pub counts : Counts
 
 unfoldable pub newOrderState : OrderState
 newOrderState = record { sent = λ k. unsentAll; consensus = noConsensus }
@@ -58,17 +58,15 @@ putBackV v i t = record {
   state = record { sent = upd (v .state .sent) i (t .station .sent); consensus = t .shared .consensus };
   ctl = upd (v .ctl) i (t .station .controller);
   saved = upd (v .saved) i (t .station .saved);
+  counts = t .shared .counts;
 }
 
 module _ (n f : ℕ) where
   abbrev pub sharedV : View → Shared
-  sharedV v = record { locked = true; n = n; f = f; order = v .order; consensus = v .state .consensus }
-
-  abbrev pub mayOpenV : View → Bool
-  mayOpenV v = eqb (v .order) 0 || allTo n (λ k. ended (v .ctl k))
+  sharedV v = record { locked = true; n = n; f = f; order = v .order; consensus = v .state .consensus; counts = v .counts }
 
   unfoldable pub accepts : View → Event → Bool
-  accepts v e = isAccepted (firstNo (questionsOf (factsOf (sharedV v) e (stationV v (subject e)) (v .state .sent (source e)) (mayOpenV v)) e))
+  accepts v e = isAccepted (firstNo (questionsOf (factsOf (sharedV v) e (stationV v (subject e)) (v .state .sent (source e)) (mayOpen (sharedV v))) e))
 
   -- a new order
   unfoldable pub openedV : View → ℕ → View
@@ -77,6 +75,7 @@ module _ (n f : ℕ) where
     state = record { sent = λ k. (renewed (stationV v k)) .sent; consensus = (orderOpened (sharedV v) o) .consensus };
     ctl = λ k. (renewed (stationV v k)) .controller;
     saved = λ k. (renewed (stationV v k)) .saved;
+    counts = (orderOpened (sharedV v) o) .counts;
   }
 
   -- what an accepted event does

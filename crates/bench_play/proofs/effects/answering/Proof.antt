@@ -1,8 +1,10 @@
 use Rattle.protocol.specs.Steps.{answering}
-use borrow.Author.Tests.{le-leb, lt-leb, lt-ltb, le-ltb, eq-eqb, ne-eqb}
 use borrow.Author.Needs.{needs}
 use Rattle.bench_play.proofs.effects.answering.Statement.{statement}
 use Rattle.bench_play.proofs.effects.answering.Tie as tie
+
+counts-after-requires : tie.Need-counts-after-requires
+counts-after-requires c κs = search needs
 
 proposed-to-requires : tie.Need-proposed-to-requires
 proposed-to-requires c κs = search needs
@@ -12,7 +14,7 @@ station-after-requires c κs = search needs
 
 returns : tie.Need-returns
 unfolding answering
-returns c = simp (c .before .proposed-to .ensures, c .station-after .ensures)
+returns c = simp (c .before .before .before .counts-after .ensures, c .before .before .proposed-to .ensures, c .station-after .ensures)
 
 pub answering-spec : {M : Type 1} → statement M
-answering-spec = tie.close (tie.spec proposed-to-requires station-after-requires returns)
+answering-spec = tie.close (tie.spec counts-after-requires proposed-to-requires station-after-requires returns)

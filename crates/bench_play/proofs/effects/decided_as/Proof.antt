@@ -9,7 +9,7 @@ word-of-requires c κs = search needs
 
 returns : tie.Need-returns
 unfolding decidedAs
-returns c = simp (c .word-of .ensures)
+returns c = simp (c .before .word-of .ensures)
 
 pub decided-as-spec : {M : Type 1} → statement M
 decided-as-spec = tie.close (tie.spec word-of-requires returns)

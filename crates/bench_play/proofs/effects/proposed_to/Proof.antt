@@ -12,7 +12,7 @@ is-stay-requires c κs = search needs
 
 returns : tie.Need-returns
 unfolding proposedTo
-returns c = simp (c .before .before .before .is-move .ensures, c .before .is-stay .ensures)
+returns c = simp (c .before .before .before .before .is-move .ensures, c .before .before .is-stay .ensures)
 
 pub proposed-to-spec : {M : Type 1} → statement M
 proposed-to-spec = tie.close (tie.spec is-move-requires is-stay-requires returns)

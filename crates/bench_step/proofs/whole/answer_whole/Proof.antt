@@ -1,4 +1,3 @@
-use Rattle.bench_step.proofs.StepLaws.{whole-reply}
 use borrow.Author.Needs.{needs}
 use Rattle.bench_step.proofs.whole.answer_whole.Statement.{statement}
 use Rattle.bench_step.proofs.whole.answer_whole.Tie as tie
@@ -19,10 +18,7 @@ question-requires : tie.Need-question-requires
 question-requires c κs = search needs
 
 returns : tie.Need-returns
-returns c =
-    let s = c .before .before .before .before .before in
-    rw (c .question .ensures, c .before .facts-of .ensures, c .before .before .may-open .ensures)
-    (whole-reply (s .args .b) (s .args .e) (c .before .before .before .before .fresh-station .result) (c .before .before .before .unsent-all .result) (s .pre))
+returns c = rw (c .question .ensures, c .before .facts-of .ensures, c .before .before .may-open .ensures, c .before .before .before .unsent-all .ensures, c .before .before .before .before .fresh-station .ensures)
 
 pub answer-whole-spec : {M : Type 1} → statement M
 answer-whole-spec =

@@ -1,4 +1,4 @@
--- An event of one controller by `play`; past the last station it changes nothing (Outside), and otherwise one element of the array.
+-- An event of one controller by `play`; past the last station it changes none (Outside), and otherwise one element of the array.
 use mathlib.Core.Path.{_≡_}
 use lib.ListN.{length, length-map}
 use Rattle.ground.specs.Limit.{limit}
@@ -44,15 +44,15 @@ cast-if2 c = search needs
 
 returns-2 : tie.Need-returns-2
 returns-2 c =
-    let s = c .before .before .before .before .before .before .before in
-    let h = rw (c .before .before .before .before .before .before .subject .ensures) at (c .if2 .taken) in
-    one-past (s .args .b) (s .args .e) (s .pre) _ (played (c .before .before)) (sixteen s) (c .before .if1 .left) h
+    let s = c .before .before .before .before .before .before .before .before .before in
+    let h = rw (c .before .before .before .before .before .before .before .before .subject .ensures) at (c .if2 .taken) in
+    one-past (s .args .b) (s .args .e) (s .pre) _ (played (c .before .before .before .before)) (sixteen s) (c .before .before .before .if1 .left) h
 
 sub-at : tie.Need-sub-at
 sub-at c =
-    let s = c .before .before .before .before .before .before .before in
-    let h = one-first (s .args .b) (s .args .e) (s .pre) _ (played (c .before .before)) (c .before .if1 .left) in
-    rw (c .before .before .before .before .before .before .subject .ensures) h
+    let s = c .before .before .before .before .before .before .before .before .before in
+    let h = one-first (s .args .b) (s .args .e) (s .pre) _ (played (c .before .before .before .before)) (c .before .before .before .if1 .left) in
+    rw (c .before .before .before .before .before .before .before .before .subject .ensures) h
 
 cast-at : tie.Need-cast-at
 cast-at c = search needs
@@ -68,7 +68,7 @@ unfolding put
 returns-3 c =
     let s = c .before .before .before .before .before .before .before .before .before .before in
     let i = c .before .before .before .before .before .before .before .before .before .subject .ensures in
-    let h = rw i at (c .before .before .before .if2 .left) in
+    let h = rw i at (c .before .if2 .left) in
     rw i (one-within (s .args .b) (s .args .e) (s .pre) _ (played (c .before .before .before .before .before)) (sixteen s) (c .before .before .before .before .if1 .left) h)
 
 pub step-one-spec : {M : Type 1} → statement M

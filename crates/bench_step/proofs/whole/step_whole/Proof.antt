@@ -1,4 +1,5 @@
-use Rattle.bench_step.proofs.StepLaws.{refuses, accepts}
+use mathlib.Core.Path.{_∙_}
+use Rattle.bench_step.proofs.StepLaws.{refuses, accepts, whole-reply}
 use borrow.Author.Needs.{needs}
 use Rattle.bench_step.proofs.whole.step_whole.Statement.{statement}
 use Rattle.bench_step.proofs.whole.step_whole.Tie as tie
@@ -10,7 +11,7 @@ returns : tie.Need-returns
 returns c =
     let a = c .before .before .args in
     let q = c .before .answer-whole in
-    refuses (a .b) (a .e) (q .result) (q .ensures) (c .if1 .taken)
+    refuses (a .b) (a .e) (q .result) (q .ensures ∙ whole-reply (a .b) (a .e) (c .before .before .pre)) (c .if1 .taken)
 
 perform-whole-requires : tie.Need-perform-whole-requires
 perform-whole-requires c κs = search needs
@@ -19,7 +20,7 @@ returns-2 : tie.Need-returns-2
 returns-2 c =
     let a = c .before .before .before .args in
     let q = c .before .before .answer-whole in
-    accepts (a .b) (a .e) (q .result) (q .ensures) (c .before .if1 .left) (c .perform-whole .result) (c .perform-whole .ensures)
+    accepts (a .b) (a .e) (q .result) (q .ensures ∙ whole-reply (a .b) (a .e) (c .before .before .before .pre)) (c .before .if1 .left) (c .perform-whole .result) (c .perform-whole .ensures)
 
 pub step-whole-spec : {M : Type 1} → statement M
 step-whole-spec =
