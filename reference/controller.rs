@@ -121,6 +121,14 @@ impl Controller {
         matches!(&self.condition, Condition::Running(participant) if participant.is_waiting())
     }
 
+    /// The callers whose help calls are kept: "A stop loses kept calls."
+    pub fn kept_calls(&self) -> Members {
+        match &self.condition {
+            Condition::Running(participant) => participant.kept(),
+            Condition::Stopped | Condition::Standby(_) => Members::NONE,
+        }
+    }
+
     pub fn is_running(&self) -> bool {
         matches!(self.condition, Condition::Running(_))
     }

@@ -6,6 +6,8 @@ mod claims;
 mod controller;
 #[path = "trials/generator.rs"]
 mod generator;
+#[path = "trials/kept.rs"]
+mod kept;
 #[path = "trials/listed.rs"]
 mod listed;
 #[path = "trials/questions.rs"]

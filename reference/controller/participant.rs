@@ -1,4 +1,4 @@
-//! A running controller within one order: document 01, "A controller's rules".
+//! A running controller within one order: document 01, "A controller's rules", with document 02, U4.
 
 use super::Answer;
 use crate::group::{Group, MAX_CONTROLLERS};
@@ -25,7 +25,8 @@ pub struct Participant {
     /// Whose help answers are counted, and their join.
     helped_by: Members,
     helped_votes: VoteSet,
-    /// The callers that got their help answer.
+    /// The callers to be answered at the second timeout, and those that got their help answer.
+    kept: Members,
     answered: Members,
 }
 
@@ -43,6 +44,7 @@ impl Participant {
             waiting: false,
             helped_by: Members::NONE,
             helped_votes: VoteSet::EMPTY,
+            kept: Members::NONE,
             answered: Members::NONE,
         }
     }
@@ -61,6 +63,11 @@ impl Participant {
 
     pub fn is_waiting(&self) -> bool {
         self.waiting
+    }
+
+    /// The callers whose help calls are kept.
+    pub fn kept(&self) -> Members {
+        self.kept
     }
 
     /// "Vote (stage 0): takes willing or not, and a target position."
@@ -99,8 +106,16 @@ impl Participant {
         self.send(MessageKind::Ack, self.votes)
     }
 
-    /// "Bell at stage 2 (the second bell; f + 2 to n have just this one): to stage 3."
+    /// A kept call is "answered at the second bell, after its own calls, in rising order of caller", whatever comes of it.
     fn second_timeout(&mut self) -> Answer {
+        let answer = self.leave_phase_2();
+        self.answered = self.kept;
+        self.kept = Members::NONE;
+        answer.sending(MessageKind::Helped, self.answered, self.help_votes)
+    }
+
+    /// "Bell at stage 2 (the second bell; f + 2 to n have just this one): to stage 3."
+    fn leave_phase_2(&mut self) -> Answer {
         self.phase = 3;
         let held = self.joined_acks();
         // "The help sheet is the join of own sheet and acknowledgements held, then frozen."
@@ -165,12 +180,17 @@ impl Participant {
         Answer::taken().proposing(self.proposal_when_enough())
     }
 
-    /// "Help call arrives: at stage 3 the help sheet is sent back, once per caller. Before stage 3 it is passed over."
+    /// "Help call arrives: at stage 3 the help sheet is sent back, once per caller." "a call that comes before stage 3 is
+    /// kept, one per caller".
     fn receive_help(&mut self, caller: u8) -> Answer {
-        if self.phase < 3 || self.answered.contains(caller) {
+        let receiver = Members::only(caller);
+        if self.kept.contains(caller) || self.answered.contains(caller) {
             return Answer::passed_over();
         }
-        let receiver = Members::only(caller);
+        if self.phase < 3 {
+            self.kept = self.kept.union(receiver);
+            return Answer::taken();
+        }
         self.answered = self.answered.union(receiver);
         Answer::taken().sending(MessageKind::Helped, receiver, self.help_votes)
     }

@@ -58,7 +58,7 @@ fn end(player: &mut Player) {
             }
         }
     }
-    // Answers first need the calls to arrive after the called one's own second timeout.
+    // Calls that came early are answered by now; the others are delivered first.
     if player.verdict().is_none() {
         for kind in [MessageKind::Help, MessageKind::Helped] {
             for place in player.places(|message| message.kind == kind) {

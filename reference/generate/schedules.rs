@@ -7,9 +7,25 @@ use crate::group::MAX_CONTROLLERS;
 use crate::records::event::Event;
 use crate::rng::Rng;
 use crate::text::MAX_SCHEDULE;
+use std::io;
 
 /// The most events of a schedule.
 const MAX_EVENTS: usize = MAX_SCHEDULE / Event::LENGTH;
+
+/// The schedules of a file, each after its length in four bytes.
+pub fn split(file: &[u8]) -> io::Result<Vec<&[u8]>> {
+    let mut schedules = Vec::new();
+    let mut rest = file;
+    while !rest.is_empty() {
+        let cut = || io::Error::other("the file ends within a schedule");
+        let (length, after) = rest.split_first_chunk::<4>().ok_or_else(cut)?;
+        let length = u32::from_be_bytes(*length) as usize;
+        let (schedule, after) = after.split_at_checked(length).ok_or_else(cut)?;
+        schedules.push(schedule);
+        rest = after;
+    }
+    Ok(schedules)
+}
 
 /// The schedule with that place in a set: each special form is among the first, and now and then later.
 pub fn schedule(rng: &mut Rng, place: usize) -> Vec<u8> {

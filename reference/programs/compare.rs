@@ -1,6 +1,7 @@
 //! Compares a bench program with the reference: compare SCHEDULES COMMAND...
 //! SCHEDULES is a file of schedules, each after its length in four bytes; COMMAND runs the program under test.
 
+use reference::generate::schedules;
 use reference::process::output_of;
 use reference::tally::Tally;
 use reference::text::bench_report;
@@ -25,7 +26,7 @@ fn compare() -> io::Result<()> {
     let file = fs::read(path)?;
     let mut tally = Tally::default();
     let mut count = 0;
-    for schedule in split(&file)? {
+    for schedule in schedules::split(&file)? {
         compare_one(schedule, command)
             .map_err(|error| io::Error::other(format!("schedule {count}: {error}")))?;
         tally.add(schedule);
@@ -46,21 +47,6 @@ fn compare() -> io::Result<()> {
     } else {
         Err(io::Error::other(format!("never met: {}", unmet.join(", "))))
     }
-}
-
-/// The schedules of a file.
-fn split(file: &[u8]) -> io::Result<Vec<&[u8]>> {
-    let mut schedules = Vec::new();
-    let mut rest = file;
-    while !rest.is_empty() {
-        let cut = || io::Error::other("the file ends within a schedule");
-        let (length, after) = rest.split_first_chunk::<4>().ok_or_else(cut)?;
-        let length = u32::from_be_bytes(*length) as usize;
-        let (schedule, after) = after.split_at_checked(length).ok_or_else(cut)?;
-        schedules.push(schedule);
-        rest = after;
-    }
-    Ok(schedules)
 }
 
 fn compare_one(schedule: &[u8], command: &[String]) -> io::Result<()> {

@@ -2,6 +2,7 @@
 
 use crate::support::*;
 use reference::bench::Bench;
+use reference::members::Members;
 use reference::text::{bench_report, bench_state};
 
 /// n = 3, f = 1: 2 and 3 wait for help with their own votes alone.
@@ -34,8 +35,9 @@ fn waiting_one_with_the_word_goes_on_answering() {
     assert_eq!(proposals(&bench), [STAY, STAY]);
 }
 
+/// Document 02, U4: kept at stage 0, come again at stages 1 and 2, answered at the bell, and not again.
 #[test]
-fn help_call_before_phase_3_is_passed_over_and_may_come_again() {
+fn help_call_before_phase_3_is_kept_and_answered_once() {
     let mut bench = bench_after(&[
         lock(3, 1),
         order(1),
@@ -43,12 +45,19 @@ fn help_call_before_phase_3_is_passed_over_and_may_come_again() {
         timeout(3),
         deliver(HELP, 3, 2),
         vote(2, true, 0),
-        timeout(2),
         deliver(HELP, 3, 2),
         timeout(2),
+        deliver(HELP, 3, 2),
     ]);
     refuse_all(&mut bench, 17, &[deliver(HELPED, 2, 3)]);
-    accept_all(&mut bench, &[deliver(HELP, 3, 2), deliver(HELP, 3, 2)]);
+    assert_eq!(
+        bench.lock().expect("a lock").controller(2).kept_calls(),
+        Members::only(3)
+    );
+    accept_all(
+        &mut bench,
+        &[timeout(2), deliver(HELP, 3, 2), deliver(HELP, 3, 2)],
+    );
     // 2 and 3 vote to 1 each, 2 acknowledges to 1, both call, 2 answers once.
     assert_eq!(
         bench_state(&bench),

@@ -2,6 +2,7 @@
 // condition changes nothing, and the answer says so.
 mod calls;
 mod lifecycle;
+mod sequence;
 
 pub use calls::receive;
 pub use calls::timeout;
@@ -11,3 +12,4 @@ pub use lifecycle::renew;
 pub use lifecycle::restore;
 pub use lifecycle::save;
 pub use lifecycle::stop;
+pub use sequence::nth_message;

@@ -1,5 +1,5 @@
 // What arrives: votes, acknowledgements, help calls and help answers.
-use controller_state::answered;
+use controller_state::add_caller;
 use controller_state::becomes;
 use controller_state::helps;
 use controller_state::keep_ack;
@@ -20,7 +20,7 @@ ghost use mathlib.Core.Path.{_≡_};
 ghost use mathlib.Core.Bool.{_||_};
 ghost use lib.Dec.{leb};
 ghost use Rattle.protocol.specs.Controllers.{phase};
-ghost use Rattle.protocol.specs.Rules.{voteArrives, ackArrives, helpedArrives, answersCall, helpArrives};
+ghost use Rattle.protocol.specs.Rules.{voteArrives, ackArrives, helpedArrives, keepsCall, answersCall, helpArrives};
 ghost use Rattle.protocol.specs.Calls.{arrives};
 
 // A vote: at stage 0 or 1 it goes on the sheet.
@@ -71,25 +71,32 @@ fn helped_arrives(n: u8, f: u8, j: u8, s: VoteSet, c: Controller) -> Answer
     passed_over(c)
 }
 
+// A help call is kept, to be answered at the second timeout.
+fn keeps_call(j: u8, c: Controller) -> Answer
+    ensures { λ r. ⌜ r ≡ keepsCall j c ⌝ }
+{
+    becomes(add_caller(c, j))
+}
+
 // The help sheet is sent back to a caller.
 fn answers_call(j: u8, c: Controller) -> Answer
     ensures { λ r. ⌜ r ≡ answersCall j c ⌝ }
 {
     let votes = c.help.votes;
     let to = insert(0, j);
-    sending(answered(c, j), helps(Send::Nothing, Send::To(to, votes)))
+    sending(add_caller(c, j), helps(Send::Nothing, Send::To(to, votes)))
 }
 
-// A help call: at stage 3 it is answered, once per caller.
+// A help call: before stage 3 it is kept, from then on answered, once per caller.
 fn help_arrives(j: u8, c: Controller) -> Answer
     ensures { λ r. ⌜ r ≡ helpArrives j c ⌝ }
 {
-    let condition = c.condition;
-    if phase_in(condition) != 3 {
+    if has(c.help.callers, j) {
         return passed_over(c);
     }
-    if has(c.help.answered, j) {
-        return passed_over(c);
+    let condition = c.condition;
+    if phase_in(condition) <= 2 {
+        return keeps_call(j, c);
     }
     answers_call(j, c)
 }

@@ -22,20 +22,22 @@ use votes::join;
 ghost use mathlib.Core.Path.{_≡_};
 ghost use Rattle.protocol.specs.Rules.{ready, callsHelp, secondTimeout};
 
-// The help sheet is ready from now on for those who call.
+// The help sheet goes to those whose calls were kept, and is ready from now on for those who call.
 fn ready(s: VoteSet, next: Controller) -> Answer
     ensures { λ r. ⌜ r ≡ ready s next ⌝ }
 {
-    sending(next, helps(Send::Nothing, Send::To(0, s)))
+    let callers = next.help.callers;
+    sending(next, helps(Send::Nothing, Send::To(callers, s)))
 }
 
-// It waits, calls for help, and counts its own help sheet as an answer.
+// It waits, calls for help, counts its own help sheet as an answer, and answers the calls kept.
 fn calls_help(n: u8, f: u8, i: u8, s: VoteSet, c: Controller) -> Answer
     ensures { λ r. ⌜ r ≡ callsHelp n f i s c ⌝ }
 {
+    let callers = c.help.callers;
     let next = keep_helped(await_help(c), i, s);
     let to = recipients(n, f, Kind::Help, i);
-    sending(next, helps(Send::To(to, empty_set()), Send::To(0, s)))
+    sending(next, helps(Send::To(to, empty_set()), Send::To(callers, s)))
 }
 
 // To stage 3 with the help sheet frozen: the outcome, or else a word put, or else it waits.

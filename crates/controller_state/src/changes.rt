@@ -25,7 +25,7 @@ ghost use lib.ListN.{replicate};
 ghost use Rattle.ground.specs.Limit.{limit};
 ghost use Rattle.votes.specs.VoteSets.{empty};
 ghost use Rattle.protocol.specs.Benches.{fresh};
-ghost use Rattle.protocol.specs.Controllers.{blank, cleared, advance, learn, aim, freeze, answered, await, propose, moves, conclude};
+ghost use Rattle.protocol.specs.Controllers.{blank, cleared, advance, learn, aim, freeze, addCaller, await, propose, moves, conclude};
 
 // A controller of this condition that holds nothing. What stands in its list of acknowledgements no longer counts.
 fn blank(condition: Condition, sets: [VoteSet; LIMIT], position: u32) -> Controller
@@ -47,7 +47,7 @@ fn blank(condition: Condition, sets: [VoteSet; LIMIT], position: u32) -> Control
         help: HelpState {
             waiting: false,
             votes: empty_set(),
-            answered: 0,
+            callers: 0,
         },
         proposal: Outcome::None,
         gate: Gate {
@@ -101,27 +101,23 @@ pub fn aim(c: Controller, target: u32) -> Controller
     next
 }
 
-// The help sheet is frozen; nobody was answered yet.
+// The help sheet is frozen; the calls kept remain, to be answered with it.
 pub fn freeze(c: Controller, votes: VoteSet) -> Controller
     ensures { λ r. ⌜ r ≡ freeze c votes ⌝ }
 {
-    let help = HelpState {
-        waiting: c.help.waiting,
-        votes,
-        answered: 0,
-    };
-    let mut next = c;
-    next.help = help;
-    next
+    Controller {
+        help: HelpState { votes, ..c.help },
+        ..c
+    }
 }
 
-// A caller was answered.
-pub fn answered(c: Controller, j: u8) -> Controller
-    ensures { λ r. ⌜ r ≡ answered c j ⌝ }
+// A help call is taken: to be kept, or answered at once.
+pub fn add_caller(c: Controller, j: u8) -> Controller
+    ensures { λ r. ⌜ r ≡ addCaller c j ⌝ }
 {
-    let callers = insert(c.help.answered, j);
+    let callers = insert(c.help.callers, j);
     let mut next = c;
-    next.help.answered = callers;
+    next.help.callers = callers;
     next
 }
 

@@ -61,7 +61,7 @@ phase c = phaseIn (c .condition)
 abbrev pub outcome : Controller → Outcome
 outcome c = outcomeIn (c .condition)
 
--- has it an acknowledgement of j; that acknowledgement; has it a help answer of j
+-- has it an acknowledgement of j; that acknowledgement; has it a help answer of j; has it taken a help call of j
 abbrev pub hasAck : Controller → ℕ → Bool
 hasAck c j = has (c .acks .from) j
 
@@ -70,6 +70,9 @@ ackOf c j = nth empty (c .acks .sets) j
 
 abbrev pub hasHelped : Controller → ℕ → Bool
 hasHelped c j = has (c .helped .from) j
+
+abbrev pub hasCalled : Controller → ℕ → Bool
+hasCalled c j = has (c .help .callers) j
 
 abbrev pub inPhase : ℕ → Outcome → Condition
 inPhase s o = Running (record { phase = s; outcome = o })
@@ -104,7 +107,7 @@ abbrev pub noHelped : HelpAnswers
 noHelped = record { votes = empty; from = 0; «cnt_help» = record { 0 = 0 } }
 
 abbrev pub noHelp : HelpState
-noHelp = record { waiting = false; votes = empty; answered = 0 }
+noHelp = record { waiting = false; votes = empty; callers = 0 }
 
 -- a controller of this condition that holds nothing, its gate where it stood; and one that holds nothing but its position
 abbrev pub blank : Condition → List VoteSet → ℕ → Controller
@@ -137,17 +140,17 @@ keepAck c j s = withAcks c (record { sets = put (c .acks .sets) j s; from = inse
 unfoldable pub keepHelped : Controller → ℕ → VoteSet → Controller
 keepHelped c j s = withHelped c (record { votes = join (c .helped .votes) s; from = insert (c .helped .from) j; «cnt_help» = record { 0 = bump (c .helped .«cnt_help» .0) } })
 
--- the help sheet is frozen; nobody was answered yet
+-- the help sheet is frozen; the calls kept remain, to be answered with it
 unfoldable pub freeze : Controller → VoteSet → Controller
-freeze c s = withHelp c (record { waiting = c .help .waiting; votes = s; answered = 0 })
+freeze c s = withHelp c (record { waiting = c .help .waiting; votes = s; callers = c .help .callers })
 
--- a caller was answered
-unfoldable pub answered : Controller → ℕ → Controller
-answered c j = withHelp c (record { waiting = c .help .waiting; votes = c .help .votes; answered = insert (c .help .answered) j })
+-- a help call is taken: to be kept, or answered at once
+unfoldable pub addCaller : Controller → ℕ → Controller
+addCaller c j = withHelp c (record { waiting = c .help .waiting; votes = c .help .votes; callers = insert (c .help .callers) j })
 
 -- it waits, or waits no more
 abbrev pub waitingAs : Bool → HelpState → HelpState
-waitingAs w h = record { waiting = w; votes = h .votes; answered = h .answered }
+waitingAs w h = record { waiting = w; votes = h .votes; callers = h .callers }
 
 unfoldable pub await : Controller → Controller
 await c = withHelp c (waitingAs true (c .help))

@@ -2,6 +2,8 @@
 pub mod Controllers
 pub mod Rules
 pub mod Calls
+pub mod Sequence
+pub mod SequenceLaws
 pub mod CallLaws
 -- "The parts": the bench; "Questions put to a record or event"; what an event does
 pub mod Counts

@@ -3,17 +3,21 @@ use Prim.Native.Nat.{ℕ, zero, suc}
 use mathlib.Core.Bool.{Bool, true, false, _&&_, Bool·beq}
 use mathlib.Core.List.{List, [], _∷_, _++_}
 use lib.Dec.{eqb}
-use Rattle.model.specs.Numbers.{outcomeNumber}
+use Rattle.model.specs.Numbers.{kindNumber, outcomeNumber}
 use Rattle.model.specs.declared.Kind.the-variants.{Vote, Ack, Help, Helped}
 use Rattle.model.specs.declared.Outcome.{Outcome}
 use Rattle.model.specs.declared.Outcome.the-variants.{Stay, Move}
 use Rattle.model.specs.declared.Event.{Event}
+use Rattle.model.specs.declared.Message.{Message}
+use Rattle.votes.specs.declared.VoteSet.{VoteSet}
 use Rattle.protocol.specs.declared.Bench.{Bench}
 use Rattle.protocol.specs.declared.Consensus.{Consensus}
+use Rattle.protocol.specs.Sequence.{members, messagesOf}
+use Rattle.protocol.specs.Events.{subject, source}
 use Rattle.protocol.specs.Counts.{openGates}
-use Rattle.protocol.specs.Benches.{newBench, controller}
-use Rattle.protocol.specs.Questions.{number, reply}
-use Rattle.protocol.specs.Steps.{step, run}
+use Rattle.protocol.specs.Benches.{newBench, station, controller, sentBy, identity}
+use Rattle.protocol.specs.Questions.{number, isAccepted, reply}
+use Rattle.protocol.specs.Steps.{answerTo, step, run}
 use Rattle.protocol.specs.Display.{shownStage, shownOutcome, shownPosition, telegrams}
 
 -- a C line: "stage (8 stopped, 9 standing by), outcome (M, S, -), position"
@@ -22,10 +26,12 @@ pub record Line : Type 0 where
   pub outcome : Outcome
   pub position : ℕ
 
--- what a controller does not show: how many acknowledgements and help answers it has counted, does it wait, the word it has put since it last began
+-- what a controller does not show: how many acknowledgements and help answers it has counted, whose help calls it has taken, does it wait, the word it
+-- has put since it last began
 pub record Inside : Type 0 where
   pub cnt : ℕ
   pub cnt-help : ℕ
+  pub callers : List ℕ
   pub waits : Bool
   pub proposal : Outcome
 
@@ -42,6 +48,14 @@ pub record Trial : Type 0 where
   pub words : List Outcome
   -- inside each controller, from 1 on
   pub inside : List Inside
+
+-- the messages that an event sends, in their sequence
+pub record SendTrial : Type 0 where
+  -- put to a new bench
+  pub events : List Event
+  -- the event after them
+  pub last : Event
+  pub messages : List Message
 
 -- the answers to a list of events
 unfoldable pub answersTo : Bench → List Event → List ℕ
@@ -62,7 +76,7 @@ abbrev pub lineOf : Bench → ℕ → Line
 lineOf b i = record { stage = shownStage b i; outcome = shownOutcome b i; position = shownPosition b i }
 
 abbrev pub insideOf : Bench → ℕ → Inside
-insideOf b i = record { cnt = (controller b i) .acks .cnt .0; cnt-help = (controller b i) .helped .«cnt_help» .0; waits = (controller b i) .help .waiting; proposal = (controller b i) .proposal }
+insideOf b i = record { cnt = (controller b i) .acks .cnt .0; cnt-help = (controller b i) .helped .«cnt_help» .0; callers = members (b .shared .n) ((controller b i) .help .callers); waits = (controller b i) .help .waiting; proposal = (controller b i) .proposal }
 
 abbrev pub telegramsOf : Bench → List ℕ
 telegramsOf b = telegrams b Vote ∷ telegrams b Ack ∷ telegrams b Help ∷ telegrams b Helped ∷ []
@@ -90,7 +104,7 @@ abbrev pub sameLine : Line → Line → Bool
 sameLine x y = eqb (x .stage) (y .stage) && sameOutcome (x .outcome) (y .outcome) && eqb (x .position) (y .position)
 
 abbrev pub sameInside : Inside → Inside → Bool
-sameInside x y = eqb (x .cnt) (y .cnt) && eqb (x .cnt-help) (y .cnt-help) && Bool·beq (x .waits) (y .waits) && sameOutcome (x .proposal) (y .proposal)
+sameInside x y = eqb (x .cnt) (y .cnt) && eqb (x .cnt-help) (y .cnt-help) && same eqb (x .callers) (y .callers) && Bool·beq (x .waits) (y .waits) && sameOutcome (x .proposal) (y .proposal)
 
 -- what a bench shows is what the row says
 unfoldable pub shows : Bench → Trial → Bool
@@ -101,3 +115,17 @@ shows b r = same sameLine (each (b .shared .n) (lineOf b)) (r .lines)
 
 unfoldable pub passes : Trial → Bool
 passes r = same eqb (answersTo newBench (r .events)) (r .answers) && shows (run newBench (r .events)) r
+
+-- what the event's controller sends is what the row says
+abbrev pub messagesAt : Bench → Event → List Message
+messagesAt b e = messagesOf (identity (b .shared) (subject e)) ((answerTo (b .shared) e (sentBy b (source e)) (station b (subject e))) .sends)
+
+abbrev pub sameVotes : VoteSet → VoteSet → Bool
+sameVotes x y = eqb (x .known) (y .known) && eqb (x .willing) (y .willing)
+
+abbrev pub sameMessage : Message → Message → Bool
+sameMessage x y = eqb (kindNumber (x .kind)) (kindNumber (y .kind)) && eqb (x .n) (y .n) && eqb (x .f) (y .f) && eqb (x .from) (y .from) && eqb (x .to) (y .to)
+    && eqb (x .order) (y .order) && sameVotes (x .votes) (y .votes)
+
+unfoldable pub sendsAs : SendTrial → Bool
+sendsAs r = isAccepted (reply (run newBench (r .events)) (r .last)) && same sameMessage (messagesAt (run newBench (r .events)) (r .last)) (r .messages)

@@ -3,9 +3,9 @@
 -- Waiting before the second timeout, and the arrivals that may end waiting after it.
 use Prim.Native.Nat.{ℕ, suc, _+_}
 use mathlib.Core.Bool.{Bool, true, false, cond, not, _&&_, _||_}
-use lib.Dec.{eqb, leb, ltb}
+use lib.Dec.{leb, ltb}
 use Rattle.ground.specs.Quantify.{allTo}
-use Rattle.ground.specs.Mask.{has, insert}
+use Rattle.ground.specs.Mask.{insert}
 use Rattle.votes.specs.VoteSets.{empty, single, join, joinAll, complete, unanimous}
 use Rattle.votes.specs.declared.VoteSet.{VoteSet}
 use Rattle.model.specs.Ranges.{isBackup}
@@ -19,7 +19,7 @@ use Rattle.protocol.specs.declared.Send.{Send}
 use Rattle.protocol.specs.declared.Send.the-variants.{Nothing, To}
 use Rattle.protocol.specs.declared.Sends.{Sends}
 use Rattle.protocol.specs.declared.Answer.{Answer}
-use Rattle.protocol.specs.Controllers.{phase, hasAck, ackOf, hasHelped, advance, learn, aim, keepAck, keepHelped, freeze, answered, await, propose, conclude}
+use Rattle.protocol.specs.Controllers.{phase, hasAck, ackOf, hasHelped, hasCalled, advance, learn, aim, keepAck, keepHelped, freeze, addCaller, await, propose, conclude}
 
 -- what an answer may send: nothing; a vote; an acknowledgement; help calls and the help sheet, to be sent or to be held ready
 abbrev pub nothing : Sends
@@ -101,13 +101,14 @@ helpVotes n c = join (c .votes) (ackJoin n c)
 unfoldable pub frozen : ℕ → Controller → Controller
 frozen n c = freeze (advance c 3) (helpVotes n c)
 
--- the help sheet s is ready from now on for those who call: sent to nobody yet, but fixed, also if its owner stops
+-- Document 02, U4: a call kept is "answered at the second bell, after its own calls, in rising order of caller" (Sequence.antt has the sequence), whatever
+-- comes of the bell. The help sheet s goes to those callers, and is ready from now on for those who call later: it is fixed, also if its owner stops.
 unfoldable pub ready : VoteSet → Controller → Answer
-ready s next = sending next (helps Nothing (To 0 s))
+ready s next = sending next (helps Nothing (To (next .help .callers) s))
 
 -- "Otherwise it waits, sends help calls to all others of f + 1 to n, and counts its own help sheet as an answer."
 unfoldable pub callsHelp : ℕ → ℕ → ℕ → VoteSet → Controller → Answer
-callsHelp n f i s c = sending (keepHelped (await c) i s) (helps (To (recipients n f Help i) empty) (To 0 s))
+callsHelp n f i s c = sending (keepHelped (await c) i s) (helps (To (recipients n f Help i) empty) (To (c .help .callers) s))
 
 -- the outcome, or else a word put ("Otherwise, if at least one is held, it puts the word of their join to the arbiter"), or else it waits
 unfoldable pub secondTimeout : ℕ → ℕ → ℕ → Controller → Answer
@@ -128,9 +129,13 @@ unfoldable pub helpedArrives : ℕ → ℕ → ℕ → VoteSet → Controller �
 helpedArrives n f j s c =
     cond (not (hasHelped c j) && c .help .waiting) (proposeIfSufficient n f (becomes (keepHelped c j s))) (passedOver c)
 
--- **Help call arrives**: "at stage 3 the help sheet is sent back, once per caller. Before stage 3 it is passed over."
+-- **Help call arrives**, as document 02, U4 amends it: "a call that comes before stage 3 is kept, one per caller"; "at stage 3 the help sheet is sent back,
+-- once per caller." A call kept and answered at the second timeout is not answered again.
+unfoldable pub keepsCall : ℕ → Controller → Answer
+keepsCall j c = becomes (addCaller c j)
+
 unfoldable pub answersCall : ℕ → Controller → Answer
-answersCall j c = sending (answered c j) (helps Nothing (To (insert 0 j) (c .help .votes)))
+answersCall j c = sending (addCaller c j) (helps Nothing (To (insert 0 j) (c .help .votes)))
 
 unfoldable pub helpArrives : ℕ → Controller → Answer
-helpArrives j c = cond (eqb (phase c) 3 && not (has (c .help .answered) j)) (answersCall j c) (passedOver c)
+helpArrives j c = cond (hasCalled c j) (passedOver c) (cond (leb (phase c) 2) (keepsCall j c) (answersCall j c))

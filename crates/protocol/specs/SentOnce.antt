@@ -4,17 +4,20 @@ use Prim.Native.Nat.{ℕ, _+_}
 use mathlib.Core.Path.{_≡_}
 use mathlib.Core.Bool.{true, false, cond}
 use mathlib.Core.List.{List, [], _∷_, _++_}
+use lib.ListN.{length}
 use Rattle.ground.specs.Quantify.{countTo}
 use Rattle.ground.specs.Mask.{has}
 use Rattle.model.specs.declared.Kind.{Kind}
 use Rattle.model.specs.declared.Kind.the-variants.{Vote, Ack, Help, Helped}
 use Rattle.model.specs.declared.Event.{Event}
 use Rattle.model.specs.declared.Event.the-variants.{Lock, Order, Cast, Deliver, Timeout, Decide, Stop, Save, Restore}
+use Rattle.protocol.specs.declared.Identity.{Identity}
 use Rattle.protocol.specs.declared.Send.{Send}
 use Rattle.protocol.specs.declared.Send.the-variants.{Nothing, To}
 use Rattle.protocol.specs.declared.Sends.{Sends}
 use Rattle.protocol.specs.declared.Outgoing.{Outgoing}
 use Rattle.protocol.specs.declared.Bench.{Bench}
+use Rattle.protocol.specs.Sequence.{messagesOfKind}
 use Rattle.protocol.specs.Benches.{newBench, station, sentBy, ofKind}
 use Rattle.protocol.specs.Events.{subject, source}
 use Rattle.protocol.specs.Questions.{isAccepted, reply}
@@ -74,3 +77,5 @@ pub record SentOnce : Type 0 where
       → StaysSent j (sentAt es kind i) (sentAt (es ++ more) kind i)
   -- so the figures of the T line are the counts of the sends of the order's accepted events
   pub counted : (es : List Event) (kind : Kind) → telegrams (after es) kind ≡ countSends kind newBench es 0
+  -- and each of these sends has one message among those of the answer (Sequence)
+  pub listed : (me : Identity) (kind : Kind) (s : Send) → length (messagesOfKind me kind s) ≡ countTo (me .n) (has (receiversOf s))

@@ -8,6 +8,7 @@ ghost use Rattle.protocol.specs.SentOnce.{SentOnce};
 ghost use Rattle.protocol.specs.Trials.{TrialsHold};
 use ground::LIMIT;
 use model::Checkpoint;
+use model::Message;
 use model::Outcome;
 use votes::VoteSet;
 
@@ -44,12 +45,12 @@ pub struct HelpAnswers {
     pub cnt_help: CntHelp,
 }
 
-// A controller's own help: does it wait for answers (it has called, and put no word yet); its help sheet, frozen at the second timeout; the
-// callers answered.
+// A controller's own help: does it wait for answers (it has called, and put no word yet); its help sheet, frozen at the second timeout; whose help
+// calls it has taken: before the second timeout they are kept, from then on they are answered.
 pub struct HelpState {
     pub waiting: bool,
     pub votes: VoteSet,
-    pub answered: u32,
+    pub callers: u32,
 }
 
 // The gate: where it is to go, and where it stands, in two's complement of millimetres.
@@ -98,6 +99,12 @@ pub struct Answer {
     pub controller: Controller,
     pub sends: Sends,
     pub proposal: Outcome,
+}
+
+// One of the messages (document 01: telegrams) of an answer, which a cabinet sends one by one; or there are no more.
+pub enum ToSend {
+    AllSent,
+    Next(Message),
 }
 
 // A checkpoint (document 01: a card), if there is one.

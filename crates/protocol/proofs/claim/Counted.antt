@@ -5,6 +5,7 @@ use mathlib.Core.Bool.{Bool, true, false, cond}
 use mathlib.Core.List.{List, [], _∷_, _++_}
 use native.Mathlib.Omega.{arith}
 use mathlib.Core.Logic.{inl, inr}
+use lib.ListN.{length, length-map}
 use Rattle.ground.specs.Tests.{no-both, split}
 use Rattle.ground.specs.Quantify.{countTo}
 use Rattle.ground.specs.Mask.{has}
@@ -14,10 +15,14 @@ use Rattle.model.specs.declared.Kind.the-variants.{Vote, Ack, Help, Helped}
 use Rattle.model.specs.declared.Event.{Event}
 use Rattle.model.specs.declared.Event.the-variants.{Lock, Order, Cast, Deliver, Timeout, Decide, Stop, Save, Restore}
 use Rattle.protocol.specs.declared.Answer.{Answer}
-use Rattle.protocol.specs.declared.Send.the-variants.{Nothing}
+use Rattle.protocol.specs.declared.Identity.{Identity}
+use Rattle.protocol.specs.declared.Send.{Send}
+use Rattle.protocol.specs.declared.Send.the-variants.{Nothing, To}
 use Rattle.protocol.specs.declared.Sent.{Sent}
 use Rattle.protocol.specs.declared.Bench.{Bench}
 use Rattle.protocol.specs.Rules.{passedOver}
+use Rattle.protocol.specs.Sequence.{members, messageTo, messagesOfKind}
+use Rattle.protocol.specs.SequenceLaws.{members-size}
 use Rattle.protocol.specs.Benches.{newBench, benchOf, unsentAll, station, sentBy, ofKind}
 use Rattle.protocol.specs.Events.{subject, source, concernsOne}
 use Rattle.protocol.specs.Questions.{accepted, isAccepted, reply}
@@ -199,9 +204,16 @@ kept-from : (es more : List Event) (kind : Kind) (i j : ℕ) → opensAny (after
     → StaysSent j (ofKind kind (sentBy (after es) i)) (ofKind kind (sentBy (after (es ++ more)) i))
 kept-from es more kind i j o h = subst (λ (x : Bench). StaysSent j (ofKind kind (sentBy (after es) i)) (ofKind kind (sentBy x i))) (sym (run-append es more newBench)) (run-kept more (after es) (reached es) o kind j i h)
 
+-- as many messages are listed
+messages-listed : (me : Identity) (kind : Kind) (s : Send) → length (messagesOfKind me kind s) ≡ countTo (me .n) (has (receiversOf s))
+unfolding messagesOfKind
+messages-listed me kind Nothing = sym (count-zero (me .n))
+messages-listed me kind (To receivers s) = length-map (members (me .n) receivers) (messageTo me kind s) ∙ members-size (me .n) receivers
+
 pub sent-once : SentOnce
 sent-once = record {
   once = λ es e kind j p h. once-at (after es) e kind j (reached es) p h;
   kept = kept-from;
   counted = λ es kind. run-counted kind es newBench (inl refl) ∙ ap (countSends kind newBench es) (fresh-silent kind false 0 0);
+  listed = messages-listed;
 }

@@ -30,8 +30,8 @@ use Rattle.protocol.specs.declared.Answer.{Answer}
 use Rattle.protocol.specs.declared.Saved.{Saved}
 use Rattle.protocol.specs.declared.Saved.the-variants.{Newest}
 use Rattle.protocol.specs.declared.Sent.{Sent}
-use Rattle.protocol.specs.Controllers.{isStopped, phaseIn, runs, phase, outcome, hasAck, cleared, advance, learn, aim, keepAck, keepHelped, freeze, answered, await, propose, conclude}
-use Rattle.protocol.specs.Rules.{passedOver, becomes, proposing, verdict, voteRule, countOwn, firstTimeout, ackJoin, proposeIfSufficient, helpVotes, frozen, ready, callsHelp, secondTimeout, answersCall}
+use Rattle.protocol.specs.Controllers.{isStopped, phaseIn, runs, phase, outcome, hasAck, hasCalled, cleared, advance, learn, aim, keepAck, keepHelped, freeze, addCaller, await, propose, conclude}
+use Rattle.protocol.specs.Rules.{passedOver, becomes, proposing, verdict, voteRule, countOwn, firstTimeout, ackJoin, proposeIfSufficient, helpVotes, frozen, ready, callsHelp, secondTimeout, keepsCall, answersCall}
 use Rattle.protocol.specs.Calls.{arrives, restore, renew}
 use Rattle.protocol.specs.Benches.{ofKind, unsentAll, sentAfter}
 use Rattle.protocol.specs.Questions.{firstNo}
@@ -119,6 +119,10 @@ module _ (G H : ℕ → Type 0) (g0 : G 0) where
     help = h .help;
   }
 
+  caller-in : (c : Controller) (j : ℕ) → InRange c → InRange (addCaller c j)
+  unfolding addCaller
+  caller-in c j h = record { low = h .low; gate = record { target = h .gate .target; position = h .gate .position }; help = h .help }
+
   frozen-in : (n : ℕ) (c : Controller) → WithinSet (helpVotes n c) → InRange c → InRange (frozen n c)
   unfolding frozen freeze advance
   frozen-in n c w h = record { low = omega arith; gate = record { target = h .gate .target; position = h .gate .position }; help = w }
@@ -155,7 +159,7 @@ module _ (G H : ℕ → Type 0) (g0 : G 0) where
     unfolding arrives
     arrives-keeps Vote j s c h = vote-cases Keeps s c (λ p. becomes-keeps _ (learn-in c s h)) (passed-keeps c h)
     arrives-keeps Ack j s c h = ack-cases Keeps n f j s c (λ p. puts-keeps n f _ (becomes-keeps _ (ack-in c j s h))) (λ p. passed-keeps c h)
-    arrives-keeps Help j s c h = help-cases Keeps j c (λ p q. unfold answersCall answered in record { keeps = record { low = h .low; gate = record { target = h .gate .target; position = h .gate .position }; help = h .help } }) (passed-keeps c h)
+    arrives-keeps Help j s c h = help-cases Keeps j c (λ p. unfold keepsCall in becomes-keeps _ (caller-in c j h)) (λ p q. unfold answersCall in record { keeps = caller-in c j h }) (passed-keeps c h)
     arrives-keeps Helped j s c h = helped-cases Keeps n f j s c (λ p q. puts-keeps n f _ (becomes-keeps _ (helped-in c j s h))) (passed-keeps c h)
 
     -- what was sent in an order o: a vote by a controller of the lock; help calls with no sheet; a kind only where it may travel
@@ -204,6 +208,10 @@ module _ (G H : ℕ → Type 0) (g0 : G 0) where
     unfolding proposing
     puts-ok k a h = sufficient-cases (Sends-ok k) n f a (λ q. record { calls = h .calls; to = h .to }) h
 
+    -- those whose calls controller k has taken
+    abbrev CallersIn : ℕ → Controller → Type 0
+    CallersIn k c = (j : ℕ) → hasCalled c j ≡ true → (j ≤ n) × (route f Help j k ≡ true)
+
     -- all to whom a kind is sent are controllers that may be sent it
     module _ (small : n ≤ limit) where
       sent-to : (kind : Kind) (k j : ℕ) → has (recipients n f kind k) j ≡ true → (j ≤ n) × (route f kind k j ≡ true)
@@ -230,27 +238,6 @@ module _ (G H : ℕ → Type 0) (g0 : G 0) where
           to Help j e = unfold firstTimeout in none-to j e
           to Helped j e = unfold firstTimeout in none-to j e
 
-      ready-ok : (k : ℕ) (s : VoteSet) (next : Controller) → Sends-ok k (ready s next)
-      ready-ok k s next = record { calls = λ l e. unfold ready sentAfter in e; to = to }
-        where
-          to : (kind : Kind) (j : ℕ) → has (receiversOf (sendOf kind ((ready s next) .sends))) j ≡ true → (j ≤ n) × (route f kind k j ≡ true)
-          to Vote j e = unfold ready in none-to j e
-          to Ack j e = unfold ready in none-to j e
-          to Help j e = unfold ready in none-to j e
-          to Helped j e = unfold ready in none-to j e
-
-      calls-ok : (k : ℕ) (s : VoteSet) (next : Controller) → Sends-ok k (callsHelp n f k s next)
-      calls-ok k s next = record { calls = λ l e. unfold callsHelp sentAfter in refl; to = to }
-        where
-          to : (kind : Kind) (j : ℕ) → has (receiversOf (sendOf kind ((callsHelp n f k s next) .sends))) j ≡ true → (j ≤ n) × (route f kind k j ≡ true)
-          to Vote j e = unfold callsHelp in none-to j e
-          to Ack j e = unfold callsHelp in none-to j e
-          to Help j e = unfold callsHelp in sent-to Help k j e
-          to Helped j e = unfold callsHelp in none-to j e
-
-      second-ok : (k : ℕ) (c : Controller) → Sends-ok k (secondTimeout n f k c)
-      second-ok k c = second-cases (Sends-ok k) n f k c (λ d. ready-ok k _ _) (λ e. unfold proposing in record { calls = (ready-ok k _ _) .calls; to = (ready-ok k _ _) .to }) (λ e. puts-ok k _ (calls-ok k _ _))
-
       -- an answer goes back to a caller of the lock, over the way that its call came
       back : (j k : ℕ) → route f Help j k ≡ true → route f Helped k j ≡ true
       unfolding route helpRoute
@@ -258,6 +245,35 @@ module _ (G H : ℕ → Type 0) (g0 : G 0) where
         where
           turned : not (eqb j k) ≡ true → not (eqb k j) ≡ true
           turned q = rw (ne-eqb k j (λ z. eqb-false j k (not-true (eqb j k) q) (sym z)))
+
+      -- the help sheet at the second timeout: to those whose calls were kept, over the ways that their calls came
+      ready-ok : (k : ℕ) (s : VoteSet) (next : Controller) → CallersIn k next → Sends-ok k (ready s next)
+      ready-ok k s next o = record { calls = λ l e. unfold ready sentAfter in e; to = to }
+        where
+          to : (kind : Kind) (j : ℕ) → has (receiversOf (sendOf kind ((ready s next) .sends))) j ≡ true → (j ≤ n) × (route f kind k j ≡ true)
+          to Vote j e = unfold ready in none-to j e
+          to Ack j e = unfold ready in none-to j e
+          to Help j e = unfold ready in none-to j e
+          to Helped j e = unfold ready in (o j e .0, back j k (o j e .1))
+
+      calls-ok : (k : ℕ) (s : VoteSet) (next : Controller) → CallersIn k next → Sends-ok k (callsHelp n f k s next)
+      calls-ok k s next o = record { calls = λ l e. unfold callsHelp sentAfter in refl; to = to }
+        where
+          to : (kind : Kind) (j : ℕ) → has (receiversOf (sendOf kind ((callsHelp n f k s next) .sends))) j ≡ true → (j ≤ n) × (route f kind k j ≡ true)
+          to Vote j e = unfold callsHelp in none-to j e
+          to Ack j e = unfold callsHelp in none-to j e
+          to Help j e = unfold callsHelp in sent-to Help k j e
+          to Helped j e = unfold callsHelp in (o j e .0, back j k (o j e .1))
+
+      frozen-callers : (k : ℕ) (c : Controller) → CallersIn k c → CallersIn k (frozen n c)
+      unfolding frozen freeze advance
+      frozen-callers k c o = o
+
+      second-ok : (k : ℕ) (c : Controller) → CallersIn k c → Sends-ok k (secondTimeout n f k c)
+      second-ok k c o = second-cases (Sends-ok k) n f k c
+          (λ d. ready-ok k _ _ (unfold conclude in frozen-callers k c o))
+          (λ e. unfold proposing in record { calls = (ready-ok k _ _ (frozen-callers k c o)) .calls; to = (ready-ok k _ _ (frozen-callers k c o)) .to })
+          (λ e. puts-ok k _ (calls-ok k _ _ (frozen-callers k c o)))
 
       answers-ok : (j k : ℕ) (c : Controller) → j ≤ n → route f Help j k ≡ true → Sends-ok k (answersCall j c)
       answers-ok j k c hi r = record { calls = λ l e. unfold answersCall sentAfter in e; to = to }
@@ -275,7 +291,7 @@ module _ (G H : ℕ → Type 0) (g0 : G 0) where
       unfolding arrives
       arrives-ok Vote j k s c hi r = vote-cases (Sends-ok k) s c (λ p. becomes-ok k _) (passed-ok k c)
       arrives-ok Ack j k s c hi r = ack-cases (Sends-ok k) n f j s c (λ p. puts-ok k _ (becomes-ok k _)) (λ p. passed-ok k c)
-      arrives-ok Help j k s c hi r = help-cases (Sends-ok k) j c (λ p q. answers-ok j k c hi r) (passed-ok k c)
+      arrives-ok Help j k s c hi r = help-cases (Sends-ok k) j c (λ p. unfold keepsCall in becomes-ok k _) (λ p q. answers-ok j k c hi r) (passed-ok k c)
       arrives-ok Helped j k s c hi r = helped-cases (Sends-ok k) n f j s c (λ p q. puts-ok k _ (becomes-ok k _)) (passed-ok k c)
 
     -- a checkpoint of controller k
@@ -352,6 +368,10 @@ module _ (G H : ℕ → Type 0) (g0 : G 0) where
     unfolding helpVotes
     help-within v inv i = (join-ok (v .state .sent) ((v .ctl i) .votes) (ackJoin n (v .ctl i)) (inv .ctls i .votes-ok) (acks-true n f (v .state .sent) (inv .lines) i (v .ctl i) (inv .ctls i .acks-ok))) .within
 
+    -- a call taken was sent, so its caller is a controller of the lock
+    callers-in : (v : View) → Inv n f v → (i : ℕ) → AllIn v → CallersIn i (v .ctl i)
+    callers-in v inv i h j e = let t : (1 ≤ v .order) × (j ≤ n) × (i ≤ n) × (route f Help j i ≡ true) = h .lines j .to Help i (inv .ctls i .calls-ok j e) in (t .1, t .3)
+
     pub perform-in : n ≤ limit → (v : View) (e : Event) → Inv n f v → accepts n f v e ≡ true → Given e → AllIn v → AllIn (performV n f v e)
     unfolding performV accepts firstNo isController
     perform-in s v (Lock a c) inv q g h = h
@@ -360,7 +380,7 @@ module _ (G H : ℕ → Type 0) (g0 : G 0) where
     perform-in s v (Deliver i j k) inv q g h = commit-in v j _ (leb-true _ _ (search (ask-l, ask-r, and-l, and-r) depth 14)) (leb-true _ _ (search (ask-l, ask-r, and-l, and-r) depth 14)) h (arrives-keeps k i _ (v .ctl j) (h .ctls j)) (arrives-ok s k i j _ (v .ctl j) (leb-true _ _ (search (ask-l, ask-r, and-l, and-r) depth 14)) (search (ask-l, ask-r, and-l, and-r) depth 14))
     perform-in s v (Timeout i) inv q g h = commit-in v i _ (leb-true _ _ (search (ask-l, ask-r, and-l, and-r) depth 14)) (leb-true _ _ (search (ask-l, ask-r, and-l, and-r) depth 14)) h
         (timeout-cases Keeps n f i (v .ctl i) (λ p. first-keeps i (v .ctl i) (h .ctls i)) (λ p. second-keeps i (v .ctl i) (help-within v inv i) (h .ctls i)))
-        (timeout-cases (Sends-ok i) n f i (v .ctl i) (λ p. first-ok s i (v .ctl i)) (λ p. second-ok s i (v .ctl i)))
+        (timeout-cases (Sends-ok i) n f i (v .ctl i) (λ p. first-ok s i (v .ctl i)) (λ p. second-ok s i (v .ctl i) (λ j x. callers-in v inv i h j x)))
     perform-in s v (Decide i w) inv q g h = decide-in v i w (leb-true _ _ (search (ask-l, ask-r, and-l, and-r) depth 14)) (leb-true _ _ (search (ask-l, ask-r, and-l, and-r) depth 14)) h
     perform-in s v (Stop i) inv q g h = commit-in v i _ (leb-true _ _ (search (ask-l, ask-r, and-l, and-r) depth 14)) (leb-true _ _ (search (ask-l, ask-r, and-l, and-r) depth 14)) h (becomes-keeps _ (cleared-in _ (v .ctl i) (omega arith) (h .ctls i))) (becomes-ok i _)
     perform-in s v (Save i) inv q g h = saved-in v i (leb-true _ _ (search (ask-l, ask-r, and-l, and-r) depth 14)) (unfold isController in (search (ask-l, ask-r, and-l, and-r) depth 14)) h

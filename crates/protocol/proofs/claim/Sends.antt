@@ -1,5 +1,5 @@
 -- T counts sends. What a rule sends goes to nobody that its controller has sent that kind to before: the invariant keeps a set of receivers empty until
--- the rule that fills it, and a help answer goes to a caller not yet answered. So every accepted event adds to the sets what it sends, and the
+-- the rule that fills it, and a help answer goes to callers not yet answered. So every accepted event adds to the sets what it sends, and the
 -- sums of their sizes follow the sends.
 use Prim.Native.Nat.{ℕ, zero, suc, _+_, _≤_, _<_}
 use mathlib.Core.Path.{_≡_, refl, sym, _∙_, ap}
@@ -27,9 +27,9 @@ use Rattle.protocol.specs.declared.Send.{Send}
 use Rattle.protocol.specs.declared.Send.the-variants.{Nothing, To}
 use Rattle.protocol.specs.declared.Sends.{Sends}
 use Rattle.protocol.specs.declared.Sent.{Sent}
-use Rattle.protocol.specs.Controllers.{isStopped, runs, phase}
+use Rattle.protocol.specs.Controllers.{isStopped, runs, phase, hasCalled}
 use Rattle.protocol.specs.Events.{subject}
-use Rattle.protocol.specs.Rules.{passedOver, becomes, proposing, voteRule, firstTimeout, proposeIfSufficient, ready, callsHelp, secondTimeout, answersCall}
+use Rattle.protocol.specs.Rules.{passedOver, becomes, proposing, voteRule, firstTimeout, proposeIfSufficient, ready, callsHelp, secondTimeout, keepsCall, answersCall}
 use Rattle.protocol.specs.Calls.{arrives, restore}
 use Rattle.protocol.specs.Benches.{ofKind, afterSend, sentAfter}
 use Rattle.protocol.specs.Questions.{firstNo}
@@ -152,7 +152,7 @@ module _ (n f : ℕ) where
         fresh Vote j e = unfold ready in nobody j e
         fresh Ack j e = unfold ready in nobody j e
         fresh Help j e = unfold ready in nobody j e
-        fresh Helped j e = unfold ready in nobody j e
+        fresh Helped j e = unanswered r p j
 
     calls-new : (s : VoteSet) (next : Controller) → runs c ≡ true → phase c ≡ 2 → New l (callsHelp n f i s next)
     calls-new s next r p = record { fresh = fresh; same = same }
@@ -167,13 +167,13 @@ module _ (n f : ℕ) where
         fresh Vote j e = unfold callsHelp in nobody j e
         fresh Ack j e = unfold callsHelp in nobody j e
         fresh Help j e = uncalled r p j
-        fresh Helped j e = unfold callsHelp in nobody j e
+        fresh Helped j e = unanswered r p j
 
     second-new : runs c ≡ true → phase c ≡ 2 → New l (secondTimeout n f i c)
     second-new r p = second-cases (New l) n f i c (λ d. ready-new _ _ r p) (λ e. unfold proposing in record { fresh = (ready-new _ _ r p) .fresh; same = (ready-new _ _ r p) .same }) (λ e. puts-new l _ (calls-new _ _ r p))
 
-    -- a caller that was answered is among those answered
-    answers-new : (j : ℕ) → phase c ≡ 3 → has (c .help .answered) j ≡ false → New l (answersCall j c)
+    -- one whose call was not taken yet has not been answered
+    answers-new : (j : ℕ) → 3 ≤ phase c → hasCalled c j ≡ false → New l (answersCall j c)
     answers-new j p q = record { fresh = fresh; same = same }
       where
         same : (kind : Kind) (k : ℕ) → has ((ofKind kind l) .to) k ≡ true → (ofKind kind (sentAfter l ((answersCall j c) .sends))) .votes ≡ (ofKind kind l) .votes
@@ -188,14 +188,14 @@ module _ (n f : ℕ) where
         fresh Help k e = unfold answersCall in nobody k e
         fresh Helped k e = unfold answersCall in elim (insert-only 0 j k e) [
           | inr z ↦ nobody k z
-          | inl z ↦ rw z (refuted _ (λ h. no-both (has (c .help .answered) j) (inv .owns i .helping .answered-copy (omega arith) j h) q))
+          | inl z ↦ rw z (inv .owns i .helping .answered p j ∙ q)
         ]
 
     arrives-new : (kind : Kind) (j : ℕ) (s : VoteSet) → New l (arrives kind n f j s c)
     unfolding arrives
     arrives-new Vote j s = vote-cases (New l) s c (λ p. becomes-new l _) (passed-new l c)
     arrives-new Ack j s = ack-cases (New l) n f j s c (λ p. puts-new l _ (becomes-new l _)) (λ p. passed-new l c)
-    arrives-new Help j s = help-cases (New l) j c (λ p q. answers-new j p q) (passed-new l c)
+    arrives-new Help j s = help-cases (New l) j c (λ p. unfold keepsCall in becomes-new l _) (λ p q. answers-new j p q) (passed-new l c)
     arrives-new Helped j s = helped-cases (New l) n f j s c (λ p q. puts-new l _ (becomes-new l _)) (passed-new l c)
 
   -- the rule of every accepted event

@@ -151,7 +151,7 @@ pub record Fresh (s : Station) : Type 0 where
 
 fresh-is : (l : List VoteSet) → Fresh (freshStation l)
 unfolding freshStation fresh
-fresh-is l = record { sent = refl; ctl = record { votes = refl; phase = refl; acks-none = refl; helps-none = refl; helped = refl; cnt-none = refl; cnt-help-none = refl; waiting = refl; outcome = refl }; saved = refl; position = refl }
+fresh-is l = record { sent = refl; ctl = record { votes = refl; phase = refl; acks-none = refl; helps-none = refl; helped = refl; cnt-none = refl; cnt-help-none = refl; waiting = refl; calls-none = refl; outcome = refl }; saved = refl; position = refl }
 
 pub freshes : (locked : Bool) (n f k : ℕ) → Fresh (station (benchOf locked n f) k)
 unfolding station benchOf

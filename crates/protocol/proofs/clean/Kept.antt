@@ -23,8 +23,8 @@ use Rattle.protocol.specs.declared.Condition.the-variants.{Running, Stop
 use Rattle.protocol.specs.declared.Controller.{Controller}
 use Rattle.protocol.specs.declared.Answer.{Answer}
 use Rattle.protocol.specs.declared.Sent.{Sent}
-use Rattle.protocol.specs.Controllers.{isRunning, isStopped, runs, phase, hasAck, cleared, advance, learn, aim, keepAck, keepHelped, freeze, answered, await, propose, conclude}
-use Rattle.protocol.specs.Rules.{answersCall, passedOver, becomes, proposing, verdict, voteRule, countOwn, firstTimeout, ackJoin, proposeIfSufficient, frozen, ready, callsHelp, secondTimeout, helpVotes}
+use Rattle.protocol.specs.Controllers.{isRunning, isStopped, runs, phase, hasAck, cleared, advance, learn, aim, keepAck, keepHelped, freeze, addCaller, await, propose, conclude}
+use Rattle.protocol.specs.Rules.{keepsCall, answersCall, passedOver, becomes, proposing, verdict, voteRule, countOwn, firstTimeout, ackJoin, proposeIfSufficient, frozen, ready, callsHelp, secondTimeout, helpVotes}
 use Rattle.protocol.specs.declared.Identity.{Identity}
 use Rattle.protocol.specs.declared.Saved.{Saved}
 use Rattle.protocol.specs.declared.Saved.the-variants.{Nothing, Newest}
@@ -92,10 +92,13 @@ module _ (n f : ℕ) where
         learned = unfold learn in record { running = refl; votes = λ r k h. join-knows (c .votes) s k ∙ or-l (knows (c .votes) k) (knows s k) h; acks = λ r k h. h; phase = λ r. stays refl; acked = λ h. inl (h, refl) }
     arrives-live e Ack i j s c l a b = ack-cases (KeptBy e j c l) n f i s c
         (λ q. settle-live e j c l _ (becomes-kept e j c _ l (keep-live e i j s c l a b))) (λ q. passed-over-kept e j c l)
-    arrives-live e Help i j s c l a b = help-cases (KeptBy e j c l) i c (λ p q. answers) (passed-over-kept e j c l)
+    arrives-live e Help i j s c l a b = help-cases (KeptBy e j c l) i c (λ p. keeps) (λ p q. answers) (passed-over-kept e j c l)
       where
+        keeps : KeptBy e j c l (keepsCall i c)
+        keeps = unfold keepsCall becomes addCaller sentAfter in record { live = record { running = refl; votes = λ r k h. h; acks = λ r k h. h; phase = λ r. stays refl; acked = λ h. inl (h, refl) } }
+
         answers : KeptBy e j c l (answersCall i c)
-        answers = unfold answersCall answered sentAfter in record { live = record { running = refl; votes = λ r k h. h; acks = λ r k h. h; phase = λ r. stays refl; acked = λ h. inl (h, refl) } }
+        answers = unfold answersCall addCaller sentAfter in record { live = record { running = refl; votes = λ r k h. h; acks = λ r k h. h; phase = λ r. stays refl; acked = λ h. inl (h, refl) } }
     arrives-live e Helped i j s c l a b = helped-cases (KeptBy e j c l) n f i s c
         (λ p q. settle-live e j c l _ (becomes-kept e j c _ l kept)) (passed-over-kept e j c l)
       where

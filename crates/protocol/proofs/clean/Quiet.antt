@@ -6,7 +6,7 @@ use mathlib.Core.Bool.{Bool, true, false, not, _&&_, _||_, false≢true}
 use mathlib.Core.List.{List, [], _∷_}
 use native.Mathlib.Omega.{arith}
 use lib.Dec.{eqb}
-use mathlib.Core.Logic.{inl, inr}
+use mathlib.Core.Logic.{_⊎_, inl, inr}
 use borrow.Author.Tests.{leb-true, eqb-true}
 use Rattle.ground.specs.Limit.{limit}
 use Rattle.ground.specs.Tests.{no-both, split, by-cond, and-l, and-r, or-l}
@@ -28,7 +28,7 @@ use Rattle.protocol.specs.declared.Answer.{Answer}
 use Rattle.protocol.specs.declared.Saved.{Saved}
 use Rattle.protocol.specs.declared.Saved.the-variants.{Newest}
 use Rattle.protocol.specs.declared.Sent.{Sent}
-use Rattle.protocol.specs.Controllers.{isStopped, phase, outcome, hasAck, cleared, advance, learn, aim, keepAck, conclude}
+use Rattle.protocol.specs.Controllers.{isStopped, phase, outcome, hasAck, hasCalled, cleared, advance, learn, aim, keepAck, freeze, conclude}
 use Rattle.protocol.specs.Rules.{passedOver, becomes, verdict, voteRule, countOwn, firstTimeout, ackJoin, decides, sufficient, proposeIfSufficient, helpVotes, frozen, ready, secondTimeout}
 use Rattle.protocol.specs.Calls.{arrives, restore}
 use Rattle.protocol.specs.Benches.{ofKind, unsentAll, sentAfter}
@@ -149,13 +149,13 @@ module _ (n f : ℕ) where
       own : QuietNow log (countOwn f i c)
       own = unfold countOwn keepAck in by-cond (QuietNow log) (isBackup f i && not (hasAck c i)) (keepAck c i (c .votes)) c (λ e. record { waits = h .waits; held = h .held }) (λ e. h)
 
-  -- the second timeout decides: it calls nobody, and its help sheet is sent to nobody
-  second-quiet : (log : List Event) (i : ℕ) (c : Controller) → decides n f i c ≡ true → Delivered log → QuietBy log (secondTimeout n f i c)
+  -- the second timeout decides: it calls nobody, and nobody's call was kept, so its help sheet is sent to nobody
+  second-quiet : (log : List Event) (i : ℕ) (c : Controller) → decides n f i c ≡ true → ((j : ℕ) → hasCalled c j ≡ false) → Delivered log → QuietBy log (secondTimeout n f i c)
   unfolding secondTimeout
-  second-quiet log i c d g = by-cond (QuietBy log) (decides n f i c) _ _ (λ e. direct) (λ e. absurd (no-both _ d e))
+  second-quiet log i c d k g = by-cond (QuietBy log) (decides n f i c) _ _ (λ e. direct) (λ e. absurd (no-both _ d e))
     where
       direct : QuietBy log (ready (helpVotes n c) (conclude (frozen n c) (verdict n (ackJoin n c))))
-      direct = unfold ready conclude in record { no-help = has-none; no-helped = has-none; no-word = refl; waits = refl; held = λ v h. g }
+      direct = unfold ready conclude frozen freeze advance in record { no-help = has-none; no-helped = k; no-word = refl; waits = refl; held = λ v h. g }
 
   deliver-quiet : (b : View) (log : List Event) (i j : ℕ) (kind : Kind) → WasSent b (Deliver i j kind) → Quiet b log → QuietBy (Deliver i j kind ∷ log) (arrives kind n f i ((ofKind kind (b .state .sent i)) .votes) (b .ctl j))
   unfolding arrives learn keepAck
@@ -211,7 +211,11 @@ module _ (n f : ℕ) where
     timeout-quiet b log i inv good q cl a = timeout-cases (QuietBy _) n f i (b .ctl i)
         (λ p. first-quiet _ i (b .ctl i) (now b log (Timeout i) i q))
         (λ p. let z : Final n f f<n 1≤f small b log i = final n f f<n 1≤f small b log i inv good a cl (eqb-true _ _ (second (eqb (phase (b .ctl i)) 1) _ p (search (ask-l, ask-r, and-l, and-r) depth 14))) in
-        second-quiet _ i (b .ctl i) (z .direct) (more _ log (record { votes = z .votes; acks = z .acks })))
+        second-quiet _ i (b .ctl i) (z .direct) (λ j. none-called j (split (hasCalled (b .ctl i) j))) (more _ log (record { votes = z .votes; acks = z .acks })))
+      where
+        none-called : (j : ℕ) → (hasCalled (b .ctl i) j ≡ true) ⊎ (hasCalled (b .ctl i) j ≡ false) → hasCalled (b .ctl i) j ≡ false
+        none-called j (inl h) = absurd (no-both _ (inv .ctls i .calls-ok j h) (q .no-help j i))
+        none-called j (inr h) = h
 
     perform-quiet : (b : View) (e : Event) (log : List Event) → Inv n f b → accepts n f b e ≡ true → (Clean n f log → Good n f f<n b log) → (Clean n f log → Quiet b log) → Clean n f (entered e log) → Quiet (performV n f b e) (entered e log)
     unfolding entered performV accepts firstNo

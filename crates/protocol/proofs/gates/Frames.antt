@@ -18,8 +18,8 @@ use Rattle.protocol.specs.declared.Condition.the-variants.{Running, Stop
 use Rattle.protocol.specs.declared.Controller.{Controller}
 use Rattle.protocol.specs.declared.Answer.{Answer}
 use Rattle.protocol.specs.declared.Sent.{Sent}
-use Rattle.protocol.specs.Controllers.{isRunning, outcomeIn, runs, phase, outcome, hasAck, cleared, advance, learn, aim, keepAck, keepHelped, freeze, answered, await, propose, orElse, noting, conclude, isStopped}
-use Rattle.protocol.specs.Rules.{answersCall, passedOver, becomes, proposing, verdict, voteRule, countOwn, firstTimeout, ackJoin, proposeIfSufficient, frozen, ready, callsHelp, secondTimeout, helpVotes}
+use Rattle.protocol.specs.Controllers.{isRunning, outcomeIn, runs, phase, outcome, hasAck, cleared, advance, learn, aim, keepAck, keepHelped, freeze, addCaller, await, propose, orElse, noting, conclude, isStopped}
+use Rattle.protocol.specs.Rules.{keepsCall, answersCall, passedOver, becomes, proposing, verdict, voteRule, countOwn, firstTimeout, ackJoin, proposeIfSufficient, frozen, ready, callsHelp, secondTimeout, helpVotes}
 use Rattle.protocol.specs.declared.Identity.{Identity}
 use Rattle.protocol.specs.declared.Saved.{Saved}
 use Rattle.protocol.specs.Calls.{arrives, restore}
@@ -121,10 +121,13 @@ module _ (n f : ℕ) where
   unfolding arrives learn keepAck keepHelped
   arrives-framed Vote j s c l = vote-cases (Framed c l) s c (λ e. becomes-framed c _ l (λ h. h) (inl refl)) (passed-over-framed c l)
   arrives-framed Ack j s c l = ack-cases (Framed c l) n f j s c (λ e. settle-framed c l _ (becomes-framed c _ l (λ h. h) (inl refl))) (λ e. passed-over-framed c l)
-  arrives-framed Help j s c l = help-cases (Framed c l) j c (λ p e. answered-framed) (passed-over-framed c l)
+  arrives-framed Help j s c l = help-cases (Framed c l) j c (λ p. kept-framed) (λ p e. answered-framed) (passed-over-framed c l)
     where
+      kept-framed : Framed c l (keepsCall j c)
+      kept-framed = unfold keepsCall becomes addCaller sentAfter in record { vote = refl; taken = λ h. h; gate = inl refl }
+
       answered-framed : Framed c l (answersCall j c)
-      answered-framed = unfold answersCall answered sentAfter in record { vote = refl; taken = λ h. h; gate = inl refl }
+      answered-framed = unfold answersCall addCaller sentAfter in record { vote = refl; taken = λ h. h; gate = inl refl }
   arrives-framed Helped j s c l = helped-cases (Framed c l) n f j s c (λ p e. settle-framed c l _ (becomes-framed c _ l (λ h. h) (inl refl))) (passed-over-framed c l)
 
   first-framed : (i : ℕ) (c : Controller) (l : Sent) → runs c ≡ true → Framed c l (firstTimeout n f i c)

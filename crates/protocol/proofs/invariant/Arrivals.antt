@@ -1,17 +1,17 @@
 -- The other events: each answer fits.
 use Prim.Native.Nat.{ℕ, zero, suc, _≤_, _<_}
 use mathlib.Core.Path.{_≡_, refl, sym, _∙_, ap, subst}
-use mathlib.Core.Bool.{Bool, true, false, not, _&&_, cond, true≢false, false≢true}
+use mathlib.Core.Bool.{Bool, true, false, not, _&&_, _||_, cond, true≢false, false≢true}
 use native.Mathlib.Omega.{arith}
 use lib.Bits.{bitOr}
 use lib.Dec.{leb, eqb}
 use lib.ListN.{length}
 use mathlib.Core.Logic.{inl, inr}
 use borrow.Author.Tests.{not-true, leb-true, le-leb, eqb-true}
-use Rattle.ground.specs.Tests.{no-both, split, by-cond, and-l, and-r, or-e, or-l, or-r, eqb-same}
+use Rattle.ground.specs.Tests.{no-both, split, by-cond, and-l, and-r, or-e, or-l, or-r, eqb-same, same-test}
 use Rattle.ground.specs.Quantify.{countTo}
 use Rattle.ground.specs.Mask.{has, insert}
-use Rattle.ground.specs.MaskLaws.{has-none, has-or, insert-own, insert-keeps, insert-from}
+use Rattle.ground.specs.MaskLaws.{has-none, has-or, insert-own, insert-keeps, insert-only, insert-from}
 use Rattle.ground.specs.Collect.{has-collect}
 use Rattle.ground.specs.Update.{upd, upd-same}
 use Rattle.votes.specs.VoteSets.{knows, single}
@@ -29,8 +29,8 @@ use Rattle.protocol.specs.declared.Condition.{Condition}
 use Rattle.protocol.specs.declared.Condition.the-variants.{Stopped, Standby}
 use Rattle.protocol.specs.declared.Controller.{Controller}
 use Rattle.protocol.specs.declared.Sent.{Sent}
-use Rattle.protocol.specs.Controllers.{isRunning, phaseIn, outcomeIn, runs, phase, hasAck, cleared, advance, learn, aim, keepAck, answered, isStopped}
-use Rattle.protocol.specs.Rules.{answersCall, becomes, voteRule, voteArrives, countOwn, firstTimeout, ackArrives, helpedArrives, helpArrives}
+use Rattle.protocol.specs.Controllers.{isRunning, phaseIn, outcomeIn, runs, phase, hasAck, cleared, advance, learn, aim, keepAck, addCaller, isStopped}
+use Rattle.protocol.specs.Rules.{keepsCall, answersCall, becomes, voteRule, voteArrives, countOwn, firstTimeout, ackArrives, helpedArrives, helpArrives}
 use Rattle.protocol.specs.Benches.{sentAfter}
 use Rattle.protocol.specs.declared.Saved.{Saved}
 use Rattle.protocol.specs.declared.Saved.the-variants.{Nothing, Newest}
@@ -78,7 +78,7 @@ own-cleared n f i k c l p q room = record {
   };
   helping = record {
     help-copy = λ e. absurd (omega arith);
-    answered-copy = λ e. absurd (omega arith);
+    answered = λ e. absurd (omega arith);
     waiter = λ e. absurd (false≢true e);
     idle = λ e. refl;
     early = λ e. refl;
@@ -93,7 +93,7 @@ own-cleared n f i k c l p q room = record {
 
 ctl-cleared : (n f : ℕ) (L : ℕ → Sent) (ch : Outcome) (i : ℕ) (k : Condition) (c : Controller) → ((v : Bool) → outcomeIn k ≡ wordOf v → OutcomeGrounds n f L ch v) → HeldSound n f L ch i (cleared k c)
 unfolding cleared
-ctl-cleared n f L ch i k c h = record { votes-ok = empty-ok L; helped-ok = empty-ok L; acks-ok = λ j e. absurd (no-both (has 0 j) e (has-none j)); helps-ok = λ j e. absurd (no-both (has 0 j) e (has-none j)); outcome-ok = h }
+ctl-cleared n f L ch i k c h = record { votes-ok = empty-ok L; helped-ok = empty-ok L; acks-ok = λ j e. absurd (no-both (has 0 j) e (has-none j)); helps-ok = λ j e. absurd (no-both (has 0 j) e (has-none j)); calls-ok = λ j e. absurd (no-both (has 0 j) e (has-none j)); outcome-ok = h }
 
 module _ (n f : ℕ) (small : n ≤ limit) (b : View) (inv : Inv n f b) (i : ℕ) where
   abbrev c : Controller
@@ -142,7 +142,7 @@ module _ (n f : ℕ) (small : n ≤ limit) (b : View) (inv : Inv n f b) (i : ℕ
         helping = o .helping;
         counted = o .counted;
       })
-      (record { votes-ok = join-ok L (c .votes) ((L j) .vote .votes) (k .votes-ok) (vote-ok L f j (inv .lines j)); acks-ok = k .acks-ok; helps-ok = k .helps-ok; helped-ok = k .helped-ok; outcome-ok = k .outcome-ok }))
+      (record { votes-ok = join-ok L (c .votes) ((L j) .vote .votes) (k .votes-ok) (vote-ok L f j (inv .lines j)); acks-ok = k .acks-ok; helps-ok = k .helps-ok; helped-ok = k .helped-ok; calls-ok = k .calls-ok; outcome-ok = k .outcome-ok }))
       (passed-over-fits n f b inv i)
 
   -- an acknowledgement arrives
@@ -180,8 +180,37 @@ module _ (n f : ℕ) (small : n ≤ limit) (b : View) (inv : Inv n f b) (i : ℕ
           above (suc (suc zero)) e = absurd (true≢false e)
           above (suc (suc (suc m))) e = omega arith
 
-  -- a help call arrives
-  module _ (j : ℕ) (h : phase c ≡ 3) where
+  -- a help call arrives: it was sent, by j of 1 to n
+  ctl-called : (M : ℕ → Sent) (j : ℕ) → has ((M j) .help .to) i ≡ true → HeldSound n f M (b .state .consensus .decision) i c → HeldSound n f M (b .state .consensus .decision) i (addCaller c j)
+  unfolding addCaller
+  ctl-called M j v k = record {
+    votes-ok = k .votes-ok;
+    acks-ok = k .acks-ok;
+    helps-ok = k .helps-ok;
+    helped-ok = k .helped-ok;
+    calls-ok = λ x q. elim (insert-only (c .help .callers) j x q) [ inl z ↦ rw z v | inr z ↦ k .calls-ok x z ];
+    outcome-ok = k .outcome-ok;
+  }
+
+  -- it is kept
+  keeping-fits : (j : ℕ) → has ((L j) .help .to) i ≡ true → phase c ≤ 2 → Fits n f b i (keepsCall j c)
+  unfolding keepsCall addCaller
+  keeping-fits j v h = let o : Own n f i c l = inv .owns i in becomes-fits n f b inv i _
+      (record {
+        phased = o .phased;
+        helping = record {
+          help-copy = o .helping .help-copy;
+          answered = λ e. absurd (omega arith);
+          waiter = o .helping .waiter;
+          idle = o .helping .idle;
+          early = o .helping .early;
+        };
+        counted = o .counted;
+      })
+      (ctl-called L j v (inv .ctls i))
+
+  -- it is answered
+  module _ (j : ℕ) (lo : 1 ≤ j) (hi : j ≤ n) (v : has ((L j) .help .to) i ≡ true) (h : 3 ≤ phase c) where
     abbrev lh : Sent
     lh = record { vote = l .vote; ack = l .ack; help = l .help; helped = record { to = bitOr (l .helped .to) (insert 0 j); votes = c .help .votes } }
 
@@ -192,13 +221,22 @@ module _ (n f : ℕ) (small : n ≤ limit) (b : View) (inv : Inv n f b) (i : ℕ
     fixed = ap (λ (s : VoteSet). knows s i) copy ∙ inv .owns i .phased .late (omega arith)
 
     help-grown : Grown i l lh
-    help-grown = record { voted = λ e. e; will = λ e. refl; acked = λ e. e; ack = λ e. refl; helped = λ e. fixed; help = λ e. copy }
+    help-grown = record { voted = λ e. e; will = λ e. refl; acked = λ e. e; ack = λ e. refl; helped = λ e. fixed; help = λ e. copy; calls = λ k e. e }
 
     past : phase c ≤ 2 → ⊥
     past x = omega arith
 
+    -- one caller more
+    one-more : (m x : ℕ) → (has m x || has (insert 0 j) x) ≡ has (insert m j) x
+    one-more m x = same-test _ _
+        (λ e. elim (or-e (has m x) (has (insert 0 j) x) e) [ inl y ↦ insert-keeps m j x y | inr y ↦ insert-from m j x y ])
+        (λ e. elim (insert-only m j x e) [
+          | inl y ↦ or-r (has m x) (has (insert 0 j) x) (rw y (insert-own 0 j lo (omega arith)))
+          | inr y ↦ or-l (has m x) (has (insert 0 j) x) y
+        ])
+
     answering-fits : Fits n f b i (answersCall j c)
-    unfolding answersCall answered sentAfter
+    unfolding answersCall addCaller sentAfter
     answering-fits =
         let o : Own n f i c l = inv .owns i in
         let gs : Grows L (upd L i lh) = grows-upd L i lh help-grown in
@@ -229,23 +267,20 @@ module _ (n f : ℕ) (small : n ≤ limit) (b : View) (inv : Inv n f b) (i : ℕ
             };
             helping = record {
               help-copy = λ e. refl;
-              answered-copy = λ e x q. elim (or-e (has (l .helped .to) x) (has (insert 0 j) x) (sym (has-or (l .helped .to) (insert 0 j) x) ∙ q)) [
-                | inl y ↦ insert-keeps (c .help .answered) j x (o .helping .answered-copy (omega arith) x y)
-                | inr y ↦ insert-from (c .help .answered) j x y
-              ];
+              answered = λ e x. has-or (l .helped .to) (insert 0 j) x ∙ rw (o .helping .answered (omega arith) x) (one-more (c .help .callers) x);
               waiter = o .helping .waiter;
               idle = o .helping .idle;
               early = o .helping .early;
             };
             counted = o .counted;
           };
-          ctl-ok = record { votes-ok = k .votes-ok; acks-ok = k .acks-ok; helps-ok = k .helps-ok; helped-ok = k .helped-ok; outcome-ok = k .outcome-ok };
+          ctl-ok = ctl-called (upd L i lh) j (gs j .calls i v) k;
           move-ok = λ e. absurd (false≢true e);
           stay-ok = λ e. absurd (false≢true e);
         }
 
-  pub help-in-fits : (j : ℕ) → Fits n f b i (helpArrives j c)
-  help-in-fits j = help-cases (Fits n f b i) j c (λ p q. answering-fits j p) (passed-over-fits n f b inv i)
+  pub help-in-fits : (j : ℕ) → 1 ≤ j → j ≤ n → has ((L j) .help .to) i ≡ true → Fits n f b i (helpArrives j c)
+  help-in-fits j lo hi v = help-cases (Fits n f b i) j c (keeping-fits j v) (λ p q. answering-fits j lo hi v p) (passed-over-fits n f b inv i)
 
   -- the own vote
   module _ (w : Bool) (t : ℕ) (lo : 1 ≤ i) (hi : i ≤ n) (r : runs c ≡ true) (st : phase c ≡ 0) where
@@ -263,7 +298,7 @@ module _ (n f : ℕ) (small : n ≤ limit) (b : View) (inv : Inv n f b) (i : ℕ
     own-will = single-wills i w i lo (omega arith) ∙ and-yes w (eqb i i) (eqb-same i)
 
     vote-grown : Grown i l lv
-    vote-grown = record { voted = λ e. own-voted; will = λ e. absurd (no-both (votedBy i l) e (inv .owns i .phased .fresh0 r st)); acked = λ e. e; ack = λ e. refl; helped = λ e. e; help = λ e. refl }
+    vote-grown = record { voted = λ e. own-voted; will = λ e. absurd (no-both (votedBy i l) e (inv .owns i .phased .fresh0 r st)); acked = λ e. e; ack = λ e. refl; helped = λ e. e; help = λ e. refl; calls = λ k e. e }
 
     vote-lines : SentSound f (upd L i lv) i lv
     vote-lines = let z : SentSound f (upd L i lv) i l = sent-mono L (upd L i lv) (grows-upd L i lv vote-grown) f i l (inv .lines i) in
@@ -299,7 +334,7 @@ module _ (n f : ℕ) (small : n ≤ limit) (b : View) (inv : Inv n f b) (i : ℕ
             };
             helping = record {
               help-copy = λ e. absurd (omega (arith, bounds (leb i (suc f))));
-              answered-copy = λ e. absurd (omega (arith, bounds (leb i (suc f))));
+              answered = λ e. absurd (omega (arith, bounds (leb i (suc f))));
               waiter = o .helping .waiter;
               idle = λ e. o .helping .idle (omega arith);
               early = λ e. o .helping .early (omega arith);
@@ -316,6 +351,7 @@ module _ (n f : ℕ) (small : n ≤ limit) (b : View) (inv : Inv n f b) (i : ℕ
             acks-ok = k .acks-ok;
             helps-ok = k .helps-ok;
             helped-ok = k .helped-ok;
+            calls-ok = k .calls-ok;
             outcome-ok = k .outcome-ok;
           };
           move-ok = λ e. absurd (false≢true e);
@@ -363,7 +399,7 @@ module _ (n f : ℕ) (small : n ≤ limit) (b : View) (inv : Inv n f b) (i : ℕ
     first-acked = inv .owns i .phased .own (omega arith)
 
     first-grown : Grown i l la
-    first-grown = record { voted = λ e. e; will = λ e. refl; acked = λ e. first-acked; ack = λ e. absurd (no-both (ackedBy i l) e (inv .owns i .phased .fresh1 r (omega arith))); helped = λ e. e; help = λ e. refl }
+    first-grown = record { voted = λ e. e; will = λ e. refl; acked = λ e. first-acked; ack = λ e. absurd (no-both (ackedBy i l) e (inv .owns i .phased .fresh1 r (omega arith))); helped = λ e. e; help = λ e. refl; calls = λ k e. e }
 
     first-old : HeldSound n f (upd L i la) (b .state .consensus .decision) i c
     first-old = ctl-mono L (upd L i la) (grows-upd L i la first-grown) (b .state .consensus .decision) (b .state .consensus .decision) (λ v e. e) n f i c (inv .ctls i)
@@ -406,7 +442,7 @@ module _ (n f : ℕ) (small : n ≤ limit) (b : View) (inv : Inv n f b) (i : ℕ
             };
             helping = record {
               help-copy = λ e. absurd (omega arith);
-              answered-copy = λ e. absurd (omega arith);
+              answered = λ e. absurd (omega arith);
               waiter = λ e. o .helping .waiter (sym (first-rest .1) ∙ e);
               idle = λ e. first-rest .1 ∙ o .helping .idle (omega arith);
               early = λ e. first-rest .2 ∙ o .helping .early (omega arith);
@@ -418,7 +454,7 @@ module _ (n f : ℕ) (small : n ≤ limit) (b : View) (inv : Inv n f b) (i : ℕ
               room = first-own .counted .room;
             };
           };
-          ctl-ok = record { votes-ok = first-ctl .votes-ok; acks-ok = first-ctl .acks-ok; helps-ok = first-ctl .helps-ok; helped-ok = first-ctl .helped-ok; outcome-ok = first-ctl .outcome-ok };
+          ctl-ok = record { votes-ok = first-ctl .votes-ok; acks-ok = first-ctl .acks-ok; helps-ok = first-ctl .helps-ok; helped-ok = first-ctl .helped-ok; calls-ok = first-ctl .calls-ok; outcome-ok = first-ctl .outcome-ok };
           move-ok = λ e. absurd (false≢true e);
           stay-ok = λ e. absurd (false≢true e);
         }

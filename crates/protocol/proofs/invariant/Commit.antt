@@ -19,7 +19,7 @@ use Rattle.protocol.proofs.invariant.Invariant.{SentSound, Grown, Grows
 use Rattle.protocol.proofs.invariant.Growth.{sent-mono, all-mono, stay-mono, out-mono, ctl-mono}
 
 pub grown-refl : (i : ℕ) (l : Sent) → Grown i l l
-grown-refl i l = record { voted = λ e. e; will = λ e. refl; acked = λ e. e; ack = λ e. refl; helped = λ e. e; help = λ e. refl }
+grown-refl i l = record { voted = λ e. e; will = λ e. refl; acked = λ e. e; ack = λ e. refl; helped = λ e. e; help = λ e. refl; calls = λ j e. e }
 
 pub grows-upd : (L : ℕ → Sent) (i : ℕ) (l : Sent) → Grown i (L i) l → Grows L (upd L i l)
 grows-upd L i l g = upd-all (λ k x. Grown k (L k) x) L i l g (λ k. grown-refl k (L k))

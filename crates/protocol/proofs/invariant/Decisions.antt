@@ -68,7 +68,7 @@ own-concluded n f i v c l late o =
       };
       helping = record {
         help-copy = λ e. o .helping .help-copy (rw q at e);
-        answered-copy = λ e. o .helping .answered-copy (rw q at e);
+        answered = λ e. o .helping .answered (rw q at e);
         waiter = λ e. absurd (false≢true e);
         idle = λ e. refl;
         early = λ e. o .helping .early (rw q at e);
@@ -86,7 +86,7 @@ own-concluded n f i v c l late o =
 
 ctl-concluded : (n f : ℕ) (L : ℕ → Sent) (ch : Outcome) (i : ℕ) (c : Controller) (o : Outcome) → HeldSound n f L ch i c → ((v : Bool) → outcomeIn (noting (c .condition) o) ≡ wordOf v → OutcomeGrounds n f L ch v) → HeldSound n f L ch i (conclude c o)
 unfolding conclude
-ctl-concluded n f L ch i c v o h = record { votes-ok = o .votes-ok; acks-ok = o .acks-ok; helps-ok = o .helps-ok; helped-ok = o .helped-ok; outcome-ok = h }
+ctl-concluded n f L ch i c v o h = record { votes-ok = o .votes-ok; acks-ok = o .acks-ok; helps-ok = o .helps-ok; helped-ok = o .helped-ok; calls-ok = o .calls-ok; outcome-ok = h }
 
 pub decide-fits : (n f : ℕ) (b : View) (i : ℕ) (w : Bool) → Inv n f b → (runs (b .ctl i) ≡ true → 3 ≤ phase (b .ctl i)) → cond w (b .state .consensus .«move_proposed») (b .state .consensus .«stay_proposed») ≡ true → b .state .consensus .decision ≡ wordOf w → Fits n f b i (becomes (conclude (b .ctl i) (wordOf w)))
 decide-fits n f b i w inv late p ch = becomes-fits n f b inv i (conclude (b .ctl i) (wordOf w))
@@ -122,11 +122,12 @@ pub record Blank (c : Controller) : Type 0 where
   pub cnt-none : c .acks .cnt .0 ≡ 0
   pub cnt-help-none : c .helped .«cnt_help» .0 ≡ 0
   pub waiting : c .help .waiting ≡ false
+  pub calls-none : c .help .callers ≡ 0
   pub outcome : outcome c ≡ None
 
 pub cleared-blank : (k : Condition) (c : Controller) → phaseIn k ≡ 0 → outcomeIn k ≡ None → Blank (cleared k c)
 unfolding cleared
-cleared-blank k c p q = record { votes = refl; phase = p; acks-none = refl; helps-none = refl; helped = refl; cnt-none = refl; cnt-help-none = refl; waiting = refl; outcome = q }
+cleared-blank k c p q = record { votes = refl; phase = p; acks-none = refl; helps-none = refl; helped = refl; cnt-none = refl; cnt-help-none = refl; waiting = refl; calls-none = refl; outcome = q }
 
 pub renew-blank : (c : Controller) → Blank (renew c)
 unfolding renew
@@ -159,7 +160,7 @@ blank-inv n f o w ctl saved counts ln pm ps ch bl room old fresh = record {
     };
     helping = record {
       help-copy = λ e. absurd (omega arith);
-      answered-copy = λ e. absurd (omega arith);
+      answered = λ e. absurd (omega arith);
       waiter = λ e. absurd (no-both ((ctl k) .help .waiting) e (bl k .waiting));
       idle = λ e. bl k .waiting;
       early = λ e. bl k .helps-none;
@@ -176,6 +177,7 @@ blank-inv n f o w ctl saved counts ln pm ps ch bl room old fresh = record {
     helped-ok = rw (bl k .helped) (empty-ok _);
     acks-ok = λ j e. none j (sym (ap (λ (m : ℕ). has m j) (bl k .acks-none)) ∙ e);
     helps-ok = λ j e. none j (sym (ap (λ (m : ℕ). has m j) (bl k .helps-none)) ∙ e);
+    calls-ok = λ j e. none j (sym (ap (λ (m : ℕ). has m j) (bl k .calls-none)) ∙ e);
     outcome-ok = λ v e. none-word v (sym (bl k .outcome) ∙ e);
   };
   move = λ e. absurd (no-both (w .consensus .«move_proposed») e pm);

@@ -69,5 +69,6 @@ module _ (L L′ : ℕ → Sent) (g : Grows L L′) (ch ch′ : Outcome) (gc : (
     acks-ok = λ j e. ack-mono L L′ g n f i (ackOf c j) j (o .acks-ok j e);
     helps-ok = λ j e. help-mono L L′ g n f (c .helped .votes) j (o .helps-ok j e);
     helped-ok = truthful-mono L L′ g (c .helped .votes) (o .helped-ok);
+    calls-ok = λ j e. g j .calls i (o .calls-ok j e);
     outcome-ok = λ v e. out-mono v (o .outcome-ok v e);
   }

@@ -18,7 +18,7 @@ use Rattle.protocol.specs.declared.HelpAnswers.{HelpAnswers}
 use Rattle.protocol.specs.declared.HelpState.{HelpState}
 use Rattle.protocol.specs.declared.Controller.{Controller}
 use Rattle.protocol.specs.declared.Sent.{Sent}
-use Rattle.protocol.specs.Controllers.{isRunning, phaseIn, outcomeIn, outcome, hasAck, ackOf, hasHelped}
+use Rattle.protocol.specs.Controllers.{isRunning, phaseIn, outcomeIn, outcome, hasAck, ackOf, hasHelped, hasCalled}
 use Rattle.protocol.proofs.view.View.{View, savedOrder, savedOutcome}
 
 -- what controller i has sent: has it voted, and willingly; is its acknowledgement frozen, its help sheet; each sheet knows its sender
@@ -66,6 +66,7 @@ pub record Grown (i : ℕ) (l l′ : Sent) : Type 0 where
   pub ack : ackedBy i l ≡ true → ackOn l′ ≡ ackOn l
   pub helped : frozenBy i l ≡ true → frozenBy i l′ ≡ true
   pub help : frozenBy i l ≡ true → helpOn l′ ≡ helpOn l
+  pub calls : (j : ℕ) → has (l .help .to) j ≡ true → has (l′ .help .to) j ≡ true
 
 abbrev pub Grows : (ℕ → Sent) → (ℕ → Sent) → Type 0
 Grows L L′ = (k : ℕ) → Grown k (L k) (L′ k)
@@ -133,10 +134,10 @@ module _ (n f : ℕ) where
     pub same : 2 ≤ phaseIn k → ackedBy i l ≡ true → (j : ℕ) → knows (ackOn l) j ≡ true → knows s j ≡ true
     pub late : 3 ≤ phaseIn k → frozenBy i l ≡ true
 
-  -- its help: only one beyond the backups waits, and none before the second timeout
+  -- its help: only one beyond the backups waits, and none before the second timeout; from then on those who have called are those who were answered
   pub record Helping (i : ℕ) (k : Condition) (h : HelpState) (from : ℕ) (l : Sent) : Type 0 where
     pub help-copy : 3 ≤ phaseIn k → h .votes ≡ helpOn l
-    pub answered-copy : 3 ≤ phaseIn k → (j : ℕ) → has (l .helped .to) j ≡ true → has (h .answered) j ≡ true
+    pub answered : 3 ≤ phaseIn k → (j : ℕ) → has (l .helped .to) j ≡ has (h .callers) j
     pub waiter : h .waiting ≡ true → f < i
     pub idle : phaseIn k ≤ 2 → h .waiting ≡ false
     pub early : phaseIn k ≤ 2 → from ≡ 0
@@ -171,6 +172,8 @@ module _ (n f : ℕ) where
     pub acks-ok : (j : ℕ) → hasAck c j ≡ true → HeldAck L i (ackOf c j) j
     pub helps-ok : (j : ℕ) → hasHelped c j ≡ true → HeldHelp L (c .helped .votes) j
     pub helped-ok : Truthful L (c .helped .votes)
+    -- a help call taken was sent
+    pub calls-ok : (j : ℕ) → hasCalled c j ≡ true → has ((L j) .help .to) i ≡ true
     pub outcome-ok : (v : Bool) → outcome c ≡ wordOf v → OutcomeGrounds L ch v
 
   pub record Inv (b : View) : Type 0 where

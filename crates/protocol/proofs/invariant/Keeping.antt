@@ -47,6 +47,7 @@ module _ (n f : ℕ) (small : n ≤ limit) where
   ctl-ack-kept L ch i c j s a b′ b h o = record {
     votes-ok = o .votes-ok;
     helped-ok = o .helped-ok;
+    calls-ok = o .calls-ok;
     helps-ok = o .helps-ok;
     outcome-ok = o .outcome-ok;
     acks-ok = rw (insert-is (c .acks .from) j a (omega arith), nth-put empty (c .acks .sets) j s a b) (upd-all₂ (λ k x t. x ≡ true → HeldAck n f L i t k) (has (c .acks .from)) (nth empty (c .acks .sets)) j true s (λ q. h) (o .acks-ok));
@@ -58,7 +59,7 @@ module _ (n f : ℕ) (small : n ≤ limit) where
     phased = o .phased;
     helping = record {
       help-copy = o .helping .help-copy;
-      answered-copy = o .helping .answered-copy;
+      answered = o .helping .answered;
       waiter = o .helping .waiter;
       idle = o .helping .idle;
       early = λ e. absurd (omega arith);
@@ -77,6 +78,7 @@ module _ (n f : ℕ) (small : n ≤ limit) where
     votes-ok = o .votes-ok;
     acks-ok = o .acks-ok;
     outcome-ok = o .outcome-ok;
+    calls-ok = o .calls-ok;
     helped-ok = join-ok L (c .helped .votes) (helpOn (L j)) (o .helped-ok) ok;
     helps-ok = λ k e. upd-all (λ k x. x ≡ true → HeldHelp n f L (join (c .helped .votes) (helpOn (L j))) k) (has (c .helped .from)) j true
         (λ q. record { helped = h; beyond = far; covers = λ x y. join-wills (c .helped .votes) (helpOn (L j)) x ∙ or-r (wills (c .helped .votes) x) (wills (helpOn (L j)) x) y })

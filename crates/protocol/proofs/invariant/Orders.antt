@@ -101,7 +101,7 @@ module _ (n f : ℕ) (f<n : f < n) (1≤f : 1 ≤ f) (small : n ≤ limit) where
   perform-next b (Cast i w t) inv q = commit-next b i _ inv (vote-fits n f small b inv i w t (leb-true _ _ (search (ask-l, ask-r, and-l, and-r) depth 14)) (leb-true _ _ (search (ask-l, ask-r, and-l, and-r) depth 14)) (search (ask-l, ask-r, and-l, and-r) depth 14) (eqb-true _ _ (search (ask-l, ask-r, and-l, and-r) depth 14)))
   perform-next b (Deliver i j Vote) inv q = commit-next b j _ inv (vote-in-fits n f small b inv j i)
   perform-next b (Deliver i j Ack) inv q = commit-next b j _ inv (ack-in-fits n f small b inv j f<n (leb-true _ _ (search (ask-l, ask-r, and-l, and-r) depth 14)) (leb-true _ _ (search (ask-l, ask-r, and-l, and-r) depth 14)) i (leb-true _ _ (search (ask-l, ask-r, and-l, and-r) depth 14)) (leb-true _ _ (search (ask-l, ask-r, and-l, and-r) depth 14)) (search (ask-l, ask-r, and-l, and-r) depth 14))
-  perform-next b (Deliver i j Help) inv q = commit-next b j _ inv (help-in-fits n f small b inv j i)
+  perform-next b (Deliver i j Help) inv q = commit-next b j _ inv (help-in-fits n f small b inv j i (leb-true _ _ (search (ask-l, ask-r, and-l, and-r) depth 14)) (leb-true _ _ (search (ask-l, ask-r, and-l, and-r) depth 14)) (search (ask-l, ask-r, and-l, and-r) depth 14))
   perform-next b (Deliver i j Helped) inv q = commit-next b j _ inv (helped-in-fits n f small b inv j f<n i (leb-true _ _ (search (ask-l, ask-r, and-l, and-r) depth 14)) (leb-true _ _ (search (ask-l, ask-r, and-l, and-r) depth 14)) (leb-true _ _ (search (ask-l, ask-r, and-l, and-r) depth 14)) (search (ask-l, ask-r, and-l, and-r) depth 14))
   perform-next b (Timeout i) inv q = commit-next b i _ inv (timeout-cases (Fits n f b i) n f i (b .ctl i)
       (λ st. first-fits n f small b inv i (leb-true _ _ (search (ask-l, ask-r, and-l, and-r) depth 14)) (leb-true _ _ (search (ask-l, ask-r, and-l, and-r) depth 14)) (search (ask-l, ask-r, and-l, and-r) depth 14) st)

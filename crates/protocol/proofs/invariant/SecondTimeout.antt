@@ -1,14 +1,14 @@
 -- The second timeout: its three ways out fit.
 use Prim.Native.Nat.{ℕ, zero, suc, _≤_, _<_}
 use mathlib.Core.Path.{_≡_, refl, sym, _∙_, ap, subst}
-use mathlib.Core.Bool.{or-false, Bool, true, false, not, _&&_, _||_, false≢true}
+use mathlib.Core.Bool.{Bool, true, false, not, _&&_, _||_, false≢true}
 use native.Mathlib.Omega.{arith}
 use native.Mathlib.Decide.{decLe, ℕ-discrete}
 use lib.Bits.{bitOr}
 use lib.Dec.{leb, ltb}
 use mathlib.Core.Logic.{inl, inr}
 use borrow.Author.Tests.{leb-true, le-leb}
-use Rattle.ground.specs.Tests.{no-both, and-l, and-r, or-l}
+use Rattle.ground.specs.Tests.{no-both, refuted, and-l, and-r, or-l}
 use Rattle.ground.specs.Quantify.{Found, allTo, all-at, countTo}
 use Rattle.ground.specs.Mask.{has}
 use Rattle.ground.specs.MaskLaws.{has-none, has-or}
@@ -24,7 +24,7 @@ use Rattle.model.specs.declared.Outcome.{Outcome}
 use Rattle.protocol.specs.declared.Outgoing.{Outgoing}
 use Rattle.protocol.specs.declared.Controller.{Controller}
 use Rattle.protocol.specs.declared.Sent.{Sent}
-use Rattle.protocol.specs.Controllers.{runs, phase, outcome, hasAck, ackOf, hasHelped, advance, freeze, await, keepHelped, conclude}
+use Rattle.protocol.specs.Controllers.{runs, phase, outcome, hasAck, ackOf, hasHelped, hasCalled, advance, freeze, await, keepHelped, conclude}
 use Rattle.protocol.specs.Rules.{verdict, ackJoin, backupsComplete, secondKnows, decides, helpVotes, frozen, ready, proposing, callsHelp, secondTimeout}
 use Rattle.protocol.specs.Benches.{sentAfter}
 use Rattle.protocol.proofs.view.RuleCases.{second-cases}
@@ -44,7 +44,7 @@ module _ (n f : ℕ) where
     phased = o .phased;
     helping = record {
       help-copy = o .helping .help-copy;
-      answered-copy = o .helping .answered-copy;
+      answered = o .helping .answered;
       waiter = λ e. h;
       idle = λ e. absurd (omega arith);
       early = o .helping .early;
@@ -54,7 +54,7 @@ module _ (n f : ℕ) where
 
   ctl-waiting : (L : ℕ → Sent) (ch : Outcome) (i : ℕ) (c : Controller) → HeldSound n f L ch i c → HeldSound n f L ch i (await c)
   unfolding await
-  ctl-waiting L ch i c o = record { votes-ok = o .votes-ok; acks-ok = o .acks-ok; helps-ok = o .helps-ok; helped-ok = o .helped-ok; outcome-ok = o .outcome-ok }
+  ctl-waiting L ch i c o = record { votes-ok = o .votes-ok; acks-ok = o .acks-ok; helps-ok = o .helps-ok; helped-ok = o .helped-ok; calls-ok = o .calls-ok; outcome-ok = o .outcome-ok }
 
 count-one : (m : ℕ) (p : ℕ → Bool) (j : ℕ) → 1 ≤ j → j ≤ m → p j ≡ true → 1 ≤ countTo m p
 unfolding countTo
@@ -76,7 +76,7 @@ module _ (n f : ℕ) (f<n : f < n) (1≤f : 1 ≤ f) (small : n ≤ limit) (b : 
 
   -- what it has sent afterwards: its help sheet is laid down, and help calls h are out or not
   abbrev l′ : Outgoing → Sent
-  l′ h = record { vote = (L i) .vote; ack = (L i) .ack; help = h; helped = record { to = bitOr ((L i) .helped .to) 0; votes = s } }
+  l′ h = record { vote = (L i) .vote; ack = (L i) .ack; help = h; helped = record { to = bitOr ((L i) .helped .to) (c .help .callers); votes = s } }
 
   abbrev L′ : Outgoing → ℕ → Sent
   L′ h = upd L i (l′ h)
@@ -92,6 +92,9 @@ module _ (n f : ℕ) (f<n : f < n) (1≤f : 1 ≤ f) (small : n ≤ limit) (b : 
   s-own : knows s i ≡ true
   s-own = s-knows i (inv .owns i .phased .own (omega arith))
 
+  unfrozen : frozenBy i (L i) ≡ false
+  unfrozen = inv .owns i .phased .fresh2 runs′ (omega arith)
+
   grown : (h : Outgoing) → Grown i (L i) (l′ h)
   grown h = record {
     voted = λ e. e;
@@ -99,7 +102,8 @@ module _ (n f : ℕ) (f<n : f < n) (1≤f : 1 ≤ f) (small : n ≤ limit) (b : 
     acked = λ e. e;
     ack = λ e. refl;
     helped = λ e. s-own;
-    help = λ e. absurd (no-both (frozenBy i (L i)) e (inv .owns i .phased .fresh2 runs′ (omega arith)));
+    help = λ e. absurd (no-both (frozenBy i (L i)) e unfrozen);
+    calls = λ j e. absurd (no-both (frozenBy i (L i)) (inv .lines i .help-to j e) unfrozen);
   }
 
   grows : (h : Outgoing) → Grows L (L′ h)
@@ -118,9 +122,9 @@ module _ (n f : ℕ) (f<n : f < n) (1≤f : 1 ≤ f) (small : n ≤ limit) (b : 
     vote-only = o .vote-only;
   }
 
-  -- nobody was answered before
-  called : (j : ℕ) → has (bitOr ((L i) .helped .to) 0) j ≡ true → frozenBy i (L i) ≡ true
-  called j e = inv .lines i .helped-to j (sym (has-or ((L i) .helped .to) 0 j ∙ rw (has-none j) (or-false (has ((L i) .helped .to) j))) ∙ e)
+  -- nobody was answered before, so those answered are those whose calls were kept
+  kept-answered : (j : ℕ) → has (bitOr ((L i) .helped .to) (c .help .callers)) j ≡ hasCalled c j
+  kept-answered j = has-or ((L i) .helped .to) (c .help .callers) j ∙ rw (refuted (has ((L i) .helped .to) j) (λ e. no-both (frozenBy i (L i)) (inv .lines i .helped-to j e) unfrozen))
 
   -- the controller at stage 3 with its help sheet frozen
   own-frozen : (h : Outgoing) → Own n f i (frozen n c) (l′ h)
@@ -137,7 +141,7 @@ module _ (n f : ℕ) (f<n : f < n) (1≤f : 1 ≤ f) (small : n ≤ limit) (b : 
     };
     helping = record {
       help-copy = λ e. refl;
-      answered-copy = λ e j q. absurd (no-both (frozenBy i (L i)) (called j q) (o .phased .fresh2 runs′ (omega arith)));
+      answered = λ e. kept-answered;
       waiter = o .helping .waiter;
       idle = λ e. absurd (omega arith);
       early = λ e. absurd (omega arith);
@@ -155,7 +159,7 @@ module _ (n f : ℕ) (f<n : f < n) (1≤f : 1 ≤ f) (small : n ≤ limit) (b : 
 
   ctl-frozen : (h : Outgoing) → HeldSound n f (L′ h) (b .state .consensus .decision) i (frozen n c)
   unfolding frozen freeze advance
-  ctl-frozen h = let o : HeldSound n f (L′ h) (b .state .consensus .decision) i c = old-ok h in record { votes-ok = o .votes-ok; acks-ok = o .acks-ok; helps-ok = o .helps-ok; helped-ok = o .helped-ok; outcome-ok = o .outcome-ok }
+  ctl-frozen h = let o : HeldSound n f (L′ h) (b .state .consensus .decision) i c = old-ok h in record { votes-ok = o .votes-ok; acks-ok = o .acks-ok; helps-ok = o .helps-ok; helped-ok = o .helped-ok; calls-ok = o .calls-ok; outcome-ok = o .outcome-ok }
 
   acks-ok : Truthful L (ackJoin n c)
   acks-ok = acks-true n f L (inv .lines) i c (inv .ctls i .acks-ok)
@@ -226,7 +230,7 @@ module _ (n f : ℕ) (f<n : f < n) (1≤f : 1 ≤ f) (small : n ≤ limit) (b : 
             };
             helping = record {
               help-copy = o .helping .help-copy;
-              answered-copy = o .helping .answered-copy;
+              answered = o .helping .answered;
               waiter = λ e. absurd (false≢true e);
               idle = λ e. refl;
               early = o .helping .early;
@@ -238,6 +242,7 @@ module _ (n f : ℕ) (f<n : f < n) (1≤f : 1 ≤ f) (small : n ≤ limit) (b : 
             acks-ok = k .acks-ok;
             helps-ok = k .helps-ok;
             helped-ok = k .helped-ok;
+            calls-ok = k .calls-ok;
             outcome-ok = λ v e. or-else-is (outcome c) (unanimous n (ackJoin n c)) v (k .outcome-ok v) (grounds v) e;
           };
           move-ok = λ e. absurd (false≢true e);
@@ -246,7 +251,7 @@ module _ (n f : ℕ) (f<n : f < n) (1≤f : 1 ≤ f) (small : n ≤ limit) (b : 
 
   -- a word put at the timeout
   put-fits : ltb 0 (c .acks .cnt .0) ≡ true → Fits n f b i (proposing (ready (helpVotes n c) (frozen n c)) (verdict n (ackJoin n c)))
-  unfolding ready proposing sentAfter verdict
+  unfolding ready proposing sentAfter verdict frozen freeze advance
   put-fits e = record {
     grown = grown h₀;
     sent-ok = sent-ok h₀;
@@ -292,7 +297,7 @@ module _ (n f : ℕ) (f<n : f < n) (1≤f : 1 ≤ f) (small : n ≤ limit) (b : 
   at3′ = omega arith
 
   wait-fits : ltb 0 (c .acks .cnt .0) ≡ false → Fits n f b i (callsHelp n f i (helpVotes n c) (frozen n c))
-  unfolding callsHelp sentAfter
+  unfolding callsHelp sentAfter frozen freeze advance
   wait-fits e = record {
     grown = grown h₁;
     sent-ok = sent-ok h₁;

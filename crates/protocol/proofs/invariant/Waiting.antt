@@ -92,7 +92,7 @@ module _ (n f : ℕ) where
     phased = o .phased;
     helping = record {
       help-copy = o .helping .help-copy;
-      answered-copy = o .helping .answered-copy;
+      answered = o .helping .answered;
       waiter = λ e. absurd (false≢true e);
       idle = λ e. refl;
       early = o .helping .early;
@@ -102,7 +102,7 @@ module _ (n f : ℕ) where
 
   pub ctl-put : (L : ℕ → Sent) (ch : Outcome) (i : ℕ) (c : Controller) (v : Outcome) → HeldSound n f L ch i c → HeldSound n f L ch i (propose c v)
   unfolding propose
-  ctl-put L ch i c v o = record { votes-ok = o .votes-ok; acks-ok = o .acks-ok; helps-ok = o .helps-ok; helped-ok = o .helped-ok; outcome-ok = o .outcome-ok }
+  ctl-put L ch i c v o = record { votes-ok = o .votes-ok; acks-ok = o .acks-ok; helps-ok = o .helps-ok; helped-ok = o .helped-ok; calls-ok = o .calls-ok; outcome-ok = o .outcome-ok }
 
 module _ (n f : ℕ) (f<n : f < n) (L : ℕ → Sent) (ok : (k : ℕ) → SentSound f L k (L k)) (ch : Outcome) (i : ℕ) (c : Controller) (l : Sent) (w : Own n f i c l) (o : HeldSound n f L ch i c) where
   settled-move : unanimous n (answersJoin n c) ≡ true → AllWilling n f L

@@ -3,9 +3,8 @@ use Prim.Native.Nat.{ℕ, _≤_}
 use mathlib.Core.Path.{_≡_}
 use mathlib.Core.Bool.{true, false, not, _&&_, _||_}
 use lib.Dec.{leb, eqb, ltb}
-use borrow.Author.Tests.{leb-true, eqb-true, not-true}
+use borrow.Author.Tests.{leb-true, leb-false, eqb-true, not-true}
 use Rattle.ground.specs.Tests.{by-cond, and-l, and-r}
-use Rattle.ground.specs.Mask.{has}
 use Rattle.votes.specs.declared.VoteSet.{VoteSet}
 use Rattle.model.specs.declared.Checkpoint.{Checkpoint}
 use Rattle.protocol.specs.declared.Controller.{Controller}
@@ -13,8 +12,8 @@ use Rattle.protocol.specs.declared.Answer.{Answer}
 use Rattle.protocol.specs.declared.Identity.{Identity}
 use Rattle.protocol.specs.declared.Saved.{Saved}
 use Rattle.protocol.specs.declared.Saved.the-variants.{Nothing, Newest}
-use Rattle.protocol.specs.Controllers.{phase, hasAck, hasHelped, learn, keepAck, keepHelped, conclude}
-use Rattle.protocol.specs.Rules.{passedOver, becomes, proposing, verdict, voteArrives, firstTimeout, ackJoin, decides, sufficient, answersJoin, proposeIfSufficient, helpVotes, frozen, ready, callsHelp, secondTimeout, ackArrives, helpedArrives, answersCall, helpArrives}
+use Rattle.protocol.specs.Controllers.{phase, hasAck, hasHelped, hasCalled, learn, keepAck, keepHelped, conclude}
+use Rattle.protocol.specs.Rules.{passedOver, becomes, proposing, verdict, voteArrives, firstTimeout, ackJoin, decides, sufficient, answersJoin, proposeIfSufficient, helpVotes, frozen, ready, callsHelp, secondTimeout, ackArrives, helpedArrives, keepsCall, answersCall, helpArrives}
 use Rattle.protocol.specs.Calls.{restore}
 use Rattle.protocol.specs.Steps.{restoreFrom}
 use Rattle.protocol.proofs.view.Performed.{timeoutRule}
@@ -25,11 +24,11 @@ module _ (P : Answer → Type 0) where
   unfolding voteArrives
   vote-cases s c taken late = by-cond P (leb (phase c) 1) _ _ (λ e. taken (leb-true _ _ e)) (λ e. late)
 
-  -- a help call is answered, or passed over
-  pub help-cases : (j : ℕ) (c : Controller) → (phase c ≡ 3 → has (c .help .answered) j ≡ false → P (answersCall j c)) → P (passedOver c) → P (helpArrives j c)
+  -- a help call is kept, or answered, or passed over
+  pub help-cases : (j : ℕ) (c : Controller) → (phase c ≤ 2 → P (keepsCall j c)) → (3 ≤ phase c → hasCalled c j ≡ false → P (answersCall j c)) → P (passedOver c) → P (helpArrives j c)
   unfolding helpArrives
-  help-cases j c taken late = by-cond P (eqb (phase c) 3 && not (has (c .help .answered) j)) _ _
-      (λ e. taken (eqb-true _ _ (and-l (eqb (phase c) 3) _ e)) (not-true _ (and-r (eqb (phase c) 3) _ e))) (λ e. late)
+  help-cases j c early late again = by-cond P (hasCalled c j) _ _ (λ e. again)
+      (λ q. by-cond P (leb (phase c) 2) _ _ (λ e. early (leb-true _ _ e)) (λ e. late (leb-false _ _ e) q))
 
   -- a checkpoint is used by a stopped controller alone
   pub restore-cases : (me : Identity) (s : Saved) (c : Controller) → ((x : Checkpoint) → s ≡ Newest x → P (restore me x c)) → P (passedOver c) → P (restoreFrom me s c)

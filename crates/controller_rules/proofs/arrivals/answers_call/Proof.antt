@@ -6,8 +6,8 @@ use Rattle.controller_rules.proofs.arrivals.answers_call.Tie as tie
 insert-requires : tie.Need-insert-requires
 insert-requires c κs = search needs
 
-answered-requires : tie.Need-answered-requires
-answered-requires c κs = search needs
+add-caller-requires : tie.Need-add-caller-requires
+add-caller-requires c κs = search needs
 
 helps-requires : tie.Need-helps-requires
 helps-requires c κs = search needs
@@ -17,8 +17,8 @@ sending-requires c κs = search needs
 
 returns : tie.Need-returns
 unfolding answersCall
-returns c = simp (c .before .before .before .insert .ensures, c .before .before .answered .ensures, c .before .helps .ensures, c .sending .ensures)
+returns c = simp (c .before .before .before .insert .ensures, c .before .before .add-caller .ensures, c .before .helps .ensures, c .sending .ensures)
 
 pub answers-call-spec : {M : Type 1} → statement M
 answers-call-spec =
-    tie.close (tie.spec insert-requires answered-requires helps-requires sending-requires returns)
+    tie.close (tie.spec insert-requires add-caller-requires helps-requires sending-requires returns)

@@ -1,0 +1,4 @@
+pub mod Rules
+pub mod Bells
+pub mod Views
+pub mod Theorem
