@@ -5,6 +5,7 @@ pub mod choices;
 pub mod clean_orders;
 pub mod commands;
 pub mod frames;
+pub mod hearing;
 pub mod orders;
 pub mod player;
 pub mod ranges;

@@ -9,6 +9,7 @@ pub mod frame;
 pub mod generate;
 pub mod generator;
 pub mod group;
+pub mod hears;
 pub mod kept;
 pub mod levels;
 pub mod line;

@@ -41,4 +41,4 @@ module _ (n f i : ℕ) (c : Controller) where
       (λ e. unfold proposing ready propose frozen freeze advance in record { runs = refl; phase = refl; votes = refl })
       (λ e. sufficient-cases Frozen n f _
       (λ q. unfold proposing propose callsHelp keepHelped await frozen freeze advance in record { runs = refl; phase = refl; votes = refl })
-      (unfold callsHelp keepHelped await frozen freeze advance in record { runs = refl; phase = refl; votes = refl }))
+      (λ q. unfold callsHelp keepHelped await frozen freeze advance in record { runs = refl; phase = refl; votes = refl }))

@@ -3,3 +3,4 @@ pub mod invariant
 pub mod gates
 pub mod clean
 pub mod claim
+pub mod hearing

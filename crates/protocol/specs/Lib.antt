@@ -18,6 +18,8 @@ pub mod Claim
 pub mod CleanOrders
 pub mod CleanTelegrams
 pub mod NotHollow
+-- document 02, U5
+pub mod Termination
 -- what else holds of every list
 pub mod SentOnce
 pub mod OpenCount

@@ -5,6 +5,7 @@ ghost use Rattle.protocol.specs.NotHollow.{NotHollow};
 ghost use Rattle.protocol.specs.OpenCount.{OpenCount};
 ghost use Rattle.protocol.specs.Reach.{Reach};
 ghost use Rattle.protocol.specs.SentOnce.{SentOnce};
+ghost use Rattle.protocol.specs.Termination.{Termination};
 ghost use Rattle.protocol.specs.Trials.{TrialsHold};
 use ground::LIMIT;
 use model::Checkpoint;
@@ -194,6 +195,11 @@ pub fn clean_orders_exist()
 // The telegrams of a clean order that has ended everywhere (document 02, U10): fn votes, fn acknowledgements, no help call, no answer.
 pub fn clean_telegrams()
     ensures { λ _. ⌜ CleanTelegrams ⌝ }
+{}
+
+// A running gate is never left waiting: document 02, U5, over every list of events, with lists that meet its premises and lists that lack one.
+pub fn termination()
+    ensures { λ _. ⌜ Termination ⌝ }
 {}
 
 // The T line counts the telegrams that were sent by the rules: none is sent twice in an order.

@@ -82,7 +82,7 @@ module _ (G H : ℕ → Type 0) (g0 : G 0) where
 
   puts-keeps : (n f : ℕ) (a : Answer) → Keeps a → Keeps (proposeIfSufficient n f a)
   unfolding proposing propose
-  puts-keeps n f a h = sufficient-cases Keeps n f a (λ q. record { keeps = record { low = h .keeps .low; gate = record { target = h .keeps .gate .target; position = h .keeps .gate .position }; help = h .keeps .help } }) h
+  puts-keeps n f a h = sufficient-cases Keeps n f a (λ q. record { keeps = record { low = h .keeps .low; gate = record { target = h .keeps .gate .target; position = h .keeps .gate .position }; help = h .keeps .help } }) (λ q. h)
 
   becomes-keeps : (c : Controller) → InRange c → Keeps (becomes c)
   unfolding becomes
@@ -159,8 +159,8 @@ module _ (G H : ℕ → Type 0) (g0 : G 0) where
     unfolding arrives
     arrives-keeps Vote j s c h = vote-cases Keeps s c (λ p. becomes-keeps _ (learn-in c s h)) (passed-keeps c h)
     arrives-keeps Ack j s c h = ack-cases Keeps n f j s c (λ p. puts-keeps n f _ (becomes-keeps _ (ack-in c j s h))) (λ p. passed-keeps c h)
-    arrives-keeps Help j s c h = help-cases Keeps j c (λ p. unfold keepsCall in becomes-keeps _ (caller-in c j h)) (λ p q. unfold answersCall in record { keeps = caller-in c j h }) (passed-keeps c h)
-    arrives-keeps Helped j s c h = helped-cases Keeps n f j s c (λ p q. puts-keeps n f _ (becomes-keeps _ (helped-in c j s h))) (passed-keeps c h)
+    arrives-keeps Help j s c h = help-cases Keeps j c (λ p. unfold keepsCall in becomes-keeps _ (caller-in c j h)) (λ p q. unfold answersCall in record { keeps = caller-in c j h }) (λ q. passed-keeps c h)
+    arrives-keeps Helped j s c h = helped-cases Keeps n f j s c (λ p q. puts-keeps n f _ (becomes-keeps _ (helped-in c j s h))) (λ q. passed-keeps c h)
 
     -- what was sent in an order o: a vote by a controller of the lock; help calls with no sheet; a kind only where it may travel
     pub record SentIn (o k : ℕ) (l : Sent) : Type 0 where
@@ -206,7 +206,7 @@ module _ (G H : ℕ → Type 0) (g0 : G 0) where
 
     puts-ok : (k : ℕ) (a : Answer) → Sends-ok k a → Sends-ok k (proposeIfSufficient n f a)
     unfolding proposing
-    puts-ok k a h = sufficient-cases (Sends-ok k) n f a (λ q. record { calls = h .calls; to = h .to }) h
+    puts-ok k a h = sufficient-cases (Sends-ok k) n f a (λ q. record { calls = h .calls; to = h .to }) (λ q. h)
 
     -- those whose calls controller k has taken
     abbrev CallersIn : ℕ → Controller → Type 0
@@ -291,8 +291,8 @@ module _ (G H : ℕ → Type 0) (g0 : G 0) where
       unfolding arrives
       arrives-ok Vote j k s c hi r = vote-cases (Sends-ok k) s c (λ p. becomes-ok k _) (passed-ok k c)
       arrives-ok Ack j k s c hi r = ack-cases (Sends-ok k) n f j s c (λ p. puts-ok k _ (becomes-ok k _)) (λ p. passed-ok k c)
-      arrives-ok Help j k s c hi r = help-cases (Sends-ok k) j c (λ p. unfold keepsCall in becomes-ok k _) (λ p q. answers-ok j k c hi r) (passed-ok k c)
-      arrives-ok Helped j k s c hi r = helped-cases (Sends-ok k) n f j s c (λ p q. puts-ok k _ (becomes-ok k _)) (passed-ok k c)
+      arrives-ok Help j k s c hi r = help-cases (Sends-ok k) j c (λ p. unfold keepsCall in becomes-ok k _) (λ p q. answers-ok j k c hi r) (λ q. passed-ok k c)
+      arrives-ok Helped j k s c hi r = helped-cases (Sends-ok k) n f j s c (λ p q. puts-ok k _ (becomes-ok k _)) (λ q. passed-ok k c)
 
     -- a checkpoint of controller k
     pub record SavedIn (k : ℕ) (p : Checkpoint) : Type 0 where

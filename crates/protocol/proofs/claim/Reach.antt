@@ -26,7 +26,7 @@ pub record Alive (b : Bench) : Type 0 where
 abbrev pub Reached : Bench → Type 0
 Reached b = (b ≡ newBench) ⊎ Alive b
 
-alive-step : (b : Bench) (e : Event) → Alive b → Alive (step b e)
+pub alive-step : (b : Bench) (e : Event) → Alive b → Alive (step b e)
 alive-step b e a =
     let s : Steps b (a .sound) (step b e) = step-steps b (a .sound) e in
     let r : Ranges (b .shared .n) (b .shared .f) = ranges (b .shared .n) (b .shared .f) (a .sound .sized) in
@@ -61,7 +61,7 @@ new-step (Stop i) = inl (idle (Stop i) tt)
 new-step (Save i) = inl (idle (Save i) tt)
 new-step (Restore i) = inl (idle (Restore i) tt)
 
-locked-alive : (b : Bench) → JustLocked b → Alive b
+pub locked-alive : (b : Bench) → JustLocked b → Alive b
 locked-alive b l = subst Alive (sym (l .is)) (record { sound = lock-sound (l .n) (l .f) (l .sized); inv = unfold benchOf in lock-inv (l .n) (l .f) (l .sized) })
 
 new-reached : (e : Event) → Reached (step newBench e)

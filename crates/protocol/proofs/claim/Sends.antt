@@ -47,7 +47,7 @@ pub record New (l : Sent) (a : Answer) : Type 0 where
   pub fresh : (kind : Kind) (j : ℕ) → has (receiversOf (sendOf kind (a .sends))) j ≡ true → has ((ofKind kind l) .to) j ≡ false
   pub same : (kind : Kind) (j : ℕ) → has ((ofKind kind l) .to) j ≡ true → (ofKind kind (sentAfter l (a .sends))) .votes ≡ (ofKind kind l) .votes
 
-nobody : {X : Type 0} (j : ℕ) → has 0 j ≡ true → X
+pub nobody : {X : Type 0} (j : ℕ) → has 0 j ≡ true → X
 nobody j e = absurd (no-both (has 0 j) e (has-none j))
 
 becomes-new : (l : Sent) (c : Controller) → New l (becomes c)
@@ -87,7 +87,7 @@ sum-upd (suc m) g i x d lo hi e = elim (ℕ-discrete i (suc m)) [
 module _ (n f : ℕ) where
   puts-new : (l : Sent) (a : Answer) → New l a → New l (proposeIfSufficient n f a)
   unfolding proposing
-  puts-new l a h = sufficient-cases (New l) n f a (λ q. record { fresh = h .fresh; same = h .same }) h
+  puts-new l a h = sufficient-cases (New l) n f a (λ q. record { fresh = h .fresh; same = h .same }) (λ q. h)
 
   module _ (b : View) (inv : Inv n f b) (i : ℕ) where
     abbrev c : Controller
@@ -195,8 +195,8 @@ module _ (n f : ℕ) where
     unfolding arrives
     arrives-new Vote j s = vote-cases (New l) s c (λ p. becomes-new l _) (passed-new l c)
     arrives-new Ack j s = ack-cases (New l) n f j s c (λ p. puts-new l _ (becomes-new l _)) (λ p. passed-new l c)
-    arrives-new Help j s = help-cases (New l) j c (λ p. unfold keepsCall in becomes-new l _) (λ p q. answers-new j p q) (passed-new l c)
-    arrives-new Helped j s = helped-cases (New l) n f j s c (λ p q. puts-new l _ (becomes-new l _)) (passed-new l c)
+    arrives-new Help j s = help-cases (New l) j c (λ p. unfold keepsCall in becomes-new l _) (λ p q. answers-new j p q) (λ q. passed-new l c)
+    arrives-new Helped j s = helped-cases (New l) n f j s c (λ p q. puts-new l _ (becomes-new l _)) (λ q. passed-new l c)
 
   -- the rule of every accepted event
   pub rule-new : (b : View) → Inv n f b → (e : Event) → accepts n f b e ≡ true → New (b .state .sent (subject e)) (ruleAnswer n f b e)

@@ -46,7 +46,7 @@ module _ (n f : ℕ) where
 
   settle-holds : (i : ℕ) (a : Answer) → Holds i a → Holds i (proposeIfSufficient n f a)
   unfolding proposing propose
-  settle-holds i a h = sufficient-cases (Holds i) n f a (λ q. record { is = h .is }) h
+  settle-holds i a h = sufficient-cases (Holds i) n f a (λ q. record { is = h .is }) (λ q. h)
 
   ack-held : (i : ℕ) (s : VoteSet) (c : Controller) → 1 ≤ i → i ≤ width → phase c ≤ 2 → Holds i (ackArrives n f i s c)
   ack-held i s c a b h = ack-cases (Holds i) n f i s c
@@ -88,7 +88,7 @@ module _ (n f : ℕ) where
 
   settle-rings : (s : ℕ) (a : Answer) → Reaches s a → Reaches s (proposeIfSufficient n f a)
   unfolding proposing propose
-  settle-rings s a h = sufficient-cases (Reaches s) n f a (λ q. record { is = h .is }) h
+  settle-rings s a h = sufficient-cases (Reaches s) n f a (λ q. record { is = h .is }) (λ q. h)
 
   pub second-rings : (j : ℕ) (c : Controller) → Reaches 3 (secondTimeout n f j c)
   second-rings j c = second-cases (Reaches 3) n f j c (λ d. direct) (λ e. put) (λ e. settle-rings 3 _ waits)
@@ -106,7 +106,7 @@ module _ (n f : ℕ) where
   unfolding firstTimeout advance
   first-rings j c = record { is = refl }
 
-  rung-after : (b : View) (i : ℕ) (a : Answer) (s : ℕ) → Reaches s a → phase ((commitV b i a) .ctl i) ≡ s
+  pub rung-after : (b : View) (i : ℕ) (a : Answer) (s : ℕ) → Reaches s a → phase ((commitV b i a) .ctl i) ≡ s
   unfolding commitV
   rung-after b i a s h = rw (upd-same (b .ctl) i (a .controller)) (h .is)
 

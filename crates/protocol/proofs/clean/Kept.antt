@@ -40,7 +40,7 @@ use Rattle.protocol.proofs.invariant.Invariant.{ackOn, ackedBy}
 use Rattle.protocol.proofs.invariant.Commit.{upd-all₂}
 use Rattle.protocol.proofs.invariant.Orders.{second}
 
-stopped-idle : (k : Condition) → isStopped k ≡ true → isRunning k ≡ false
+pub stopped-idle : (k : Condition) → isStopped k ≡ true → isRunning k ≡ false
 stopped-idle (Running p) e = absurd (false≢true e)
 stopped-idle Stopped e = refl
 stopped-idle (Standby o) e = refl
@@ -76,7 +76,7 @@ module _ (n f : ℕ) where
   settle-live : (e : Event) (j : ℕ) (c : Controller) (l : Sent) (a : Answer) → KeptBy e j c l a → KeptBy e j c l (proposeIfSufficient n f a)
   unfolding proposing propose sentAfter
   settle-live e j c l a h = sufficient-cases (KeptBy e j c l) n f a
-      (λ q. record { live = record { running = h .live .running; votes = h .live .votes; acks = h .live .acks; phase = h .live .phase; acked = h .live .acked } }) h
+      (λ q. record { live = record { running = h .live .running; votes = h .live .votes; acks = h .live .acks; phase = h .live .phase; acked = h .live .acked } }) (λ q. h)
 
   module _ (small : n ≤ limit) where
     -- an acknowledgement kept: the condition and the own sheet stay
@@ -92,7 +92,7 @@ module _ (n f : ℕ) where
         learned = unfold learn in record { running = refl; votes = λ r k h. join-knows (c .votes) s k ∙ or-l (knows (c .votes) k) (knows s k) h; acks = λ r k h. h; phase = λ r. stays refl; acked = λ h. inl (h, refl) }
     arrives-live e Ack i j s c l a b = ack-cases (KeptBy e j c l) n f i s c
         (λ q. settle-live e j c l _ (becomes-kept e j c _ l (keep-live e i j s c l a b))) (λ q. passed-over-kept e j c l)
-    arrives-live e Help i j s c l a b = help-cases (KeptBy e j c l) i c (λ p. keeps) (λ p q. answers) (passed-over-kept e j c l)
+    arrives-live e Help i j s c l a b = help-cases (KeptBy e j c l) i c (λ p. keeps) (λ p q. answers) (λ q. passed-over-kept e j c l)
       where
         keeps : KeptBy e j c l (keepsCall i c)
         keeps = unfold keepsCall becomes addCaller sentAfter in record { live = record { running = refl; votes = λ r k h. h; acks = λ r k h. h; phase = λ r. stays refl; acked = λ h. inl (h, refl) } }
@@ -100,7 +100,7 @@ module _ (n f : ℕ) where
         answers : KeptBy e j c l (answersCall i c)
         answers = unfold answersCall addCaller sentAfter in record { live = record { running = refl; votes = λ r k h. h; acks = λ r k h. h; phase = λ r. stays refl; acked = λ h. inl (h, refl) } }
     arrives-live e Helped i j s c l a b = helped-cases (KeptBy e j c l) n f i s c
-        (λ p q. settle-live e j c l _ (becomes-kept e j c _ l kept)) (passed-over-kept e j c l)
+        (λ p q. settle-live e j c l _ (becomes-kept e j c _ l kept)) (λ q. passed-over-kept e j c l)
       where
         kept : Kept e j c (keepHelped c i s) l l
         kept = unfold keepHelped in record { running = refl; votes = λ r k h. h; acks = λ r k h. h; phase = λ r. stays refl; acked = λ h. inl (h, refl) }

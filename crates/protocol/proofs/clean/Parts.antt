@@ -269,7 +269,7 @@ module _ (n f : ℕ) where
     unfolding openedV newOrderState unsentAll orderOpened renewed
     opened-good b o = blank-good (openedV n f b o) (λ k. renew-blank (b .ctl k)) (λ k. has-none k)
 
-    perform-order : (b : View) (e : Event) → Goes n f e → (performV n f b e) .order ≡ b .order
+    pub perform-order : (b : View) (e : Event) → Goes n f e → (performV n f b e) .order ≡ b .order
     unfolding performV commitV chosen savedV
     perform-order b (Lock a c) g = absurd g
     perform-order b (Order o) g = absurd g

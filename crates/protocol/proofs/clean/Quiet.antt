@@ -136,7 +136,7 @@ module _ (n f : ℕ) where
   -- nobody waits, so the counts are not asked
   puts-quiet : (log : List Event) (a : Answer) → QuietBy log a → QuietBy log (proposeIfSufficient n f a)
   unfolding sufficient
-  puts-quiet log a h = sufficient-cases (QuietBy log) n f a (λ s. absurd (no-both _ (and-l (a .controller .help .waiting) _ s) (h .waits))) h
+  puts-quiet log a h = sufficient-cases (QuietBy log) n f a (λ s. absurd (no-both _ (and-l (a .controller .help .waiting) _ s) (h .waits))) (λ q. h)
 
   vote-quiet : (log : List Event) (i : ℕ) (w : Bool) (t : ℕ) (c : Controller) → QuietNow log c → QuietBy log (voteRule n f i w t c)
   unfolding voteRule advance aim learn

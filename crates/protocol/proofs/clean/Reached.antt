@@ -100,19 +100,19 @@ module _ (n f : ℕ) (sized : sizesInRange n f ≡ true) where
   abbrev b₀ : Bench
   b₀ = benchOf true n f
 
-  begins : after (Lock n f ∷ Order 1 ∷ []) ≡ step b₀ (Order 1)
+  pub begins : after (Lock n f ∷ Order 1 ∷ []) ≡ step b₀ (Order 1)
   begins = unfold run in ap (λ (x : Bench). step x (Order 1)) locks
     where
       locks : step newBench (Lock n f) ≡ b₀
       locks = unfold step reply firstNo unless benchOf perform in rw sized
 
-  shows : view (step b₀ (Order 1)) ≡ openedV n f (view b₀) 1
+  pub shows : view (step b₀ (Order 1)) ≡ openedV n f (view b₀) 1
   shows = step-sim b₀ (lock-sound n f sized) (Order 1) ∙ opens
     where
       opens : stepV (b₀ .shared .n) (b₀ .shared .f) (view b₀) (Order 1) ≡ openedV n f (view b₀) 1
       opens = unfold stepV accepts firstNo unless performV view benchOf in refl
 
-  fresh-going : ReadyAll n f (openedV n f (view b₀) 1) (λ k. 0)
+  pub fresh-going : ReadyAll n f (openedV n f (view b₀) 1) (λ k. 0)
   unfolding openedV view orderOpened renewed
   fresh-going = record { opened = refl; able = λ k lo hi. record { running = ap isRunning (again k); at = ap phaseIn (again k); sent = λ kind j a b d r. absurd (none kind d) } }
     where

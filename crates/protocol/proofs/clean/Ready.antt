@@ -81,7 +81,7 @@ module _ (n f : ℕ) where
     pub sent : (kind : Kind) (j : ℕ) → 1 ≤ j → j ≤ n → due kind s ≡ true → route f kind k j ≡ true → has ((ofKind kind l) .to) j ≡ true
 
   -- whom a telegram was just sent to
-  posted-to : n ≤ limit → (kind : Kind) (k old j : ℕ) → 1 ≤ j → j ≤ n → route f kind k j ≡ true → has (bitOr old (recipients n f kind k)) j ≡ true
+  pub posted-to : n ≤ limit → (kind : Kind) (k old j : ℕ) → 1 ≤ j → j ≤ n → route f kind k j ≡ true → has (bitOr old (recipients n f kind k)) j ≡ true
   unfolding recipients
   posted-to small kind k old j a b r = has-or old _ j ∙ or-r (has old j) _ (collect-at n (route f kind k) j (omega arith) a b ∙ r)
 

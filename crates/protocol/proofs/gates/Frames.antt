@@ -115,20 +115,20 @@ module _ (n f : ℕ) where
   settle-framed : (c : Controller) (l : Sent) (a : Answer) → Framed c l a → Framed c l (proposeIfSufficient n f a)
   unfolding proposing propose sentAfter
   settle-framed c l a h = sufficient-cases (Framed c l) n f a
-      (λ e. record { vote = h .vote; taken = h .taken; gate = elim (h .gate) [ inl p ↦ inl p | inr m ↦ inr (record { ran = m .ran; free = m .free; taken = m .taken }) ] }) h
+      (λ e. record { vote = h .vote; taken = h .taken; gate = elim (h .gate) [ inl p ↦ inl p | inr m ↦ inr (record { ran = m .ran; free = m .free; taken = m .taken }) ] }) (λ e. h)
 
   pub arrives-framed : (kind : Kind) (j : ℕ) (s : VoteSet) (c : Controller) (l : Sent) → Framed c l (arrives kind n f j s c)
   unfolding arrives learn keepAck keepHelped
   arrives-framed Vote j s c l = vote-cases (Framed c l) s c (λ e. becomes-framed c _ l (λ h. h) (inl refl)) (passed-over-framed c l)
   arrives-framed Ack j s c l = ack-cases (Framed c l) n f j s c (λ e. settle-framed c l _ (becomes-framed c _ l (λ h. h) (inl refl))) (λ e. passed-over-framed c l)
-  arrives-framed Help j s c l = help-cases (Framed c l) j c (λ p. kept-framed) (λ p e. answered-framed) (passed-over-framed c l)
+  arrives-framed Help j s c l = help-cases (Framed c l) j c (λ p. kept-framed) (λ p e. answered-framed) (λ e. passed-over-framed c l)
     where
       kept-framed : Framed c l (keepsCall j c)
       kept-framed = unfold keepsCall becomes addCaller sentAfter in record { vote = refl; taken = λ h. h; gate = inl refl }
 
       answered-framed : Framed c l (answersCall j c)
       answered-framed = unfold answersCall addCaller sentAfter in record { vote = refl; taken = λ h. h; gate = inl refl }
-  arrives-framed Helped j s c l = helped-cases (Framed c l) n f j s c (λ p e. settle-framed c l _ (becomes-framed c _ l (λ h. h) (inl refl))) (passed-over-framed c l)
+  arrives-framed Helped j s c l = helped-cases (Framed c l) n f j s c (λ p e. settle-framed c l _ (becomes-framed c _ l (λ h. h) (inl refl))) (λ e. passed-over-framed c l)
 
   first-framed : (i : ℕ) (c : Controller) (l : Sent) → runs c ≡ true → Framed c l (firstTimeout n f i c)
   unfolding firstTimeout advance sentAfter

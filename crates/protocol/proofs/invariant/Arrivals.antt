@@ -166,7 +166,7 @@ module _ (n f : ℕ) (small : n ≤ limit) (b : View) (inv : Inv n f b) (i : ℕ
       (λ e w. let y : frozenBy j (L j) ≡ true = inv .lines j .helped-to i v in settle-fits n f f<n b inv i _ (becomes-fits n f b inv i _
       (own-help-kept n f small i c l j (helpOn (L j)) a h (late w) e (inv .owns i))
       (ctl-help-kept n f small L (b .state .consensus .decision) i c j a h y far (inv .lines j .help-ok y) (inv .ctls i))))
-      (passed-over-fits n f b inv i)
+      (λ q. passed-over-fits n f b inv i)
     where
       late : c .help .waiting ≡ true → 3 ≤ phase c
       late w = elim (split (leb (phase c) 2)) [
@@ -280,7 +280,7 @@ module _ (n f : ℕ) (small : n ≤ limit) (b : View) (inv : Inv n f b) (i : ℕ
         }
 
   pub help-in-fits : (j : ℕ) → 1 ≤ j → j ≤ n → has ((L j) .help .to) i ≡ true → Fits n f b i (helpArrives j c)
-  help-in-fits j lo hi v = help-cases (Fits n f b i) j c (keeping-fits j v) (λ p q. answering-fits j lo hi v p) (passed-over-fits n f b inv i)
+  help-in-fits j lo hi v = help-cases (Fits n f b i) j c (keeping-fits j v) (λ p q. answering-fits j lo hi v p) (λ q. passed-over-fits n f b inv i)
 
   -- the own vote
   module _ (w : Bool) (t : ℕ) (lo : 1 ≤ i) (hi : i ≤ n) (r : runs c ≡ true) (st : phase c ≡ 0) where

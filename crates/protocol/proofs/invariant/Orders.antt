@@ -41,7 +41,7 @@ second true y p q = absurd (true≢false p)
 second false y p q = q
 
 -- one that runs does not stand by
-not-both : (k : Condition) → isRunning k ≡ true → isStandby k ≡ false
+pub not-both : (k : Condition) → isRunning k ≡ true → isStandby k ≡ false
 not-both (Running p) e = refl
 not-both Stopped e = refl
 not-both (Standby o) e = absurd (false≢true e)

@@ -276,7 +276,7 @@ module _ (n f : ℕ) (f<n : f < n) (1≤f : 1 ≤ f) (small : n ≤ limit) (b : 
   abbrev h₁ : Outgoing
   h₁ = record { to = bitOr ((L i) .help .to) (recipients n f Help i); votes = empty }
 
-  beyond : ltb 0 (c .acks .cnt .0) ≡ false → f < i
+  pub beyond : ltb 0 (c .acks .cnt .0) ≡ false → f < i
   beyond e = elim (decLe i f) [
     | yes h ↦ let z : c .acks .cnt .0 ≡ 0 = not-above (c .acks .cnt .0) e in
         let y : c .acks .cnt .0 ≡ countTo n (has (c .acks .from)) = inv .owns i .counted .ack-count in

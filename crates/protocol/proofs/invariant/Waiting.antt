@@ -144,4 +144,4 @@ module _ (n f : ℕ) (f<n : f < n) (b : View) (inv : Inv n f b) (i : ℕ) where
             (let reached = at-least (c .help .waiting) _ (c .acks .cnt .0 + c .helped .«cnt_help» .0 + f) e in omega arith)
             (stay-put n (unanimous n (answersJoin n c)) p);
       })
-      t
+      (λ e. t)

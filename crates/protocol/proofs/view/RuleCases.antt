@@ -25,9 +25,9 @@ module _ (P : Answer → Type 0) where
   vote-cases s c taken late = by-cond P (leb (phase c) 1) _ _ (λ e. taken (leb-true _ _ e)) (λ e. late)
 
   -- a help call is kept, or answered, or passed over
-  pub help-cases : (j : ℕ) (c : Controller) → (phase c ≤ 2 → P (keepsCall j c)) → (3 ≤ phase c → hasCalled c j ≡ false → P (answersCall j c)) → P (passedOver c) → P (helpArrives j c)
+  pub help-cases : (j : ℕ) (c : Controller) → (phase c ≤ 2 → P (keepsCall j c)) → (3 ≤ phase c → hasCalled c j ≡ false → P (answersCall j c)) → (hasCalled c j ≡ true → P (passedOver c)) → P (helpArrives j c)
   unfolding helpArrives
-  help-cases j c early late again = by-cond P (hasCalled c j) _ _ (λ e. again)
+  help-cases j c early late again = by-cond P (hasCalled c j) _ _ again
       (λ q. by-cond P (leb (phase c) 2) _ _ (λ e. early (leb-true _ _ e)) (λ e. late (leb-false _ _ e) q))
 
   -- a checkpoint is used by a stopped controller alone
@@ -38,9 +38,9 @@ module _ (P : Answer → Type 0) where
 
   module _ (n f : ℕ) where
     -- the counts suffice, and a word is put; or not
-    pub sufficient-cases : (a : Answer) → (sufficient n f (a .controller) ≡ true → P (proposing a (verdict n (answersJoin n (a .controller))))) → P a → P (proposeIfSufficient n f a)
+    pub sufficient-cases : (a : Answer) → (sufficient n f (a .controller) ≡ true → P (proposing a (verdict n (answersJoin n (a .controller))))) → (sufficient n f (a .controller) ≡ false → P a) → P (proposeIfSufficient n f a)
     unfolding proposeIfSufficient
-    sufficient-cases a puts not-yet = by-cond P (sufficient n f (a .controller)) _ _ puts (λ e. not-yet)
+    sufficient-cases a puts not-yet = by-cond P (sufficient n f (a .controller)) _ _ puts not-yet
 
     -- an acknowledgement is kept, or passed over
     pub ack-cases : (j : ℕ) (s : VoteSet) (c : Controller) → (hasAck c j ≡ false → P (proposeIfSufficient n f (becomes (keepAck c j s))))
@@ -50,10 +50,10 @@ module _ (P : Answer → Type 0) where
 
     -- a help answer is counted, or passed over
     pub helped-cases : (j : ℕ) (s : VoteSet) (c : Controller) → (hasHelped c j ≡ false → c .help .waiting ≡ true → P (proposeIfSufficient n f (becomes (keepHelped c j s))))
-        → P (passedOver c) → P (helpedArrives n f j s c)
+        → ((not (hasHelped c j) && c .help .waiting) ≡ false → P (passedOver c)) → P (helpedArrives n f j s c)
     unfolding helpedArrives
     helped-cases j s c taken late = by-cond P (not (hasHelped c j) && c .help .waiting) _ _
-        (λ e. taken (not-true _ (and-l (not (hasHelped c j)) _ e)) (and-r (not (hasHelped c j)) _ e)) (λ e. late)
+        (λ e. taken (not-true _ (and-l (not (hasHelped c j)) _ e)) (and-r (not (hasHelped c j)) _ e)) late
 
     -- the second timeout decides, puts a word, or waits
     pub second-cases : (i : ℕ) (c : Controller) → (decides n f i c ≡ true → P (ready (helpVotes n c) (conclude (frozen n c) (verdict n (ackJoin n c)))))

@@ -1,0 +1,194 @@
+-- A later moment of the same order, after accepted events at none of which a controller stops or is restored: who runs and who is stopped stays,
+-- phases and the log only grow.
+use Prim.Native.Nat.{ℕ, _≤_, _<_}
+use mathlib.Core.Path.{_≡_, refl, sym, _∙_, ap, subst}
+use mathlib.Core.Bool.{true, false, false≢true, or-false}
+use mathlib.Core.List.{List, [], _∷_, _++_}
+use native.Mathlib.Omega.{arith}
+use lib.Dec.{eqb}
+use mathlib.Core.Logic.{inl, inr}
+use borrow.Author.Tests.{eqb-true}
+use Rattle.ground.specs.Limit.{limit}
+use Rattle.ground.specs.Tests.{split}
+use Rattle.ground.specs.Mask.{has}
+use Rattle.ground.specs.Update.{upd-other, upd-all}
+use Rattle.model.specs.declared.Kind.{Kind}
+use Rattle.model.specs.declared.Event.{Event}
+use Rattle.model.specs.declared.Event.the-variants.{Lock, Order, Cast, Deliver, Timeout, Decide, Stop, Save, Restore}
+use Rattle.protocol.specs.declared.Condition.{Condition}
+use Rattle.protocol.specs.declared.Condition.the-variants.{Running, Stopped, Standby}
+use Rattle.protocol.specs.declared.Controller.{Controller}
+use Rattle.protocol.specs.declared.Answer.{Answer}
+use Rattle.protocol.specs.declared.Sent.{Sent}
+use Rattle.protocol.specs.declared.Bench.{Bench}
+use Rattle.protocol.specs.Controllers.{isRunning, isStopped, runs, phase}
+use Rattle.protocol.specs.Benches.{newBench, ofKind, sentAfter}
+use Rattle.protocol.specs.Events.{subject}
+use Rattle.protocol.specs.Steps.{step}
+use Rattle.protocol.specs.SentOnce.{receiversOf, sendOf}
+use Rattle.protocol.specs.Claim.{after, Accepted}
+use Rattle.protocol.proofs.view.View.{View, accepts}
+use Rattle.protocol.proofs.view.Performed.{commitV, chosen, performV, stepV}
+use Rattle.protocol.proofs.view.Simulation.{view, Sound, Steps, step-steps, reply-sim, step-sim}
+use Rattle.protocol.proofs.invariant.Invariant.{Inv}
+use Rattle.protocol.proofs.invariant.Orders.{perform-next, next-inv}
+use Rattle.protocol.proofs.clean.Log.{In}
+use Rattle.protocol.proofs.clean.Kept.{PhaseMove, stays, rung, voted, KeptAll, Goes, perform-tame}
+use Rattle.protocol.proofs.clean.Parts.{perform-order}
+use Rattle.protocol.proofs.clean.Reached.{log-one}
+use Rattle.protocol.proofs.claim.Moments.{is-accepted, logAt, Enters, entry-of, append-assoc, run-append, run-one}
+use Rattle.protocol.proofs.claim.Sends.{sent-more}
+use Rattle.protocol.proofs.hearing.Events.{Heard, perform-heard}
+
+abbrev pub viewAt : List Event → View
+viewAt es = view (after es)
+
+pub running-up : (k : Condition) → isRunning k ≡ true → isStopped k ≡ false
+running-up (Running p) e = refl
+running-up Stopped e = absurd (false≢true e)
+running-up (Standby o) e = refl
+
+phases-up : (n f : ℕ) (e : Event) (j s s′ : ℕ) → PhaseMove n f e j s s′ → s ≤ s′
+phases-up n f e j s s′ (stays p) = omega arith
+phases-up n f e j s s′ (rung q p) = omega arith
+phases-up n f e j s s′ (voted w t q z p) = omega arith
+
+-- an event of a running controller
+abbrev pub Acts : Event → Type 0
+Acts (Lock a c) = ⊥
+Acts (Order o) = ⊥
+Acts (Cast i w t) = Unit {0}
+Acts (Deliver i j k) = Unit {0}
+Acts (Timeout i) = Unit {0}
+Acts (Decide i w) = Unit {0}
+Acts (Stop i) = ⊥
+Acts (Save i) = ⊥
+Acts (Restore i) = ⊥
+
+acts-goes : (n f : ℕ) (e : Event) → Acts e → Goes n f e
+acts-goes n f (Lock a c) t = absurd t
+acts-goes n f (Order o) t = absurd t
+acts-goes n f (Cast i w t) u = tt
+acts-goes n f (Deliver i j k) u = tt
+acts-goes n f (Timeout i) u = tt
+acts-goes n f (Decide i w) u = tt
+acts-goes n f (Stop i) t = absurd t
+acts-goes n f (Save i) t = absurd t
+acts-goes n f (Restore i) t = absurd t
+
+acts-enters : (e : Event) → Acts e → Enters e
+acts-enters (Lock a c) t = absurd t
+acts-enters (Order o) t = absurd t
+acts-enters (Cast i w t) u = tt
+acts-enters (Deliver i j k) u = tt
+acts-enters (Timeout i) u = tt
+acts-enters (Decide i w) u = tt
+acts-enters (Stop i) t = absurd t
+acts-enters (Save i) t = absurd t
+acts-enters (Restore i) t = absurd t
+
+module _ (n f o : ℕ) (f<n : f < n) (1≤f : 1 ≤ f) (small : n ≤ limit) where
+  -- a moment of order o at a lock of n and f
+  pub record Moment (es : List Event) : Type 0 where
+    pub sound : Sound (after es)
+    pub is-n : (after es) .shared .n ≡ n
+    pub is-f : (after es) .shared .f ≡ f
+    pub is-order : (after es) .shared .order ≡ o
+    pub inv : Inv n f (viewAt es)
+    pub heard : Heard n f (viewAt es) (logAt es)
+
+  module _ (es : List Event) (m : Moment es) (e : Event) (q : accepts n f (viewAt es) e ≡ true) where
+    pub taken : Accepted es e
+    taken = is-accepted _ (reply-sim (after es) (m .sound) e ∙ ap (λ (x : ℕ). accepts x ((after es) .shared .f) (viewAt es) e) (m .is-n) ∙ ap (λ (x : ℕ). accepts n x (viewAt es) e) (m .is-f) ∙ q)
+
+    then : after (es ++ (e ∷ [])) ≡ step (after es) e
+    then = run-append es (e ∷ []) newBench ∙ run-one e (after es)
+
+    pub performs : viewAt (es ++ (e ∷ [])) ≡ performV n f (viewAt es) e
+    unfolding stepV
+    performs = ap view then ∙ step-sim (after es) (m .sound) e ∙ ap (λ (x : ℕ). stepV x ((after es) .shared .f) (viewAt es) e) (m .is-n) ∙ ap (λ (x : ℕ). stepV n x (viewAt es) e) (m .is-f) ∙ rw q
+
+    pub logs : Enters e → logAt (es ++ (e ∷ [])) ≡ (e ∷ logAt es)
+    logs u = log-one es e u taken
+
+    pub moment-next : Enters e → (performV n f (viewAt es) e) .order ≡ (viewAt es) .order → Moment (es ++ (e ∷ []))
+    moment-next u w =
+        let s : Steps (after es) (m .sound) (step (after es) e) = step-steps (after es) (m .sound) e in
+        record {
+          sound = subst Sound (sym then) (s .sound);
+          is-n = ap (λ (x : Bench). x .shared .n) then ∙ s .same-n ∙ m .is-n;
+          is-f = ap (λ (x : Bench). x .shared .f) then ∙ s .same-f ∙ m .is-f;
+          is-order = order;
+          inv = subst (Inv n f) (sym performs) (next-inv n f f<n 1≤f small (viewAt es) _ (perform-next n f f<n 1≤f small (viewAt es) e (m .inv) q));
+          heard = subst (λ (l : List Event). Heard n f (viewAt (es ++ (e ∷ []))) l) (sym (logs u))
+              (subst (λ (x : View). Heard n f x (e ∷ logAt es)) (sym performs)
+              (subst (Heard n f (performV n f (viewAt es) e)) (entry-of (after es) e u .adds (logAt es)) (perform-heard n f f<n 1≤f small (viewAt es) (m .inv) (logAt es) (m .heard) e q)));
+        }
+      where
+        order : (after (es ++ (e ∷ []))) .shared .order ≡ o
+        order = unfold view in ap (λ (x : View). x .order) performs ∙ w ∙ m .is-order
+
+  pub record Later (es es′ : List Event) : Type 0 where
+    pub moment : Moment es′
+    pub more : List Event
+    pub parts : es′ ≡ es ++ more
+    pub running : (k : ℕ) → runs ((viewAt es′) .ctl k) ≡ runs ((viewAt es) .ctl k)
+    pub stopped : (k : ℕ) → isStopped (((viewAt es′) .ctl k) .condition) ≡ isStopped (((viewAt es) .ctl k) .condition)
+    pub phases : (k : ℕ) → runs ((viewAt es) .ctl k) ≡ true → phase ((viewAt es) .ctl k) ≤ phase ((viewAt es′) .ctl k)
+    pub log : (e : Event) → In e (logAt es) → In e (logAt es′)
+
+  no-more : (es : List Event) → es ≡ es ++ []
+  no-more [] = refl
+  no-more (e ∷ es) = ap (λ (l : List Event). e ∷ l) (no-more es)
+
+  pub later-refl : (es : List Event) → Moment es → Later es es
+  later-refl es m = record { moment = m; more = []; parts = no-more es; running = λ k. refl; stopped = λ k. refl; phases = λ k r. omega arith; log = λ e x. x }
+
+  pub later-trans : (es es′ es″ : List Event) → Later es es′ → Later es′ es″ → Later es es″
+  later-trans es es′ es″ a b = record {
+    moment = b .moment;
+    more = a .more ++ b .more;
+    parts = b .parts ∙ ap (λ (l : List Event). l ++ b .more) (a .parts) ∙ sym (append-assoc es (a .more) (b .more));
+    running = λ k. b .running k ∙ a .running k;
+    stopped = λ k. b .stopped k ∙ a .stopped k;
+    phases = λ k r. let x : phase ((viewAt es) .ctl k) ≤ phase ((viewAt es′) .ctl k) = a .phases k r in let y : phase ((viewAt es′) .ctl k) ≤ phase ((viewAt es″) .ctl k) = b .phases k (a .running k ∙ r) in omega arith;
+    log = λ e x. b .log e (a .log e x);
+  }
+
+  -- a controller that an event does not concern
+  other : (v : View) (e : Event) → Acts e → (k : ℕ) → eqb k (subject e) ≡ false → (performV n f v e) .ctl k ≡ v .ctl k
+  unfolding performV commitV chosen
+  other v (Lock a c) t k d = absurd t
+  other v (Order x) t k d = absurd t
+  other v (Cast i w t) u k d = upd-other (v .ctl) i _ k d
+  other v (Deliver i j x) u k d = upd-other (v .ctl) j _ k d
+  other v (Timeout i) u k d = upd-other (v .ctl) i _ k d
+  other v (Decide i w) u k d = upd-other (v .ctl) i _ k d
+  other v (Stop i) t k d = absurd t
+  other v (Save i) t k d = absurd t
+  other v (Restore i) t k d = absurd t
+
+  -- one accepted event of a running controller
+  pub later-one : (es : List Event) → Moment es → (e : Event) → Acts e → accepts n f (viewAt es) e ≡ true → runs ((viewAt es) .ctl (subject e)) ≡ true → Later es (es ++ (e ∷ []))
+  later-one es m e u q r = record {
+    moment = moment-next es m e q (acts-enters e u) (perform-order n f f<n (viewAt es) e (acts-goes n f e u));
+    more = e ∷ [];
+    parts = refl;
+    running = λ k. rw (performs es m e q) (kept k .running);
+    stopped = λ k. rw (performs es m e q) (elim (split (eqb k (subject e))) [
+      | inl z ↦ let z′ : runs ((viewAt es) .ctl k) ≡ true = rw (eqb-true k (subject e) z) r in running-up (((performV n f (viewAt es) e) .ctl k) .condition) (kept k .running ∙ z′) ∙ sym (running-up (((viewAt es) .ctl k) .condition) z′)
+      | inr z ↦ ap (λ (c : Controller). isStopped (c .condition)) (other (viewAt es) e u k z)
+    ]);
+    phases = λ k x. rw (performs es m e q) (phases-up n f e k _ _ (kept k .phase x));
+    log = λ x y. subst (In x) (sym (logs es m e q (acts-enters e u))) (inr y);
+  }
+    where
+      kept : KeptAll n f e (viewAt es) (performV n f (viewAt es) e)
+      kept = perform-tame n f small (viewAt es) e (acts-goes n f e u) q
+
+  -- to whom a kind was sent, after an answer that sends none of it
+  pub commit-calm : (v : View) (j : ℕ) (a : Answer) (kind : Kind) → ((x : ℕ) → has (receiversOf (sendOf kind (a .sends))) x ≡ false) → (i x : ℕ)
+      → has ((ofKind kind ((commitV v j a) .state .sent i)) .to) x ≡ has ((ofKind kind (v .state .sent i)) .to) x
+  unfolding commitV
+  commit-calm v j a kind h i x = upd-all (λ (i : ℕ) (l : Sent). has ((ofKind kind l) .to) x ≡ has ((ofKind kind (v .state .sent i)) .to) x) (v .state .sent) j (sentAfter (v .state .sent j) (a .sends))
+      (sent-more n f (v .state .sent j) (a .sends) kind x ∙ rw (h x) (or-false (has ((ofKind kind (v .state .sent j)) .to) x))) (λ i. refl) i

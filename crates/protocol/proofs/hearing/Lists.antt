@@ -1,0 +1,280 @@
+-- The theorem is not hollow: at every lock the backups can be stopped, and then, from there on or after a controller beyond them has begun to wait,
+-- the order goes on to where all premises are met.
+use Prim.Native.Nat.{ℕ, zero, suc, _+_, _≤_, _<_}
+use mathlib.Core.Path.{_≡_, refl, sym, _∙_, ap, subst}
+use mathlib.Core.Bool.{true, false, not, _&&_}
+use mathlib.Core.List.{List, [], _∷_, _++_}
+use native.Mathlib.Omega.{arith}
+use native.Mathlib.Decide.{ℕ-discrete}
+use lib.Dec.{leb}
+use mathlib.Core.Logic.{inl, inr}
+use borrow.Author.Tests.{le-leb, lt-leb, ne-eqb}
+use Rattle.ground.specs.Tests.{no-both, refuted, and-l}
+use Rattle.ground.specs.Quantify.{countTo, allTo, all-at}
+use Rattle.ground.specs.Mask.{has}
+use Rattle.ground.specs.MaskLaws.{has-none}
+use Rattle.ground.specs.Update.{upd-same, upd-other, fun-ext}
+use Rattle.votes.specs.VoteSets.{complete}
+use Rattle.model.specs.Ranges.{sizesInRange, isController, positionInRange}
+use Rattle.model.specs.declared.Event.{Event}
+use Rattle.model.specs.declared.Event.the-variants.{Lock, Order, Cast, Timeout, Stop}
+use Rattle.protocol.specs.declared.Controller.{Controller}
+use Rattle.protocol.specs.declared.Bench.{Bench}
+use Rattle.protocol.specs.Controllers.{isStopped, runs, phase, hasAck, ackOf, cleared, advance, learn, aim, keepHelped, freeze, await}
+use Rattle.protocol.specs.Rules.{becomes, voteRule, decides, backupsComplete, sufficient, proposeIfSufficient, frozen, callsHelp, secondTimeout}
+use Rattle.protocol.specs.Benches.{newBench, benchOf, controller}
+use Rattle.protocol.specs.Questions.{unless, firstNo}
+use Rattle.protocol.specs.Steps.{renewed, orderOpened, run}
+use Rattle.protocol.specs.Claim.{after}
+use Rattle.protocol.specs.Termination.{RunsAt, few-down, Meets, MetList, WaitedList, Onward}
+use Rattle.protocol.proofs.view.View.{View, openedV, accepts}
+use Rattle.protocol.proofs.view.Performed.{commitV, timeoutRule, performV, runV}
+use Rattle.protocol.proofs.view.Simulation.{view, Ranges, ranges, step-steps, Runs, run-sim}
+use Rattle.protocol.proofs.invariant.Invariant.{Inv}
+use Rattle.protocol.proofs.invariant.Decisions.{Blank, renew-blank}
+use Rattle.protocol.proofs.clean.Kept.{stopped-idle}
+use Rattle.protocol.proofs.clean.Reached.{begins, shows, fresh-going}
+use Rattle.protocol.proofs.claim.Moments.{logAt, run-append}
+use Rattle.protocol.proofs.claim.Start.{start, lock-sound}
+use Rattle.protocol.proofs.hearing.Counts.{count-first}
+use Rattle.protocol.proofs.hearing.Events.{Heard}
+use Rattle.protocol.proofs.hearing.Moments.{HeardAt, heard-at}
+use Rattle.protocol.proofs.hearing.Hears.{hears}
+use Rattle.protocol.proofs.hearing.Later.{viewAt, running-up, Moment, performs, moment-next, Later, later-trans, later-one}
+use Rattle.protocol.proofs.hearing.Onward.{open-at, onward}
+
+module _ (n f : ℕ) (sized : sizesInRange n f ≡ true) where
+  range : Ranges n f
+  range = ranges n f sized
+
+  abbrev At : List Event → Type 0
+  At es = Moment n f 1 (range .high) (range .low) (range .small) es
+
+  abbrev To : List Event → List Event → Type 0
+  To es es′ = Later n f 1 (range .high) (range .low) (range .small) es es′
+
+  open-now : (es : List Event) → At es → leb 1 ((viewAt es) .order) ≡ true
+  open-now = open-at n f 1 (range .high) (range .low) (range .small) (omega arith)
+
+  -- right after the order was opened
+  abbrev es₀ : List Event
+  es₀ = Lock n f ∷ Order 1 ∷ []
+
+  is-n₀ : (after es₀) .shared .n ≡ n
+  is-n₀ = ap (λ (b : Bench). b .shared .n) (begins n f sized) ∙ step-steps (benchOf true n f) (lock-sound n f sized) (Order 1) .same-n ∙ (unfold benchOf in refl)
+
+  is-f₀ : (after es₀) .shared .f ≡ f
+  is-f₀ = ap (λ (b : Bench). b .shared .f) (begins n f sized) ∙ step-steps (benchOf true n f) (lock-sound n f sized) (Order 1) .same-f ∙ (unfold benchOf in refl)
+
+  view₀ : viewAt es₀ ≡ openedV n f (view (benchOf true n f)) 1
+  view₀ = ap view (begins n f sized) ∙ shows n f sized
+
+  heard₀ : HeardAt (after es₀) (logAt es₀)
+  heard₀ = elim (start es₀) [
+    | inl z ↦ absurd (let q : (after es₀) .shared .n ≡ 0 = ap (λ (b : Bench). b .shared .n) z ∙ (unfold benchOf in refl) in let r : f < n = range .high in let e : (after es₀) .shared .n ≡ n = is-n₀ in omega arith)
+    | inr o ↦ heard-at es₀ o
+  ]
+
+  moment₀ : At es₀
+  moment₀ = record {
+    sound = heard₀ .alive .sound;
+    is-n = is-n₀;
+    is-f = is-f₀;
+    is-order = order;
+    inv = subst (λ (x : ℕ). Inv x f (viewAt es₀)) is-n₀ (subst (λ (x : ℕ). Inv ((after es₀) .shared .n) x (viewAt es₀)) is-f₀ (heard₀ .alive .inv));
+    heard = subst (λ (x : ℕ). Heard x f (viewAt es₀) (logAt es₀)) is-n₀ (subst (λ (x : ℕ). Heard ((after es₀) .shared .n) x (viewAt es₀) (logAt es₀)) is-f₀ (heard₀ .heard));
+  }
+    where
+      order : (after es₀) .shared .order ≡ 1
+      order = unfold view openedV orderOpened in ap (λ (v : View). v .order) view₀
+
+  -- 1 to m are stopped, and the others have just begun
+  record Halted (m : ℕ) (es : List Event) : Type 0 where
+    moment : At es
+    stopped : (k : ℕ) → 1 ≤ k → k ≤ m → isStopped (((viewAt es) .ctl k) .condition) ≡ true
+    runs : (k : ℕ) → m < k → k ≤ n → runs ((viewAt es) .ctl k) ≡ true
+    blank : (k : ℕ) → m < k → Blank ((viewAt es) .ctl k)
+
+  record HaltedList (m : ℕ) : Type 0 where
+    events : List Event
+    halted : Halted m events
+
+  halt : (m : ℕ) → m < n → HaltedList m
+  halt zero h = record { events = es₀; halted = record { moment = moment₀; stopped = λ k a b. absurd (omega arith); runs = λ k a b. run₀ k a b; blank = λ k a. subst (λ (v : View). Blank (v .ctl k)) (sym view₀) (unfold openedV renewed in renew-blank _) } }
+    where
+      run₀ : (k : ℕ) → 0 < k → k ≤ n → runs ((viewAt es₀) .ctl k) ≡ true
+      run₀ k a b = subst (λ (v : View). runs (v .ctl k) ≡ true) (sym view₀) (fresh-going n f sized .able k a b .running)
+  halt (suc m) h = let l : HaltedList m = halt m (omega arith) in record { events = l .events ++ (Stop (suc m) ∷ []); halted = stop-next (l .events) (l .halted) }
+    where
+      stop-next : (es : List Event) → Halted m es → Halted (suc m) (es ++ (Stop (suc m) ∷ []))
+      stop-next es t = record {
+        moment = moment-next n f 1 (range .high) (range .low) (range .small) es (t .moment) (Stop (suc m)) accepted tt (unfold performV commitV in refl);
+        stopped = λ k lo hi. elim (ℕ-discrete k (suc m)) [
+          | yes q ↦ subst (λ (x : ℕ). isStopped (((viewAt (es ++ (Stop (suc m) ∷ []))) .ctl x) .condition) ≡ true) (sym q) now
+          | no q ↦ subst (λ (c : Controller). isStopped (c .condition) ≡ true) (sym (other k q)) (t .stopped k lo (omega arith))
+        ];
+        runs = λ k lo hi. subst (λ (c : Controller). runs c ≡ true) (sym (other k (λ q. omega arith))) (t .runs k (omega arith) hi);
+        blank = λ k lo. subst Blank (sym (other k (λ q. omega arith))) (t .blank k (omega arith));
+      }
+        where
+          accepted : accepts n f (viewAt es) (Stop (suc m)) ≡ true
+          accepted = unfold accepts firstNo unless isController in rw (le-leb 1 (suc m) (omega arith), le-leb (suc m) n (omega arith), open-now es (t .moment), t .runs (suc m) (omega arith) (omega arith))
+
+          then : viewAt (es ++ (Stop (suc m) ∷ [])) ≡ performV n f (viewAt es) (Stop (suc m))
+          then = performs n f 1 (range .high) (range .low) (range .small) es (t .moment) (Stop (suc m)) accepted
+
+          now : isStopped (((viewAt (es ++ (Stop (suc m) ∷ []))) .ctl (suc m)) .condition) ≡ true
+          now = rw then (unfold performV commitV becomes cleared in rw (upd-same ((viewAt es) .ctl) (suc m) _))
+
+          other : (k : ℕ) → (k ≡ suc m → ⊥) → (viewAt (es ++ (Stop (suc m) ∷ []))) .ctl k ≡ (viewAt es) .ctl k
+          other k d = rw then (unfold performV commitV in upd-other ((viewAt es) .ctl) (suc m) _ k (ne-eqb k (suc m) d))
+
+  -- a moment at which just the backups are stopped, and all others run
+  record BackupsStopped (es : List Event) : Type 0 where
+    moment : At es
+    stopped : (k : ℕ) → 1 ≤ k → k ≤ f → isStopped (((viewAt es) .ctl k) .condition) ≡ true
+    runs : (k : ℕ) → f < k → k ≤ n → runs ((viewAt es) .ctl k) ≡ true
+
+  module _ (es : List Event) (t : BackupsStopped es) where
+    opened : 1 ≤ (after es) .shared .order
+    opened = let q : (after es) .shared .order ≡ 1 = t .moment .is-order in omega arith
+
+    down-f : countTo n (λ k. not (runs (controller (after es) k))) ≡ f
+    unfolding view
+    down-f = count-first n f (λ k. not (runs (controller (after es) k))) (let h : f < n = range .high in omega arith)
+        (λ k lo hi. ap not (stopped-idle ((controller (after es) k) .condition) (t .stopped k lo hi))) (λ k lo hi. ap not (t .runs k lo hi))
+
+    few : Meets few-down es
+    few = let q : (after es) .shared .f ≡ f = t .moment .is-f in let e : countTo ((after es) .shared .n) (λ k. not (runs (controller (after es) k))) ≡ f = ap (λ (m : ℕ). countTo m (λ k. not (runs (controller (after es) k)))) (t .moment .is-n) ∙ down-f in omega arith
+
+    abbrev on : Onward es
+    on = onward es opened few
+
+    abbrev end : List Event
+    end = es ++ (onward es opened few) .more
+
+    same-lock : Runs (after es) (run (after es) (on .more)) (runV n f (viewAt es) (on .more))
+    same-lock = run-sim n f (on .more) (after es) (t .moment .sound) (t .moment .is-n) (t .moment .is-f)
+
+    end-n : (after end) .shared .n ≡ n
+    end-n = ap (λ (b : Bench). b .shared .n) (run-append es (on .more) newBench) ∙ same-lock .same-n ∙ t .moment .is-n
+
+    end-f : (after end) .shared .f ≡ f
+    end-f = ap (λ (b : Bench). b .shared .f) (run-append es (on .more) newBench) ∙ same-lock .same-f ∙ t .moment .is-f
+
+    stopped-f : countTo n (λ k. isStopped ((controller (after es) k) .condition)) ≡ f
+    unfolding view
+    stopped-f = count-first n f (λ k. isStopped ((controller (after es) k) .condition)) (let h : f < n = range .high in omega arith)
+        (λ k lo hi. t .stopped k lo hi) (λ k lo hi. running-up ((controller (after es) k) .condition) (t .runs k lo hi))
+
+    met-from : MetList n f
+    met-from = record {
+      events = end;
+      lock-n = end-n;
+      lock-f = end-f;
+      stopped = ap (countTo n) (fun-ext (λ k. isStopped ((controller (after end) k) .condition)) (λ k. isStopped ((controller (after es) k) .condition)) (on .stopped)) ∙ stopped-f;
+      meets = on .meets;
+    }
+
+    runs-at-end : (k : ℕ) → f < k → k ≤ n → RunsAt end k
+    runs-at-end k lo hi = record { low = omega arith; high = let q : (after end) .shared .n ≡ n = end-n in omega arith; running = on .running k ∙ (unfold view in t .runs k lo hi) }
+
+    -- one that waits at this moment
+    waited-from : (k : ℕ) → f < k → k ≤ n → (controller (after es) k) .help .waiting ≡ true → WaitedList n f
+    unfolding met-from
+    waited-from k lo hi w = record {
+      list = met-from;
+      before = es;
+      rest = on .more;
+      parts = refl;
+      same = on .same;
+      who = k;
+      waited = w;
+      runs = runs-at-end k lo hi;
+      holds = hears end (on .meets) k (runs-at-end k lo hi);
+    }
+
+  all-stopped : HaltedList f
+  all-stopped = halt f (range .high)
+
+  backups-stopped : BackupsStopped (all-stopped .events)
+  backups-stopped = record { moment = all-stopped .halted .moment; stopped = all-stopped .halted .stopped; runs = all-stopped .halted .runs }
+
+  pub met : MetList n f
+  met = met-from (all-stopped .events) backups-stopped
+
+  -- waiting ---------------------------------------------------------------------------
+  decides-not : (i : ℕ) (c : Controller) → c .acks .from ≡ 0 → decides n f i c ≡ false
+  unfolding decides backupsComplete
+  decides-not i c z = refuted _ (λ e. no-both (has 0 1) (ap (λ (m : ℕ). has m 1) (sym z) ∙ first (and-l _ _ e)) (has-none 1))
+    where
+      first : allTo f (λ j. hasAck c j && complete n (ackOf c j)) ≡ true → hasAck c 1 ≡ true
+      first e = and-l (hasAck c 1) (complete n (ackOf c 1)) (all-at f (λ j. hasAck c j && complete n (ackOf c j)) e 1 (omega arith) (range .low))
+
+  -- at its second timeout a controller that holds nothing waits, if its own answer is not enough
+  second-waits : (i : ℕ) (c : Controller) → suc (suc f) ≤ n → c .acks .from ≡ 0 → c .acks .cnt .0 ≡ 0 → c .helped .«cnt_help» .0 ≡ 0 → ((secondTimeout n f i c) .controller) .help .waiting ≡ true
+  unfolding secondTimeout proposeIfSufficient sufficient callsHelp keepHelped await frozen freeze advance
+  second-waits i c h z x y = rw (decides-not i c z, x, y, lt-leb n (1 + f) (omega arith))
+
+  -- the last controller votes and has its second timeout, right after the backups were stopped
+  module _ (far : suc (suc f) ≤ n) where
+    abbrev s₀ : List Event
+    s₀ = all-stopped .events
+
+    abbrev s₁ : List Event
+    s₁ = all-stopped .events ++ (Cast n true 0 ∷ [])
+
+    abbrev s₂ : List Event
+    s₂ = (all-stopped .events ++ (Cast n true 0 ∷ [])) ++ (Timeout n ∷ [])
+
+    abbrev m₀ : At s₀
+    m₀ = all-stopped .halted .moment
+
+    empty₀ : Blank ((viewAt s₀) .ctl n)
+    empty₀ = all-stopped .halted .blank n (range .high)
+
+    runs₀ : runs ((viewAt s₀) .ctl n) ≡ true
+    runs₀ = all-stopped .halted .runs n (range .high) (omega arith)
+
+    cast-accepted : accepts n f (viewAt s₀) (Cast n true 0) ≡ true
+    unfolding accepts firstNo unless isController positionInRange
+    cast-accepted = rw (le-leb 1 n (omega arith), le-leb n n (omega arith), open-now s₀ m₀, runs₀, empty₀ .phase)
+
+    later₁ : To s₀ s₁
+    later₁ = later-one n f 1 (range .high) (range .low) (range .small) s₀ m₀ (Cast n true 0) tt cast-accepted runs₀
+
+    record Voted (c : Controller) : Type 0 where
+      from : c .acks .from ≡ 0
+      cnt : c .acks .cnt .0 ≡ 0
+      cnt-help : c .helped .«cnt_help» .0 ≡ 0
+      at : phase c ≡ 2
+
+    voted : Voted ((viewAt s₁) .ctl n)
+    voted = rw (performs n f 1 (range .high) (range .low) (range .small) s₀ m₀ (Cast n true 0) cast-accepted) (unfold performV commitV in rw (upd-same ((viewAt s₀) .ctl) n ((voteRule n f n true 0 ((viewAt s₀) .ctl n)) .controller)) ruled)
+      where
+        ruled : Voted ((voteRule n f n true 0 ((viewAt s₀) .ctl n)) .controller)
+        ruled = unfold voteRule advance aim learn in record { from = empty₀ .acks-none; cnt = empty₀ .cnt-none; cnt-help = empty₀ .cnt-help-none; at = rw (lt-leb n (suc f) far) }
+
+    runs₁ : runs ((viewAt s₁) .ctl n) ≡ true
+    runs₁ = later₁ .running n ∙ runs₀
+
+    timeout-accepted : accepts n f (viewAt s₁) (Timeout n) ≡ true
+    unfolding accepts firstNo unless isController
+    timeout-accepted = rw (le-leb 1 n (omega arith), le-leb n n (omega arith), open-now s₁ (later₁ .moment), runs₁, voted .at)
+
+    later₂ : To s₀ s₂
+    later₂ = later-trans n f 1 (range .high) (range .low) (range .small) s₀ s₁ s₂ later₁ (later-one n f 1 (range .high) (range .low) (range .small) s₁ (later₁ .moment) (Timeout n) tt timeout-accepted runs₁)
+
+    waits : ((viewAt s₂) .ctl n) .help .waiting ≡ true
+    waits = rw (performs n f 1 (range .high) (range .low) (range .small) s₁ (later₁ .moment) (Timeout n) timeout-accepted)
+        (unfold performV commitV timeoutRule in rw (voted .at, upd-same ((viewAt s₁) .ctl) n ((secondTimeout n f n ((viewAt s₁) .ctl n)) .controller)) (second-waits n ((viewAt s₁) .ctl n) far (voted .from) (voted .cnt) (voted .cnt-help)))
+
+    waiting-stopped : BackupsStopped s₂
+    waiting-stopped = record {
+      moment = later₂ .moment;
+      stopped = λ k lo hi. later₂ .stopped k ∙ all-stopped .halted .stopped k lo hi;
+      runs = λ k lo hi. later₂ .running k ∙ all-stopped .halted .runs k lo hi;
+    }
+
+    pub waited : WaitedList n f
+    waited = waited-from s₂ waiting-stopped n (range .high) (omega arith) (unfold view in waits)

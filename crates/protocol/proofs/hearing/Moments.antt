@@ -1,0 +1,92 @@
+-- At every moment of every list the running controllers have done with what came to them what Events.antt says.
+use Prim.Native.Nat.{ℕ}
+use mathlib.Core.Path.{_≡_, refl, sym, _∙_, ap, subst}
+use mathlib.Core.Bool.{true}
+use mathlib.Core.List.{List, [], _∷_}
+use native.Mathlib.Omega.{arith}
+use mathlib.Core.Logic.{inl, inr}
+use Rattle.ground.specs.Tests.{no-both, split}
+use Rattle.ground.specs.Mask.{has}
+use Rattle.ground.specs.MaskLaws.{has-none}
+use Rattle.ground.specs.Limit.{limit}
+use lib.ListN.{replicate}
+use Rattle.votes.specs.VoteSets.{empty}
+use Rattle.model.specs.declared.Outcome.the-variants.{None}
+use Rattle.model.specs.declared.Event.{Event}
+use Rattle.protocol.specs.declared.Station.{Station}
+use Rattle.protocol.specs.declared.Bench.{Bench}
+use Rattle.protocol.specs.declared.Sent.{Sent}
+use Rattle.protocol.specs.Controllers.{phase}
+use Rattle.protocol.specs.Benches.{unsentAll, fresh, freshStation, benchOf, station, controller, sentBy}
+use Rattle.protocol.specs.Steps.{step, run}
+use Rattle.protocol.specs.Claim.{after}
+use Rattle.protocol.proofs.view.View.{View, accepts}
+use Rattle.protocol.proofs.view.Performed.{stepV}
+use Rattle.protocol.proofs.view.Simulation.{view, Ranges, ranges, Steps, step-steps, reply-sim, step-sim}
+use Rattle.protocol.proofs.invariant.Words.{none-word}
+use Rattle.protocol.proofs.invariant.Decisions.{Blank}
+use Rattle.protocol.proofs.claim.Moments.{push, logOf, logAt}
+use Rattle.protocol.proofs.claim.Start.{Opened, all-of-copies, freshes}
+use Rattle.protocol.proofs.claim.Reach.{Alive, alive-step, locked-alive}
+use Rattle.protocol.proofs.hearing.Events.{Heard, perform-heard}
+
+pub record HeardAt (b : Bench) (log : List Event) : Type 0 where
+  pub alive : Alive b
+  pub heard : Heard (b .shared .n) (b .shared .f) (view b) log
+
+pub step-heard : (b : Bench) (e : Event) (log : List Event) → HeardAt b log → HeardAt (step b e) (push b e log)
+step-heard b e log h =
+    let s : Steps b (h .alive .sound) (step b e) = step-steps b (h .alive .sound) e in
+    record {
+      alive = alive-step b e (h .alive);
+      heard = subst (λ (x : ℕ). Heard x ((step b e) .shared .f) (view (step b e)) (push b e log)) (sym (s .same-n))
+          (subst (λ (x : ℕ). Heard (b .shared .n) x (view (step b e)) (push b e log)) (sym (s .same-f))
+          (subst (λ (v : View). Heard (b .shared .n) (b .shared .f) v (push b e log)) (sym (step-sim b (h .alive .sound) e)) core));
+    }
+  where
+    core : Heard (b .shared .n) (b .shared .f) (stepV (b .shared .n) (b .shared .f) (view b) e) (push b e log)
+    core = unfold stepV push in elim (split (accepts (b .shared .n) (b .shared .f) (view b) e)) [
+      | inl q ↦ rw (reply-sim b (h .alive .sound) e, q)
+          (let r : Ranges (b .shared .n) (b .shared .f) = ranges (b .shared .n) (b .shared .f) (h .alive .sound .sized) in
+          perform-heard (b .shared .n) (b .shared .f) (r .high) (r .low) (r .small) (view b) (h .alive .inv) log (h .heard) e q)
+      | inr q ↦ rw (reply-sim b (h .alive .sound) e, q) (h .heard)
+    ]
+
+pub run-heard : (es : List Event) (b : Bench) (log : List Event) → HeardAt b log → HeardAt (run b es) (logOf b log es)
+unfolding run logOf
+run-heard [] b log h = h
+run-heard (e ∷ es) b log h = run-heard es (step b e) (push b e log) (step-heard b e log h)
+
+-- right after the lock
+unput : (n f k : ℕ) → (controller (benchOf true n f) k) .proposal ≡ None
+unfolding station benchOf
+unput n f k = all-of-copies (λ (x : Station). x .controller .proposal ≡ None) (freshStation []) (freshStation (replicate limit empty)) (unfold freshStation fresh in refl) (unfold freshStation fresh in refl) limit k
+
+lock-heard : (n f : ℕ) → Heard n f (view (benchOf true n f)) []
+unfolding view
+lock-heard n f = record {
+  listening = λ i lo hi r. let b : Blank (controller (benchOf true n f) i) = freshes true n f i .ctl in record {
+    came = record { calls = λ k m. absurd m; unhelped = λ p k m. m; answers = λ w k m. absurd m; acks = λ p k m. absurd m; decisions = λ w m. absurd m };
+    stands = record {
+      waits = λ w. absurd (no-both _ w (b .waiting));
+      ended = λ p. absurd (let q : phase (controller (benchOf true n f) i) ≡ 0 = b .phase in omega arith);
+      acked = λ p. absurd (let q : phase (controller (benchOf true n f) i) ≡ 0 = b .phase in omega arith);
+    };
+    short = λ w. absurd (no-both _ w (b .waiting));
+  };
+  asked = λ k i e. absurd (no-both (has 0 i) (nothing k i e) (has-none i));
+  put = λ i w e. none-word w (sym (unput n f i) ∙ e);
+}
+  where
+    nothing : (k i : ℕ) → has ((sentBy (benchOf true n f) k) .helped .to) i ≡ true → has 0 i ≡ true
+    nothing k i e = unfold unsentAll in ap (λ (l : Sent). has (l .helped .to) i) (sym (freshes true n f k .sent)) ∙ e
+
+-- a list in which a lock was accepted
+pub heard-at : (es : List Event) → Opened es → HeardAt (after es) (logAt es)
+heard-at es o = subst (λ (b : Bench). HeardAt b (logAt es)) (sym (o .is)) (subst (HeardAt (run (benchOf true (o .n) (o .f)) (o .post))) (sym (o .silent)) from-lock)
+  where
+    locked : HeardAt (benchOf true (o .n) (o .f)) []
+    locked = unfold benchOf in record { alive = locked-alive _ (record { n = o .n; f = o .f; sized = o .sized; is = refl }); heard = lock-heard (o .n) (o .f) }
+
+    from-lock : HeardAt (run (benchOf true (o .n) (o .f)) (o .post)) (logOf (benchOf true (o .n) (o .f)) [] (o .post))
+    from-lock = run-heard (o .post) (benchOf true (o .n) (o .f)) [] locked
