@@ -89,6 +89,12 @@ pub fn controller_line(
         let outcome = outcome_number(outcome);
         let _ = write!(text, " K {outcome} {order} {}", position as u32);
     }
+    // The telegrams one by one, as they go out: kind by kind, "in rising order".
+    for sending in &answer.sent {
+        for to in sending.receivers.iter() {
+            let _ = write!(text, " {}>{to}", sending.kind.number());
+        }
+    }
     text
 }
 

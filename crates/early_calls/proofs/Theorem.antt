@@ -24,7 +24,8 @@ use Rattle.protocol.specs.Benches.{benchOf, newBench, controller}
 use Rattle.protocol.specs.Events.{subject, source, receiversIn}
 use Rattle.protocol.specs.Questions.{accepted, isAccepted, firstNo, mayOpen, isSaved, questionsOf, reply}
 use Rattle.protocol.specs.Steps.{step, run}
-use Rattle.protocol.specs.Reach.{messageAt, WasSent}
+use Rattle.protocol.specs.Display.{WasSent}
+use Rattle.protocol.specs.Reach.{messageAt}
 use Rattle.protocol.specs.Claim.{after}
 use Rattle.protocol.proofs.view.View.{View, accepts, ask-l, ask-r}
 use Rattle.protocol.proofs.view.Performed.{stepV}

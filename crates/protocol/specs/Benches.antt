@@ -26,6 +26,7 @@ use Rattle.protocol.specs.declared.Counts.{Counts}
 use Rattle.protocol.specs.declared.Shared.{Shared}
 use Rattle.protocol.specs.declared.Bench.{Bench}
 use Rattle.protocol.specs.Controllers.{inPhase, blank}
+use Rattle.protocol.specs.Sequence.{messageTo}
 
 -- nothing sent yet
 abbrev pub unsent : Outgoing
@@ -80,7 +81,7 @@ ofKind Help s = s .help
 ofKind Helped s = s .helped
 
 abbrev pub message : Shared → Kind → ℕ → ℕ → Sent → Message
-message m kind from to sent = record { kind = kind; n = m .n; f = m .f; from = from; to = to; order = m .order; votes = (ofKind kind sent) .votes }
+message m kind from to sent = messageTo (identity m from) kind ((ofKind kind sent) .votes) to
 
 -- what was sent, after more was sent
 abbrev pub afterSend : Outgoing → Send → Outgoing

@@ -60,6 +60,11 @@ pub record Holds (es : List Event) (i : ℕ) (x : Outcome) : Type 0 where
   pub shows : shownOutcome (after es) i ≡ x
   pub some : isNone x ≡ false
 
+-- it holds an outcome
+pub record HoldsSome (es : List Event) (i : ℕ) : Type 0 where
+  pub outcome : Outcome
+  pub holds : Holds es i outcome
+
 -- "A gate moves at an event that changes its position": at e, put after es
 abbrev pub Moves : List Event → Event → ℕ → Type 0
 Moves es e k = shownPosition (after (es ++ (e ∷ []))) k ≡ shownPosition (after es) k → ⊥

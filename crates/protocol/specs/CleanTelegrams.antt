@@ -5,15 +5,9 @@ use Prim.Native.Nat.{ℕ, _+_, _*_, _≤_}
 use mathlib.Core.Path.{_≡_}
 use mathlib.Core.List.{List}
 use Rattle.model.specs.declared.Kind.the-variants.{Vote, Ack, Help, Helped}
-use Rattle.model.specs.declared.Outcome.{Outcome}
 use Rattle.model.specs.declared.Event.{Event}
 use Rattle.protocol.specs.Display.{telegrams}
-use Rattle.protocol.specs.Claim.{after, Holds, Clean}
-
--- the controller holds an outcome
-pub record HoldsSome (es : List Event) (i : ℕ) : Type 0 where
-  pub outcome : Outcome
-  pub holds : Holds es i outcome
+use Rattle.protocol.specs.Claim.{after, HoldsSome, Clean}
 
 -- "a clean order that has ended everywhere": it is clean at the moment, and every controller holds an outcome
 pub record CleanEnd (es : List Event) : Type 0 where

@@ -1,5 +1,7 @@
 -- What the bench shows. Document 01, "The bench program": the C lines and the T line.
 use Prim.Native.Nat.{ℕ, zero, suc, _+_}
+use mathlib.Core.Path.{_≡_}
+use mathlib.Core.Bool.{true}
 use Rattle.ground.specs.Quantify.{countTo}
 use Rattle.ground.specs.Mask.{has}
 use Rattle.model.specs.declared.Kind.{Kind}
@@ -25,6 +27,10 @@ shownOutcome b i = outcome (controller b i)
 
 abbrev pub shownPosition : Bench → ℕ → ℕ
 shownPosition b i = (controller b i) .gate .position
+
+-- the telegram of a kind from i to j was sent in this order (question 17)
+abbrev pub WasSent : Bench → Kind → ℕ → ℕ → Type 0
+WasSent b kind i j = has ((ofKind kind (sentBy b i)) .to) j ≡ true
 
 -- "T and the telegrams sent in this order, by kind": over all senders, how many receivers each has sent one to
 unfoldable pub sumTo : ℕ → (ℕ → ℕ) → ℕ

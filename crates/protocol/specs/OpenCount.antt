@@ -3,30 +3,31 @@
 -- `open_count` in src/lib.rt has it as its contract.
 use Prim.Native.Nat.{ℕ}
 use mathlib.Core.Path.{_≡_}
-use mathlib.Core.Bool.{Bool, not, _||_}
+use mathlib.Core.Bool.{Bool, not, _&&_, _||_}
 use mathlib.Core.List.{List}
 use lib.Dec.{eqb}
 use Rattle.ground.specs.Quantify.{allTo, countTo}
 use Rattle.model.specs.Numbers.{isNone}
 use Rattle.model.specs.declared.Event.{Event}
-use Rattle.protocol.specs.declared.Controller.{Controller}
 use Rattle.protocol.specs.declared.Bench.{Bench}
-use Rattle.protocol.specs.Controllers.{isPresent, runs, outcome}
-use Rattle.protocol.specs.Counts.{openGates, lacksOutcome}
+use Rattle.protocol.specs.Controllers.{isPresent, runs}
+use Rattle.protocol.specs.Counts.{openGates}
 use Rattle.protocol.specs.Benches.{controller}
 use Rattle.protocol.specs.Questions.{mayOpen}
+use Rattle.protocol.specs.Display.{shownOutcome}
 use Rattle.protocol.specs.Claim.{after}
 
--- the full count: how many of 1 to n run and lack an outcome
+-- controller k runs, and its C line shows no outcome
+abbrev pub isOpen : Bench → ℕ → Bool
+isOpen b k = runs (controller b k) && isNone (shownOutcome b k)
+
+-- the full count: "how many running controllers lack an outcome", of 1 to n
 abbrev pub fullCount : Bench → ℕ
-fullCount b = countTo (b .shared .n) (λ k. lacksOutcome ((controller b k) .condition))
+fullCount b = countTo (b .shared .n) (isOpen b)
 
 -- document 01, question 13: "Has every running controller an outcome, or has no order been opened yet?"
-unfoldable pub ended : Controller → Bool
-ended c = not (runs c) || not (isNone (outcome c))
-
 abbrev pub hasEnded : Bench → Bool
-hasEnded b = eqb (b .shared .order) 0 || allTo (b .shared .n) (λ k. ended (controller b k))
+hasEnded b = eqb (b .shared .order) 0 || allTo (b .shared .n) (λ k. not (isOpen b k))
 
 pub record OpenCount : Type 0 where
   -- "keep that number, and show it equal to the full count"

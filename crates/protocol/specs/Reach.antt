@@ -5,7 +5,7 @@ use Prim.Native.Nat.{ℕ, _≤_, _<_, _^_}
 use mathlib.Core.Path.{_≡_}
 use mathlib.Core.Bool.{true}
 use mathlib.Core.List.{List, [], _∷_}
-use Rattle.ground.specs.Mask.{has, within}
+use Rattle.ground.specs.Mask.{within}
 use Rattle.votes.specs.declared.VoteSet.{VoteSet}
 use Rattle.model.specs.Ranges.{positionInRange}
 use Rattle.model.specs.declared.Kind.{Kind}
@@ -23,9 +23,9 @@ use Rattle.protocol.specs.declared.Controller.{Controller}
 use Rattle.protocol.specs.declared.Saved.the-variants.{Newest}
 use Rattle.protocol.specs.declared.Bench.{Bench}
 use Rattle.protocol.specs.Controllers.{phase, hasAck, ackOf}
-use Rattle.protocol.specs.Benches.{station, controller, sentBy, ofKind, message}
+use Rattle.protocol.specs.Benches.{station, controller, sentBy, message}
 use Rattle.protocol.specs.Questions.{accepted, firstNo}
-use Rattle.protocol.specs.Display.{shownPosition}
+use Rattle.protocol.specs.Display.{shownPosition, WasSent}
 use Rattle.protocol.specs.Claim.{after}
 
 -- "A *sheet* has two sets of controllers: known, and willing (within known)"
@@ -42,10 +42,6 @@ pub record HeldWithin (c : Controller) : Type 0 where
 -- the message (telegram) of a kind from i to j, as the bench delivers it
 abbrev pub messageAt : Bench → Kind → ℕ → ℕ → Message
 messageAt b kind i j = message (b .shared) kind i j (sentBy b i)
-
--- it was sent in this order (question 17)
-abbrev pub WasSent : Bench → Kind → ℕ → ℕ → Type 0
-WasSent b kind i j = has ((ofKind kind (sentBy b i)) .to) j ≡ true
 
 -- controller i's checkpoint
 abbrev pub IsSaved : Bench → ℕ → Checkpoint → Type 0

@@ -13,11 +13,11 @@ use Rattle.votes.specs.declared.VoteSet.{VoteSet}
 use Rattle.protocol.specs.declared.Bench.{Bench}
 use Rattle.protocol.specs.declared.Consensus.{Consensus}
 use Rattle.protocol.specs.Sequence.{members, messagesOf}
-use Rattle.protocol.specs.Events.{subject, source}
+use Rattle.protocol.specs.Events.{subject}
 use Rattle.protocol.specs.Counts.{openGates}
-use Rattle.protocol.specs.Benches.{newBench, station, controller, sentBy, identity}
+use Rattle.protocol.specs.Benches.{newBench, controller, identity}
 use Rattle.protocol.specs.Questions.{number, isAccepted, reply}
-use Rattle.protocol.specs.Steps.{answerTo, step, run}
+use Rattle.protocol.specs.Steps.{sendsAt, step, run}
 use Rattle.protocol.specs.Display.{shownStage, shownOutcome, shownPosition, telegrams}
 
 -- a C line: "stage (8 stopped, 9 standing by), outcome (M, S, -), position"
@@ -117,8 +117,8 @@ unfoldable pub passes : Trial → Bool
 passes r = same eqb (answersTo newBench (r .events)) (r .answers) && shows (run newBench (r .events)) r
 
 -- what the event's controller sends is what the row says
-abbrev pub messagesAt : Bench → Event → List Message
-messagesAt b e = messagesOf (identity (b .shared) (subject e)) ((answerTo (b .shared) e (sentBy b (source e)) (station b (subject e))) .sends)
+abbrev pub messagesSent : Bench → Event → List Message
+messagesSent b e = messagesOf (identity (b .shared) (subject e)) (sendsAt b e)
 
 abbrev pub sameVotes : VoteSet → VoteSet → Bool
 sameVotes x y = eqb (x .known) (y .known) && eqb (x .willing) (y .willing)
@@ -128,4 +128,4 @@ sameMessage x y = eqb (kindNumber (x .kind)) (kindNumber (y .kind)) && eqb (x .n
     && eqb (x .order) (y .order) && sameVotes (x .votes) (y .votes)
 
 unfoldable pub sendsAs : SendTrial → Bool
-sendsAs r = isAccepted (reply (run newBench (r .events)) (r .last)) && same sameMessage (messagesAt (run newBench (r .events)) (r .last)) (r .messages)
+sendsAs r = isAccepted (reply (run newBench (r .events)) (r .last)) && same sameMessage (messagesSent (run newBench (r .events)) (r .last)) (r .messages)

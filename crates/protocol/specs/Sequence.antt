@@ -1,8 +1,10 @@
 -- In which sequence the messages (document 01: telegrams) of an answer go out, so that a cabinet can send them one by one: by kind, in the sequence of
 -- the kinds, and to its receivers in rising order. So a kept call is answered (document 02, U4) "after its own calls, in rising order of caller".
 use Prim.Native.Nat.{ℕ, zero, suc}
+use mathlib.Core.Path.{_≡_}
 use mathlib.Core.Bool.{cond}
 use mathlib.Core.List.{List, [], _∷_, _++_, map}
+use lib.ListN.{take, drop}
 use Rattle.ground.specs.Mask.{has}
 use Rattle.votes.specs.declared.VoteSet.{VoteSet}
 use Rattle.model.specs.declared.Kind.{Kind}
@@ -42,3 +44,8 @@ nthOf (m ∷ ms) (suc k) = nthOf ms k
 abbrev pub toSendValues : ToSend → List Message
 toSendValues AllSent = []
 toSendValues (Next m) = m ∷ []
+
+-- what is promised of the message that has k before it: as values, the list's k-th, from 0 on, or none where there are not so many
+pub record NthMessageOf (me : Identity) (sends : Sends) (k : ℕ) (r : ToSend) : Type 0 where
+  pub answer : r ≡ nthOf (messagesOf me sends) k
+  pub values : toSendValues r ≡ take 1 (drop k (messagesOf me sends))

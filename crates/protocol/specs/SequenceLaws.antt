@@ -1,4 +1,5 @@
--- Laws of the sequence of messages: how many members a set has, which is the k-th, and the k-th message of one list after another.
+-- Laws of the sequence of messages: how many members a set has, which is the k-th, and the k-th message of one list after another; and whatever
+-- equals the definition's k-th message is what is promised of it.
 use Prim.Native.Nat.{ℕ, zero, suc, _+_, _-_, _≤_, _<_}
 use mathlib.Core.Path.{_≡_, refl, _∙_, ap}
 use mathlib.Core.Bool.{Bool, true, false, cond}
@@ -6,14 +7,17 @@ use mathlib.Core.List.{List, [], _∷_, _++_, map}
 use mathlib.Core.Logic.{_⊎_, inl, inr}
 use native.Mathlib.Omega.{arith}
 use native.Mathlib.Decide.{decLe, ℕ-discrete}
-use lib.ListN.{length, length-append, getD, List·getD-append}
+use lib.ListN.{length, take, drop, length-append, getD, List·getD-append}
 use lib.Seq.{getD-append-seam}
 use Rattle.ground.specs.Tests.{split}
 use Rattle.ground.specs.Quantify.{countTo}
 use Rattle.ground.specs.Mask.{has}
 use Rattle.model.specs.declared.Message.{Message}
+use Rattle.protocol.specs.declared.Identity.{Identity}
+use Rattle.protocol.specs.declared.Sends.{Sends}
+use Rattle.protocol.specs.declared.ToSend.{ToSend}
 use Rattle.protocol.specs.declared.ToSend.the-variants.{AllSent, Next}
-use Rattle.protocol.specs.Sequence.{members, nthOf}
+use Rattle.protocol.specs.Sequence.{members, messagesOf, nthOf, toSendValues, NthMessageOf}
 
 -- as many members as the set has of 1 to m
 pub members-size : (m set : ℕ) → length (members m set) ≡ countTo m (has set)
@@ -79,3 +83,13 @@ unfolding nthOf
 nth-end g [] k h = refl
 nth-end g (x ∷ xs) zero h = absurd (omega arith)
 nth-end g (x ∷ xs) (suc k) h = nth-end g xs k (omega arith)
+
+values-of : (ms : List Message) (k : ℕ) → toSendValues (nthOf ms k) ≡ take 1 (drop k ms)
+unfolding nthOf
+values-of [] zero = refl
+values-of [] (suc k) = refl
+values-of (m ∷ ms) zero = refl
+values-of (m ∷ ms) (suc k) = values-of ms k
+
+pub nth-message-of : (me : Identity) (sends : Sends) (k : ℕ) (r : ToSend) → r ≡ nthOf (messagesOf me sends) k → NthMessageOf me sends k r
+nth-message-of me sends k r e = rw e (record { answer = refl; values = values-of (messagesOf me sends) k })

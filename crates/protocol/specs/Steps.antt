@@ -9,6 +9,7 @@ use Rattle.model.specs.declared.Event.{Event}
 use Rattle.model.specs.declared.Event.the-variants.{Lock, Order, Cast, Deliver, Timeout, Decide, Stop, Save, Restore}
 use Rattle.protocol.specs.declared.Identity.{Identity}
 use Rattle.protocol.specs.declared.Controller.{Controller}
+use Rattle.protocol.specs.declared.Sends.{Sends}
 use Rattle.protocol.specs.declared.Answer.{Answer}
 use Rattle.protocol.specs.declared.Saved.{Saved}
 use Rattle.protocol.specs.declared.Saved.the-variants.{Nothing, Newest}
@@ -79,6 +80,10 @@ answerTo m (Decide i move) sent s = decide move (s .controller)
 answerTo m (Stop i) sent s = stop (s .controller)
 answerTo m (Save i) sent s = passedOver (s .controller)
 answerTo m (Restore i) sent s = restoreFrom (identity m i) (s .saved) (s .controller)
+
+-- what that controller sends at the event, by the rules
+abbrev pub sendsAt : Bench → Event → Sends
+sendsAt b e = (answerTo (b .shared) e (sentBy b (source e)) (station b (subject e))) .sends
 
 -- what an accepted event of one controller does: to what is shared, and to that controller's station
 unfoldable pub effect : Shared → Event → Sent → Station → Effect

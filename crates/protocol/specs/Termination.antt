@@ -14,11 +14,10 @@ use Rattle.model.specs.declared.Outcome.the-variants.{None}
 use Rattle.model.specs.declared.Event.{Event}
 use Rattle.model.specs.declared.Event.the-variants.{Lock, Order, Cast, Deliver, Timeout, Decide, Stop}
 use Rattle.protocol.specs.declared.Bench.{Bench}
-use Rattle.protocol.specs.Controllers.{isStopped, runs}
+use Rattle.protocol.specs.Controllers.{isStopped, runs, hasHelped}
 use Rattle.protocol.specs.Benches.{controller}
-use Rattle.protocol.specs.Display.{shownStage, shownOutcome}
-use Rattle.protocol.specs.Claim.{after, SameOrder, InOrder, Holds}
-use Rattle.protocol.specs.Reach.{WasSent}
+use Rattle.protocol.specs.Display.{shownStage, shownOutcome, WasSent}
+use Rattle.protocol.specs.Claim.{after, SameOrder, InOrder, HoldsSome}
 
 -- controller i of the lock runs at the moment es
 pub record RunsAt (es : List Event) (i : ℕ) : Type 0 where
@@ -67,17 +66,19 @@ pub record MetList (n f : ℕ) : Type 0 where
   pub stopped : countTo n (λ k. isStopped ((controller (after events) k) .condition)) ≡ f
   pub meets : (p : Premise) → Meets p events
 
--- and one in which, at an earlier moment of the order, a controller waited for others' answers; by `hears` it has an outcome at the end
+-- and one in which, in the order of its end, a controller waited for others' answers, and another's came and was counted; by `hears` it has an outcome
+-- at the end
 pub record WaitedList (n f : ℕ) : Type 0 where
   pub list : MetList n f
-  pub before : List Event
-  pub rest : List Event
-  pub parts : list .events ≡ before ++ rest
-  pub same : SameOrder before rest
   pub who : ℕ
-  pub waited : (controller (after before) who) .help .waiting ≡ true
-  pub runs : RunsAt (list .events) who
-  pub holds : Holds (list .events) who (shownOutcome (after (list .events)) who)
+  pub other : ℕ
+  pub apart : other ≡ who → ⊥
+  pub answer : InOrder (list .events) (Deliver other who Helped)
+  pub waited : (controller (after (answer .before)) who) .help .waiting ≡ true
+  pub unheard : hasHelped (controller (after (answer .before)) who) other ≡ false
+  pub heard : hasHelped (controller (after (answer .before ++ (Deliver other who Helped ∷ []))) who) other ≡ true
+  pub running : RunsAt (list .events) who
+  pub holds : HoldsSome (list .events) who
 
 -- Nor can the bench be brought to where the premises are out of reach: more events of the order after which they are met, each controller running or
 -- stopped as it was
@@ -97,7 +98,7 @@ pub record Lacking : Type 0 where
 pub record Needed (r : Lacking) : Type 0 where
   pub lacks : Meets (r .premise) (r .events) → ⊥
   pub others : (p : Premise) → (p ≡ r .premise → ⊥) → Meets p (r .events)
-  pub runs : RunsAt (r .events) (r .who)
+  pub running : RunsAt (r .events) (r .who)
   pub holds-none : shownOutcome (after (r .events)) (r .who) ≡ None
 
 abbrev pub AllNeeded : List Lacking → Type 0
@@ -147,7 +148,7 @@ lackings =
 
 pub record Termination : Type 0 where
   -- "each running controller has an outcome"
-  pub hears : (es : List Event) → ((p : Premise) → Meets p es) → (i : ℕ) → RunsAt es i → Holds es i (shownOutcome (after es) i)
+  pub hears : (es : List Event) → ((p : Premise) → Meets p es) → (i : ℕ) → RunsAt es i → HoldsSome es i
   -- "n from 2 to 16; f from 1 to n − 1"
   pub met : (n f : ℕ) → sizesInRange n f ≡ true → MetList n f
   -- f up to n − 2; with n − f ≡ 1 a controller's own answer is enough, and none waits

@@ -16,7 +16,7 @@ use Rattle.model.specs.declared.Event.{Event}
 use Rattle.model.specs.declared.Event.the-variants.{Lock, Order, Cast, Deliver, Timeout, Decide, Stop, Save, Restore}
 use Rattle.protocol.specs.Benches.{newBench}
 use Rattle.protocol.specs.CleanOrders.{cleanOrder}
-use Rattle.protocol.specs.Rows.{Line, Inside, Trial, SendTrial, openAfter, same, passes, sendsAs}
+use Rattle.protocol.specs.Rows.{Line, Inside, Trial, SendTrial, answersTo, openAfter, same, passes, sendsAs}
 
 -- a C line, and a T line
 abbrev pub C : ℕ → Outcome → ℕ → Line
@@ -228,14 +228,17 @@ unfoldable pub allPass : {A : Type 0} → (A → Bool) → List A → Bool
 allPass test [] = true
 allPass test (r ∷ rs) = test r && allPass test rs
 
--- Document 02, U9: the count of gates still open after each event. Saved, stopped, restored; an order refused by 13; the arbiter's word, given again,
+-- Document 02, U9: the answers, and the count of gates still open after each event. Saved, stopped, restored; an order refused by 13; the arbiter's word, given again,
 -- also to the one standing by; and a new order, which that one is in again.
 abbrev pub reopened : List Event
 reopened = Lock 3 1 ∷ Order 1 ∷ Save 2 ∷ Stop 2 ∷ Order 2 ∷ Restore 2 ∷ Cast 1 true 10 ∷ Timeout 1 ∷ Timeout 1 ∷ Decide 1 false ∷ Decide 1 false ∷ Decide 2 false
     ∷ Stop 3 ∷ Order 2 ∷ []
 
+abbrev pub reopenedAnswers : List ℕ
+reopenedAnswers = allAccepted 4 ++ (13 ∷ allAccepted 9)
+
 abbrev pub stillOpen : List ℕ
 stillOpen = 3 ∷ 3 ∷ 3 ∷ 2 ∷ 2 ∷ 2 ∷ 2 ∷ 2 ∷ 2 ∷ 1 ∷ 1 ∷ 1 ∷ 0 ∷ 2 ∷ []
 
 abbrev pub TrialsHold : Type 0
-TrialsHold = (allPass passes table && allPass sendsAs sequences && same eqb (openAfter newBench reopened) stillOpen) ≡ true
+TrialsHold = (allPass passes table && allPass sendsAs sequences && same eqb (answersTo newBench reopened) reopenedAnswers && same eqb (openAfter newBench reopened) stillOpen) ≡ true

@@ -67,7 +67,8 @@ pub struct Controller {
     pub acks: Acks,
     pub helped: HelpAnswers,
     pub help: HelpState,
-    // the word it put to the arbiter; the trials look at it, and a lock that settles the word by itself will
+    // the word it put to the arbiter since it last began; document 02's U5 speaks of it (`HasPut`, Termination.antt), the trials look at it, and a
+    // lock that settles the word by itself will
     pub proposal: Outcome,
     pub gate: Gate,
 }
@@ -202,7 +203,8 @@ pub fn termination()
     ensures { λ _. ⌜ Termination ⌝ }
 {}
 
-// The T line counts the telegrams that were sent by the rules: none is sent twice in an order.
+// The T line counts the telegrams that were sent by the rules: none is sent twice in an order. What was sent stays, with its sheet, until the next
+// order; and the messages of an answer, which a cabinet sends one by one, are as many as it sends.
 pub fn sent_once()
     ensures { λ _. ⌜ SentOnce ⌝ }
 {}
@@ -217,8 +219,8 @@ pub fn reach()
     ensures { λ _. ⌜ Reach ⌝ }
 {}
 
-// The starred trials of document 01, run by the definitions: every row of the table in specs/Trials.antt shows what the document says of it. And the count of
-// gates still open, event by event, on one list.
+// The starred trials of document 01, run by the definitions: every row of the table in specs/Trials.antt shows what the document says of it. And the
+// messages that an event sends, in their sequence, on some lists; and the answers and the count of gates still open, event by event, on one.
 pub fn trials_hold()
     ensures { λ _. ⌜ TrialsHold ⌝ }
 {}

@@ -43,7 +43,7 @@ fn step(s: &[u8], t: Trial, out: &mut [u8]) -> Trial {
     let answer = told.answer;
     let saved = told.saved;
     let c = answer.controller;
-    let waiting = put_line(out, t.waiting, answer, saved);
+    let waiting = put_line(out, t.waiting, me, answer, saved);
     Trial { me, c, waiting }
 }
 

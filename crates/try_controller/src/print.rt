@@ -1,16 +1,21 @@
 // Lines of text into a buffer. What does not fit is left out; the buffer is written out long before that.
+use controller::nth_message;
 use controller_state::is_standby;
 use controller_state::is_stopped;
 use controller_state::outcome_in;
 use controller_state::phase_in;
 use libc::STDOUT_FILENO;
+use model::Message;
 use model::Outcome;
+use model::kind_number;
 use model::outcome_number;
 use protocol::Answer;
 use protocol::Condition;
+use protocol::Identity;
 use protocol::Saved;
 use protocol::Send;
 use protocol::Sends;
+use protocol::ToSend;
 use votes::VoteSet;
 
 fn put(out: &mut [u8], at: usize, b: u8) -> usize {
@@ -118,6 +123,27 @@ fn put_checkpoint(out: &mut [u8], at: usize, saved: Saved) -> usize {
     }
 }
 
+// A space, then a telegram: its kind > its receiver.
+fn put_message(out: &mut [u8], at: usize, m: Message) -> usize {
+    let kind = m.kind;
+    let next = put_number(out, at, b' ', kind_number(kind) as u32);
+    put_number(out, next, b'>', m.to as u32)
+}
+
+// The telegrams of an answer, one by one as a cabinet sends them: at most four kinds to sixteen receivers.
+fn put_messages(out: &mut [u8], at: usize, me: Identity, sends: Sends) -> usize {
+    let mut next = at;
+    let mut k: u8 = 0;
+    while k < 64 {
+        let ToSend::Next(m) = nth_message(me, sends, k) else {
+            return next;
+        };
+        next = put_message(out, next, m);
+        k += 1;
+    }
+    next
+}
+
 // The first n bytes go to standard output.
 pub(crate) fn flush(out: &[u8], n: usize) {
     if n <= out.len() {
@@ -125,12 +151,14 @@ pub(crate) fn flush(out: &[u8], n: usize) {
     }
 }
 
-// A line. A buffer that is nearly full is written out, and begins again at 0.
-pub(crate) fn put_line(out: &mut [u8], at: usize, a: Answer, saved: Saved) -> usize {
+// A line, which has at most some 500 bytes. A buffer that is nearly full is written out, and begins again at 0.
+pub(crate) fn put_line(out: &mut [u8], at: usize, me: Identity, a: Answer, saved: Saved) -> usize {
+    let sends = a.sends;
     let mut next = put_answer(out, at, a);
     next = put_checkpoint(out, next, saved);
+    next = put_messages(out, next, me, sends);
     next = put(out, next, b'\n');
-    if 65000 < next {
+    if 64000 < next {
         flush(out, next);
         return 0;
     }

@@ -27,16 +27,16 @@ use Rattle.protocol.specs.Benches.{newBench, benchOf, unsentAll, station
 use Rattle.protocol.specs.Events.{subject, source, concernsOne}
 use Rattle.protocol.specs.Questions.{accepted, isAccepted, reply}
 use Rattle.protocol.specs.Steps.{answerTo, perform, step, run, renewed}
-use Rattle.protocol.specs.Display.{sumTo, sentCount, telegrams}
+use Rattle.protocol.specs.Display.{WasSent, sumTo, sentCount, telegrams}
 use Rattle.protocol.specs.Claim.{after, opensOrder, opensAny}
-use Rattle.protocol.specs.SentOnce.{receiversOf, sendOf, receiversAt, sendsAt, countAccepted, countSends, StaysSent, SentOnce}
+use Rattle.protocol.specs.SentOnce.{receiversOf, sendOf, receiversAt, sendCount, countAccepted, countSends, StaysSent, SentOnce}
 use Rattle.protocol.proofs.view.View.{View, openedV, accepts}
 use Rattle.protocol.proofs.view.Performed.{commitV, chosen, savedV, ruleAnswer, answerV, answered-by-rule, performV, place, stepV}
 use Rattle.protocol.proofs.view.Simulation.{view, reply-sim, step-steps, step-sim}
 use Rattle.protocol.proofs.invariant.Arrivals.{count-zero}
 use Rattle.protocol.proofs.claim.Moments.{accepted-is, lock-refused, run-append, or-false-l, or-false-r}
 use Rattle.protocol.proofs.claim.Start.{unlocked, freshes}
-use Rattle.protocol.proofs.claim.Sends.{New, rule-new, telegramsV, commit-counted, commit-kept}
+use Rattle.protocol.proofs.claim.Sends.{Stays, New, rule-new, telegramsV, commit-counted, commit-kept}
 use Rattle.protocol.proofs.claim.Reach.{Alive, Reached, step-reached, reached}
 
 -- a bench on which nothing was sent
@@ -95,10 +95,10 @@ module _ (b : Bench) (a : Alive b) where
         stepped : stepV n f (view b) e ≡ performV n f (view b) e
         stepped = unfold stepV in rw q
 
-    by-rule : telegramsV n f (view b) kind + sends (ruleAnswer n f (view b) e) ≡ telegrams b kind + sendsAt b e kind
-    by-rule = rw (as-view b n f kind refl, rule-sim e q)
+    by-rule : telegramsV n f (view b) kind + sends (ruleAnswer n f (view b) e) ≡ telegrams b kind + sendCount b e kind
+    by-rule = rw (as-view b n f kind refl) (ap (λ (x : Answer). telegramsV n f (view b) kind + sends x) (sym (rule-sim e q)))
 
-    counted-by : telegramsV n f (performV n f (view b) e) kind ≡ telegramsV n f (view b) kind + sends (ruleAnswer n f (view b) e) → telegrams (step b e) kind ≡ telegrams b kind + sendsAt b e kind
+    counted-by : telegramsV n f (performV n f (view b) e) kind ≡ telegramsV n f (view b) kind + sends (ruleAnswer n f (view b) e) → telegrams (step b e) kind ≡ telegrams b kind + sendCount b e kind
     counted-by h = after-view ∙ h ∙ by-rule
 
   committed : (kind : Kind) (e : Event) → concernsOne e ≡ true → accepts n f (view b) e ≡ true
@@ -125,7 +125,7 @@ module _ (b : Bench) (a : Alive b) where
 
   -- what was sent stays sent
   performed-kept : (e : Event) → accepts n f (view b) e ≡ true → opensOrder b e ≡ false → (kind : Kind) (j i : ℕ) → has ((ofKind kind (sentBy b i)) .to) j ≡ true
-      → StaysSent j (ofKind kind (sentBy b i)) (ofKind kind ((performV n f (view b) e) .state .sent i))
+      → Stays j (ofKind kind (sentBy b i)) (ofKind kind ((performV n f (view b) e) .state .sent i))
   performed-kept (Lock x y) q o kind j i h = unfold performV view in record { sent = h; votes = refl }
   performed-kept (Order m) q o kind j i h = absurd (no-both _ (reply-sim b (a .sound) (Order m) ∙ q) o)
   performed-kept (Cast k w t) q o kind j i h = unfold performV ruleAnswer view in commit-kept n f (view b) k _ (rule-new n f (view b) (a .inv) (Cast k w t) q) kind j i h
@@ -137,8 +137,8 @@ module _ (b : Bench) (a : Alive b) where
   performed-kept (Restore k) q o kind j i h = unfold performV ruleAnswer view in commit-kept n f (view b) k _ (rule-new n f (view b) (a .inv) (Restore k) q) kind j i h
 
   accepted-kept : (e : Event) → accepts n f (view b) e ≡ true → opensOrder b e ≡ false → (kind : Kind) (j i : ℕ) → has ((ofKind kind (sentBy b i)) .to) j ≡ true
-      → StaysSent j (ofKind kind (sentBy b i)) (ofKind kind (sentBy (step b e) i))
-  accepted-kept e q o kind j i h = unfold view in subst (λ (v : View). StaysSent j (ofKind kind (sentBy b i)) (ofKind kind (v .state .sent i))) (sym (step-sim b (a .sound) e ∙ stepped)) (performed-kept e q o kind j i h)
+      → Stays j (ofKind kind (sentBy b i)) (ofKind kind (sentBy (step b e) i))
+  accepted-kept e q o kind j i h = unfold view in subst (λ (v : View). Stays j (ofKind kind (sentBy b i)) (ofKind kind (v .state .sent i))) (sym (step-sim b (a .sound) e ∙ stepped)) (performed-kept e q o kind j i h)
     where
       stepped : stepV n f (view b) e ≡ performV n f (view b) e
       stepped = unfold stepV in rw q
@@ -183,16 +183,16 @@ once-at b e kind j (inr a) p h = adds b a e (sym (reply-sim b (a .sound) e) ∙ 
 
 -- over every list
 step-kept : (b : Bench) (e : Event) → Reached b → opensOrder b e ≡ false → (kind : Kind) (j i : ℕ) → has ((ofKind kind (sentBy b i)) .to) j ≡ true
-    → StaysSent j (ofKind kind (sentBy b i)) (ofKind kind (sentBy (step b e) i))
+    → Stays j (ofKind kind (sentBy b i)) (ofKind kind (sentBy (step b e) i))
 step-kept b e (inl z) o kind j i h =
     absurd (no-both (has 0 j) (sym (ap (λ (x : Bench). has ((ofKind kind (sentBy x i)) .to) j) z ∙ ap (λ (l : Sent). has ((ofKind kind l) .to) j) (freshes false 0 0 i .sent) ∙ ap (λ (m : ℕ). has m j) (unsent-kind kind)) ∙ h) (has-none j))
 step-kept b e (inr a) o kind j i h = elim (split (isAccepted (reply b e))) [
   | inl q ↦ accepted-kept b a e (sym (reply-sim b (a .sound) e) ∙ q) o kind j i h
-  | inr q ↦ subst (λ (x : Bench). StaysSent j (ofKind kind (sentBy b i)) (ofKind kind (sentBy x i))) (sym (refused-step b e q)) (record { sent = h; votes = refl })
+  | inr q ↦ subst (λ (x : Bench). Stays j (ofKind kind (sentBy b i)) (ofKind kind (sentBy x i))) (sym (refused-step b e q)) (record { sent = h; votes = refl })
 ]
 
 run-kept : (more : List Event) (b : Bench) → Reached b → opensAny b more ≡ false → (kind : Kind) (j i : ℕ) → has ((ofKind kind (sentBy b i)) .to) j ≡ true
-    → StaysSent j (ofKind kind (sentBy b i)) (ofKind kind (sentBy (run b more) i))
+    → Stays j (ofKind kind (sentBy b i)) (ofKind kind (sentBy (run b more) i))
 unfolding run opensAny
 run-kept [] b r o kind j i h = record { sent = h; votes = refl }
 run-kept (e ∷ more) b r o kind j i h =
@@ -200,9 +200,8 @@ run-kept (e ∷ more) b r o kind j i h =
     let t = run-kept more (step b e) (step-reached b e r) (or-false-r (opensOrder b e) _ o) kind j i (s .sent) in
     record { sent = t .sent; votes = t .votes ∙ s .votes }
 
-kept-from : (es more : List Event) (kind : Kind) (i j : ℕ) → opensAny (after es) more ≡ false → has ((ofKind kind (sentBy (after es) i)) .to) j ≡ true
-    → StaysSent j (ofKind kind (sentBy (after es) i)) (ofKind kind (sentBy (after (es ++ more)) i))
-kept-from es more kind i j o h = subst (λ (x : Bench). StaysSent j (ofKind kind (sentBy (after es) i)) (ofKind kind (sentBy x i))) (sym (run-append es more newBench)) (run-kept more (after es) (reached es) o kind j i h)
+kept-from : (es more : List Event) (kind : Kind) (i j : ℕ) → opensAny (after es) more ≡ false → WasSent (after es) kind i j → StaysSent kind i j (after es) (after (es ++ more))
+kept-from es more kind i j o h = subst (StaysSent kind i j (after es)) (sym (run-append es more newBench)) (let s = run-kept more (after es) (reached es) o kind j i h in record { sent = s .sent; votes = s .votes })
 
 -- as many messages are listed
 messages-listed : (me : Identity) (kind : Kind) (s : Send) → length (messagesOfKind me kind s) ≡ countTo (me .n) (has (receiversOf s))
@@ -212,7 +211,7 @@ messages-listed me kind (To receivers s) = length-map (members (me .n) receivers
 
 pub sent-once : SentOnce
 sent-once = record {
-  once = λ es e kind j p h. once-at (after es) e kind j (reached es) p h;
+  once = λ es e kind j p h s. no-both _ s (once-at (after es) e kind j (reached es) p h);
   kept = kept-from;
   counted = λ es kind. run-counted kind es newBench (inl refl) ∙ ap (countSends kind newBench es) (fresh-silent kind false 0 0);
   listed = messages-listed;

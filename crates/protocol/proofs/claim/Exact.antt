@@ -20,8 +20,8 @@ use Rattle.model.specs.declared.Event.{Event}
 use Rattle.protocol.specs.declared.Bench.{Bench}
 use Rattle.protocol.specs.Benches.{benchOf, sentBy}
 use Rattle.protocol.specs.Display.{sumTo, sentCount, telegrams}
-use Rattle.protocol.specs.Claim.{after, Clean}
-use Rattle.protocol.specs.CleanTelegrams.{HoldsSome, CleanEnd, fn, CleanTelegrams}
+use Rattle.protocol.specs.Claim.{after, Clean, HoldsSome}
+use Rattle.protocol.specs.CleanTelegrams.{CleanEnd, fn, CleanTelegrams}
 use Rattle.protocol.proofs.view.View.{View, savedOutcome}
 use Rattle.protocol.proofs.view.Simulation.{view}
 use Rattle.protocol.proofs.invariant.Words.{none-word}

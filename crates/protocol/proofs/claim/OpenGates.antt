@@ -2,7 +2,7 @@
 -- by those that are present.
 use Prim.Native.Nat.{ℕ, suc, _≤_}
 use mathlib.Core.Path.{_≡_, refl, sym, _∙_, ap, subst}
-use mathlib.Core.Bool.{Bool, true, false, not, _&&_, _||_}
+use mathlib.Core.Bool.{Bool, true, false, not, _||_}
 use mathlib.Core.List.{List, [], _∷_}
 use native.Mathlib.Omega.{arith}
 use lib.Dec.{eqb}
@@ -16,7 +16,6 @@ use Rattle.ground.specs.Sizes.{count-new, count-none, none-count, all-count}
 use Rattle.ground.specs.Update.{upd, upd-same, fun-ext}
 use Rattle.votes.specs.VoteSets.{empty}
 use Rattle.model.specs.Ranges.{sizesInRange}
-use Rattle.model.specs.Numbers.{isNone}
 use Rattle.model.specs.declared.Event.{Event}
 use Rattle.model.specs.declared.Event.the-variants.{Lock, Order, Cast, Deliver, Timeout, Decide, Stop, Save, Restore}
 use Rattle.protocol.specs.declared.Condition.{Condition}
@@ -25,14 +24,14 @@ use Rattle.protocol.specs.declared.Controller.{Controller}
 use Rattle.protocol.specs.declared.Answer.{Answer}
 use Rattle.protocol.specs.declared.Station.{Station}
 use Rattle.protocol.specs.declared.Bench.{Bench}
-use Rattle.protocol.specs.Controllers.{isStopped, isPresent, runs, outcome, cleared, bump}
+use Rattle.protocol.specs.Controllers.{isStopped, isPresent, cleared, bump}
 use Rattle.protocol.specs.Calls.{renew}
 use Rattle.protocol.specs.Counts.{openGates, lacksOutcome, recount, countsAfter}
 use Rattle.protocol.specs.Benches.{fresh, freshStation, benchOf, newBench, station, controller}
 use Rattle.protocol.specs.Questions.{mayOpen}
 use Rattle.protocol.specs.Steps.{renewed, orderOpened, run}
 use Rattle.protocol.specs.Claim.{after}
-use Rattle.protocol.specs.OpenCount.{fullCount, ended, hasEnded, OpenCount}
+use Rattle.protocol.specs.OpenCount.{isOpen, fullCount, hasEnded, OpenCount}
 use Rattle.protocol.proofs.view.View.{View, openedV, accepts}
 use Rattle.protocol.proofs.view.Performed.{upd-id, commitV, chosen, savedV, performV, place, stepV, runV}
 use Rattle.protocol.proofs.view.Simulation.{view, part, ranges, Runs, run-sim}
@@ -173,21 +172,13 @@ kept es = elim (start es) [
 
 -- the theorem -----------------------------------------------------------------------------
 
-opposite : (r x : Bool) → (not r || not x) ≡ not (r && x)
-opposite true x = refl
-opposite false x = refl
-
-ended-is : (c : Controller) → ended c ≡ not (lacksOutcome (c .condition))
-unfolding ended
-ended-is c = opposite (runs c) (isNone (outcome c))
-
 full : (b : Bench) → Kept b → openGates (b .shared) ≡ fullCount b
 unfolding view
 full b h = h .undecided
 
 asks : (b : Bench) → Kept b → mayOpen (b .shared) ≡ hasEnded b
 asks b h = ap (λ (x : Bool). eqb (b .shared .order) 0 || x)
-    (ap (λ (k : ℕ). eqb k 0) (full b h) ∙ none-all (b .shared .n) (λ k. lacksOutcome ((controller b k) .condition)) (λ k. ended (controller b k)) (λ k. ended-is (controller b k)))
+    (ap (λ (k : ℕ). eqb k 0) (full b h) ∙ none-all (b .shared .n) (isOpen b) (λ k. not (isOpen b k)) (λ k. refl))
 
 there : (b : Bench) → Kept b → b .shared .counts .present ≡ countTo (b .shared .n) (λ k. isPresent ((controller b k) .condition))
 unfolding view

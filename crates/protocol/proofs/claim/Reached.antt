@@ -39,7 +39,8 @@ use Rattle.protocol.specs.Benches.{fresh, freshStation, benchOf, newBenc
 use Rattle.protocol.specs.Questions.{accepted, unless, firstNo}
 use Rattle.protocol.specs.Steps.{step, run}
 use Rattle.protocol.specs.Claim.{after}
-use Rattle.protocol.specs.Reach.{Within, HeldWithin, messageAt, WasSent, IsSaved, AsRead, AllRead, Reach}
+use Rattle.protocol.specs.Display.{WasSent}
+use Rattle.protocol.specs.Reach.{Within, HeldWithin, messageAt, IsSaved, AsRead, AllRead, Reach}
 use Rattle.protocol.proofs.view.View.{View, accepts, ask-l, ask-r}
 use Rattle.protocol.proofs.view.Performed.{stepV}
 use Rattle.protocol.proofs.view.Simulation.{view, ranges, Steps, step-steps, step-sim}

@@ -34,7 +34,7 @@ use Rattle.protocol.specs.Calls.{arrives, restore}
 use Rattle.protocol.specs.Benches.{ofKind, afterSend, sentAfter}
 use Rattle.protocol.specs.Questions.{firstNo}
 use Rattle.protocol.specs.Display.{sumTo}
-use Rattle.protocol.specs.SentOnce.{receiversOf, sendOf, StaysSent}
+use Rattle.protocol.specs.SentOnce.{receiversOf, sendOf}
 use Rattle.protocol.proofs.view.View.{View, accepts, ask-l, ask-r}
 use Rattle.protocol.proofs.view.Performed.{commitV, ruleAnswer}
 use Rattle.protocol.proofs.view.RuleCases.{vote-cases, ack-cases, helped-cases, help-cases, restore-cases, sufficient-cases, second-cases, timeout-cases}
@@ -83,6 +83,11 @@ sum-upd (suc m) g i x d lo hi e = elim (ℕ-discrete i (suc m)) [
   | yes q ↦ rw q (let z : x ≡ g (suc m) + d = (rw q at e) in rw (upd-same g (suc m) x, sum-out m g (suc m) x (omega arith)) (omega arith))
   | no q ↦ let ih : sumTo m (upd g i x) ≡ sumTo m g + d = sum-upd m g i x d lo (omega arith) e in rw (upd-other g i x (suc m) (ne-eqb (suc m) i (λ z. q (sym z)))) (omega arith)
 ]
+
+-- what was sent to j stays sent, with its set
+pub record Stays (j : ℕ) (old new : Outgoing) : Type 0 where
+  pub sent : has (new .to) j ≡ true
+  pub votes : new .votes ≡ old .votes
 
 module _ (n f : ℕ) where
   puts-new : (l : Sent) (a : Answer) → New l a → New l (proposeIfSufficient n f a)
@@ -242,7 +247,7 @@ module _ (n f : ℕ) where
 
   -- after an answer is put back, what anybody has sent stays sent
   pub commit-kept : (b : View) (i : ℕ) (a : Answer) → New (b .state .sent i) a → (kind : Kind) (j k : ℕ) → has ((ofKind kind (b .state .sent k)) .to) j ≡ true
-      → StaysSent j (ofKind kind (b .state .sent k)) (ofKind kind ((commitV b i a) .state .sent k))
+      → Stays j (ofKind kind (b .state .sent k)) (ofKind kind ((commitV b i a) .state .sent k))
   unfolding commitV
-  commit-kept b i a h kind j k e = upd-all (λ m l. has ((ofKind kind (b .state .sent m)) .to) j ≡ true → StaysSent j (ofKind kind (b .state .sent m)) (ofKind kind l)) (b .state .sent) i (sentAfter (b .state .sent i) (a .sends))
+  commit-kept b i a h kind j k e = upd-all (λ m l. has ((ofKind kind (b .state .sent m)) .to) j ≡ true → Stays j (ofKind kind (b .state .sent m)) (ofKind kind l)) (b .state .sent) i (sentAfter (b .state .sent i) (a .sends))
       (λ x. record { sent = sent-more (b .state .sent i) (a .sends) kind j ∙ or-l _ _ x; votes = h .same kind j x }) (λ m x. record { sent = x; votes = refl }) k e

@@ -22,9 +22,8 @@ use Rattle.protocol.specs.declared.Controller.{Controller}
 use Rattle.protocol.specs.declared.Bench.{Bench}
 use Rattle.protocol.specs.Controllers.{isRunning, phaseIn, runs, phase, outcome, hasAck, hasHelped}
 use Rattle.protocol.specs.Benches.{newBench, benchOf, controller, sentBy}
-use Rattle.protocol.specs.Display.{stageShown, shownOutcome}
-use Rattle.protocol.specs.Claim.{after, Holds}
-use Rattle.protocol.specs.Reach.{WasSent}
+use Rattle.protocol.specs.Display.{stageShown, shownOutcome, WasSent}
+use Rattle.protocol.specs.Claim.{after, HoldsSome}
 use Rattle.protocol.specs.Termination.{RunsAt, WasGiven, Premise, few-down, at-stage-3, delivered, answered, Meets}
 use Rattle.protocol.proofs.view.Simulation.{view}
 use Rattle.protocol.proofs.invariant.Invariant.{Own}
@@ -109,8 +108,8 @@ module _ (es : List Event) (h : HeardAt (after es) (logAt es)) (m : (p : Premise
 unlocked : (es : List Event) (i : ℕ) → after es ≡ newBench → RunsAt es i → ⊥
 unlocked es i z r = let q : (after es) .shared .n ≡ 0 = ap (λ (b : Bench). b .shared .n) z ∙ (unfold benchOf in refl) in let lo : 1 ≤ i = r .low in let hi : i ≤ (after es) .shared .n = r .high in omega arith
 
-pub hears : (es : List Event) → ((p : Premise) → Meets p es) → (i : ℕ) → RunsAt es i → Holds es i (shownOutcome (after es) i)
+pub hears : (es : List Event) → ((p : Premise) → Meets p es) → (i : ℕ) → RunsAt es i → HoldsSome es i
 hears es m i r = elim (start es) [
   | inl z ↦ absurd (unlocked es i z r)
-  | inr o ↦ record { shows = refl; some = hears-at es (heard-at es o) m i r }
+  | inr o ↦ record { outcome = shownOutcome (after es) i; holds = record { shows = refl; some = hears-at es (heard-at es o) m i r } }
 ]

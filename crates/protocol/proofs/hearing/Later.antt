@@ -156,7 +156,7 @@ module _ (n f o : ℕ) (f<n : f < n) (1≤f : 1 ≤ f) (small : n ≤ limit) whe
   }
 
   -- a controller that an event does not concern
-  other : (v : View) (e : Event) → Acts e → (k : ℕ) → eqb k (subject e) ≡ false → (performV n f v e) .ctl k ≡ v .ctl k
+  pub other : (v : View) (e : Event) → Acts e → (k : ℕ) → eqb k (subject e) ≡ false → (performV n f v e) .ctl k ≡ v .ctl k
   unfolding performV commitV chosen
   other v (Lock a c) t k d = absurd t
   other v (Order x) t k d = absurd t

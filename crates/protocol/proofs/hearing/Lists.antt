@@ -1,8 +1,8 @@
--- The theorem is not hollow: at every lock the backups can be stopped, and then, from there on or after a controller beyond them has begun to wait,
--- the order goes on to where all premises are met.
+-- The theorem is not hollow: at every lock the backups can be stopped, and then, from there on, or after a controller beyond them has begun to wait and
+-- another's answer has come to it, the order goes on to where all premises are met.
 use Prim.Native.Nat.{ℕ, zero, suc, _+_, _≤_, _<_}
 use mathlib.Core.Path.{_≡_, refl, sym, _∙_, ap, subst}
-use mathlib.Core.Bool.{true, false, not, _&&_}
+use mathlib.Core.Bool.{Bool, true, false, not, _&&_}
 use mathlib.Core.List.{List, [], _∷_, _++_}
 use native.Mathlib.Omega.{arith}
 use native.Mathlib.Decide.{ℕ-discrete}
@@ -11,37 +11,44 @@ use mathlib.Core.Logic.{inl, inr}
 use borrow.Author.Tests.{le-leb, lt-leb, ne-eqb}
 use Rattle.ground.specs.Tests.{no-both, refuted, and-l}
 use Rattle.ground.specs.Quantify.{countTo, allTo, all-at}
-use Rattle.ground.specs.Mask.{has}
-use Rattle.ground.specs.MaskLaws.{has-none}
+use Rattle.ground.specs.Limit.{limit}
+use Rattle.ground.specs.Mask.{width, has}
+use Rattle.ground.specs.MaskLaws.{has-none, insert-own, insert-only}
 use Rattle.ground.specs.Update.{upd-same, upd-other, fun-ext}
 use Rattle.votes.specs.VoteSets.{complete}
+use Rattle.votes.specs.declared.VoteSet.{VoteSet}
 use Rattle.model.specs.Ranges.{sizesInRange, isController, positionInRange}
+use Rattle.model.specs.declared.Kind.the-variants.{Help, Helped}
 use Rattle.model.specs.declared.Event.{Event}
-use Rattle.model.specs.declared.Event.the-variants.{Lock, Order, Cast, Timeout, Stop}
+use Rattle.model.specs.declared.Event.the-variants.{Lock, Order, Cast, Deliver, Timeout, Stop}
 use Rattle.protocol.specs.declared.Controller.{Controller}
+use Rattle.protocol.specs.declared.Answer.{Answer}
 use Rattle.protocol.specs.declared.Bench.{Bench}
-use Rattle.protocol.specs.Controllers.{isStopped, runs, phase, hasAck, ackOf, cleared, advance, learn, aim, keepHelped, freeze, await}
-use Rattle.protocol.specs.Rules.{becomes, voteRule, decides, backupsComplete, sufficient, proposeIfSufficient, frozen, callsHelp, secondTimeout}
-use Rattle.protocol.specs.Benches.{newBench, benchOf, controller}
+use Rattle.protocol.specs.Controllers.{isStopped, runs, phase, hasAck, ackOf, hasHelped, cleared, advance, learn, aim, keepHelped, freeze, await, propose}
+use Rattle.protocol.specs.Rules.{passedOver, becomes, proposing, voteRule, decides, backupsComplete, sufficient, proposeIfSufficient, frozen, callsHelp, secondTimeout, helpedArrives}
+use Rattle.protocol.specs.Calls.{arrives}
+use Rattle.protocol.specs.Benches.{newBench, benchOf, controller, ofKind}
 use Rattle.protocol.specs.Questions.{unless, firstNo}
 use Rattle.protocol.specs.Steps.{renewed, orderOpened, run}
-use Rattle.protocol.specs.Claim.{after}
+use Rattle.protocol.specs.Claim.{after, opensAny}
 use Rattle.protocol.specs.Termination.{RunsAt, few-down, Meets, MetList, WaitedList, Onward}
 use Rattle.protocol.proofs.view.View.{View, openedV, accepts}
 use Rattle.protocol.proofs.view.Performed.{commitV, timeoutRule, performV, runV}
+use Rattle.protocol.proofs.view.RuleCases.{helped-cases, sufficient-cases}
 use Rattle.protocol.proofs.view.Simulation.{view, Ranges, ranges, step-steps, Runs, run-sim}
 use Rattle.protocol.proofs.invariant.Invariant.{Inv}
 use Rattle.protocol.proofs.invariant.Decisions.{Blank, renew-blank}
+use Rattle.protocol.proofs.clean.Log.{In}
 use Rattle.protocol.proofs.clean.Kept.{stopped-idle}
 use Rattle.protocol.proofs.clean.Reached.{begins, shows, fresh-going}
-use Rattle.protocol.proofs.claim.Moments.{logAt, run-append}
+use Rattle.protocol.proofs.claim.Moments.{logAt, append-assoc, run-append, run-one}
 use Rattle.protocol.proofs.claim.Start.{start, lock-sound}
 use Rattle.protocol.proofs.hearing.Counts.{count-first}
 use Rattle.protocol.proofs.hearing.Events.{Heard}
 use Rattle.protocol.proofs.hearing.Moments.{HeardAt, heard-at}
 use Rattle.protocol.proofs.hearing.Hears.{hears}
-use Rattle.protocol.proofs.hearing.Later.{viewAt, running-up, Moment, performs, moment-next, Later, later-trans, later-one}
-use Rattle.protocol.proofs.hearing.Onward.{open-at, onward}
+use Rattle.protocol.proofs.hearing.Later.{viewAt, running-up, Moment, taken, performs, logs, moment-next, Later, later-trans, later-one}
+use Rattle.protocol.proofs.hearing.Onward.{open-at, Brought, Raised, unmoved, to-stage, deliver-accepted, onward}
 
 module _ (n f : ℕ) (sized : sizesInRange n f ≡ true) where
   range : Ranges n f
@@ -179,21 +186,6 @@ module _ (n f : ℕ) (sized : sizesInRange n f ≡ true) where
     runs-at-end : (k : ℕ) → f < k → k ≤ n → RunsAt end k
     runs-at-end k lo hi = record { low = omega arith; high = let q : (after end) .shared .n ≡ n = end-n in omega arith; running = on .running k ∙ (unfold view in t .runs k lo hi) }
 
-    -- one that waits at this moment
-    waited-from : (k : ℕ) → f < k → k ≤ n → (controller (after es) k) .help .waiting ≡ true → WaitedList n f
-    unfolding met-from
-    waited-from k lo hi w = record {
-      list = met-from;
-      before = es;
-      rest = on .more;
-      parts = refl;
-      same = on .same;
-      who = k;
-      waited = w;
-      runs = runs-at-end k lo hi;
-      holds = hears end (on .meets) k (runs-at-end k lo hi);
-    }
-
   all-stopped : HaltedList f
   all-stopped = halt f (range .high)
 
@@ -215,6 +207,22 @@ module _ (n f : ℕ) (sized : sizesInRange n f ≡ true) where
   second-waits : (i : ℕ) (c : Controller) → suc (suc f) ≤ n → c .acks .from ≡ 0 → c .acks .cnt .0 ≡ 0 → c .helped .«cnt_help» .0 ≡ 0 → ((secondTimeout n f i c) .controller) .help .waiting ≡ true
   unfolding secondTimeout proposeIfSufficient sufficient callsHelp keepHelped await frozen freeze advance
   second-waits i c h z x y = rw (decides-not i c z, x, y, lt-leb n (1 + f) (omega arith))
+
+  -- and it has counted its own answer alone
+  second-alone : (i j : ℕ) (c : Controller) → suc (suc f) ≤ n → c .acks .from ≡ 0 → c .acks .cnt .0 ≡ 0 → c .helped .«cnt_help» .0 ≡ 0 → c .helped .from ≡ 0 → (j ≡ i → ⊥) → hasHelped ((secondTimeout n f i c) .controller) j ≡ false
+  unfolding secondTimeout proposeIfSufficient sufficient callsHelp keepHelped await frozen freeze advance
+  second-alone i j c h z x y e d = rw (decides-not i c z, x, y, lt-leb n (1 + f) (omega arith))
+      (refuted _ (λ q. elim (insert-only (c .helped .from) i j q) [ inl p ↦ d p | inr p ↦ no-both (has 0 j) (ap (λ (m : ℕ). has m j) (sym e) ∙ p) (has-none j) ]))
+
+  -- while it waits, an answer that comes is counted
+  helped-counts : (j : ℕ) (s : VoteSet) (c : Controller) → 1 ≤ j → j ≤ width → c .help .waiting ≡ true → hasHelped ((helpedArrives n f j s c) .controller) j ≡ true
+  helped-counts j s c lo hi w = helped-cases (λ (a : Answer). hasHelped (a .controller) j ≡ true) n f j s c
+      (λ p q. sufficient-cases (λ (a : Answer). hasHelped (a .controller) j ≡ true) n f (becomes (keepHelped c j s)) (λ z. unfold proposing propose becomes keepHelped in insert-own (c .helped .from) j lo hi) (λ z. unfold becomes keepHelped in insert-own (c .helped .from) j lo hi))
+      (λ q. unfold passedOver in held (hasHelped c j) (c .help .waiting) w q)
+    where
+      held : (a w : Bool) → w ≡ true → (not a && w) ≡ false → a ≡ true
+      held true w p q = refl
+      held false w p q = absurd (no-both w p q)
 
   -- the last controller votes and has its second timeout, right after the backups were stopped
   module _ (far : suc (suc f) ≤ n) where
@@ -269,12 +277,101 @@ module _ (n f : ℕ) (sized : sizesInRange n f ≡ true) where
     waits = rw (performs n f 1 (range .high) (range .low) (range .small) s₁ (later₁ .moment) (Timeout n) timeout-accepted)
         (unfold performV commitV timeoutRule in rw (voted .at, upd-same ((viewAt s₁) .ctl) n ((secondTimeout n f n ((viewAt s₁) .ctl n)) .controller)) (second-waits n ((viewAt s₁) .ctl n) far (voted .from) (voted .cnt) (voted .cnt-help)))
 
-    waiting-stopped : BackupsStopped s₂
-    waiting-stopped = record {
-      moment = later₂ .moment;
-      stopped = λ k lo hi. later₂ .stopped k ∙ all-stopped .halted .stopped k lo hi;
-      runs = λ k lo hi. later₂ .running k ∙ all-stopped .halted .runs k lo hi;
+    alone : hasHelped ((viewAt s₂) .ctl n) (suc f) ≡ false
+    alone = rw (performs n f 1 (range .high) (range .low) (range .small) s₁ (later₁ .moment) (Timeout n) timeout-accepted)
+        (unfold performV commitV timeoutRule in rw (voted .at, upd-same ((viewAt s₁) .ctl) n ((secondTimeout n f n ((viewAt s₁) .ctl n)) .controller)) (second-alone n (suc f) ((viewAt s₁) .ctl n) far (voted .from) (voted .cnt) (voted .cnt-help)
+        (later₁ .moment .inv .owns n .helping .early (let p : phase ((viewAt s₁) .ctl n) ≡ 2 = voted .at in omega arith)) (λ q. omega arith)))
+
+    -- its call comes to f + 1, which goes on to stage 3 and so answers it; and the answer comes
+    abbrev call : Event
+    call = Deliver n (suc f) Help
+
+    abbrev s₃ : List Event
+    s₃ = s₂ ++ (Deliver n (suc f) Help ∷ [])
+
+    runs₂ : (k : ℕ) → f < k → k ≤ n → runs ((viewAt s₂) .ctl k) ≡ true
+    runs₂ k lo hi = later₂ .running k ∙ all-stopped .halted .runs k lo hi
+
+    apart : n ≡ suc f → ⊥
+    apart q = omega arith
+
+    called : has ((ofKind Help ((viewAt s₂) .state .sent n)) .to) (suc f) ≡ true
+    called = later₂ .moment .heard .listening n (omega arith) (omega arith) (runs₂ n (omega arith) (omega arith)) .stands .waits waits .called (suc f) (omega arith) (omega arith) apart
+
+    call-accepted : accepts n f (viewAt s₂) call ≡ true
+    call-accepted = deliver-accepted n f 1 (range .high) (range .low) (range .small) (omega arith) s₂ (later₂ .moment) Help n (suc f) called (runs₂ (suc f) (omega arith) (omega arith))
+
+    later₃ : To s₂ s₃
+    later₃ = later-one n f 1 (range .high) (range .low) (range .small) s₂ (later₂ .moment) call tt call-accepted (runs₂ (suc f) (omega arith) (omega arith))
+
+    came₃ : In call (logAt s₃)
+    came₃ = subst (In call) (sym (logs n f 1 (range .high) (range .low) (range .small) s₂ (later₂ .moment) call call-accepted tt)) (inl refl)
+
+    raised : Brought n f 1 (range .high) (range .low) (range .small) (omega arith) s₃ (Raised n f 1 (range .high) (range .low) (range .small) (omega arith) (suc f) 3 s₃)
+    raised = to-stage n f 1 (range .high) (range .low) (range .small) (omega arith) (suc f) (omega arith) (omega arith) 3 (omega arith) s₃ (later₃ .moment) (later₃ .running (suc f) ∙ runs₂ (suc f) (omega arith) (omega arith))
+
+    abbrev s₄ : List Event
+    s₄ = raised .to
+
+    later₄ : To s₂ s₄
+    later₄ = later-trans n f 1 (range .high) (range .low) (range .small) s₂ s₃ s₄ later₃ (raised .later)
+
+    runs₄ : (k : ℕ) → f < k → k ≤ n → runs ((viewAt s₄) .ctl k) ≡ true
+    runs₄ k lo hi = later₄ .running k ∙ runs₂ k lo hi
+
+    same₄ : (viewAt s₄) .ctl n ≡ (viewAt s₂) .ctl n
+    same₄ = raised .holds .others n (ne-eqb n (suc f) apart) ∙ unmoved n f 1 (range .high) (range .low) (range .small) (omega arith) s₂ (later₂ .moment) call tt call-accepted n (ne-eqb n (suc f) apart)
+
+    waits₄ : ((viewAt s₄) .ctl n) .help .waiting ≡ true
+    waits₄ = ap (λ (c : Controller). c .help .waiting) same₄ ∙ waits
+
+    unheard₄ : hasHelped ((viewAt s₄) .ctl n) (suc f) ≡ false
+    unheard₄ = ap (λ (c : Controller). hasHelped c (suc f)) same₄ ∙ alone
+
+    answered : has ((ofKind Helped ((viewAt s₄) .state .sent (suc f))) .to) n ≡ true
+    answered = later₄ .moment .inv .owns (suc f) .helping .answered (raised .holds .stage) n
+        ∙ later₄ .moment .heard .listening (suc f) (omega arith) (omega arith) (runs₄ (suc f) (omega arith) (omega arith)) .came .calls n (raised .later .log call came₃)
+
+    abbrev answer : Event
+    answer = Deliver (suc f) n Helped
+
+    answer-accepted : accepts n f (viewAt s₄) answer ≡ true
+    answer-accepted = deliver-accepted n f 1 (range .high) (range .low) (range .small) (omega arith) s₄ (later₄ .moment) Helped (suc f) n answered (runs₄ n (omega arith) (omega arith))
+
+    abbrev s₅ : List Event
+    s₅ = raised .to ++ (Deliver (suc f) n Helped ∷ [])
+
+    later₅ : To s₄ s₅
+    later₅ = later-one n f 1 (range .high) (range .low) (range .small) s₄ (later₄ .moment) answer tt answer-accepted (runs₄ n (omega arith) (omega arith))
+
+    heard₅ : hasHelped ((viewAt s₅) .ctl n) (suc f) ≡ true
+    heard₅ = rw (performs n f 1 (range .high) (range .low) (range .small) s₄ (later₄ .moment) answer answer-accepted)
+        (unfold performV commitV arrives in rw (upd-same ((viewAt s₄) .ctl) n _) (helped-counts (suc f) _ ((viewAt s₄) .ctl n) (omega arith) (let h : n ≤ limit = range .small in omega arith) waits₄))
+
+    stopped₅ : BackupsStopped s₅
+    stopped₅ = record {
+      moment = later₅ .moment;
+      stopped = λ k lo hi. later₅ .stopped k ∙ later₄ .stopped k ∙ later₂ .stopped k ∙ all-stopped .halted .stopped k lo hi;
+      runs = λ k lo hi. later₅ .running k ∙ runs₄ k lo hi;
     }
 
     pub waited : WaitedList n f
-    waited = waited-from s₂ waiting-stopped n (range .high) (omega arith) (unfold view in waits)
+    unfolding met-from
+    waited = record {
+      list = met-from s₅ stopped₅;
+      who = n;
+      other = suc f;
+      apart = λ q. apart (sym q);
+      answer = record {
+        before = s₄;
+        rest = on s₅ stopped₅ .more;
+        parts = sym (append-assoc s₄ (answer ∷ []) (on s₅ stopped₅ .more));
+        taken = taken n f 1 (range .high) (range .low) (range .small) s₄ (later₄ .moment) answer answer-accepted;
+        same = unfold opensAny in subst (λ (b : Bench). opensAny b (on s₅ stopped₅ .more) ≡ false) (run-append s₄ (answer ∷ []) newBench ∙ run-one answer (after s₄)) (on s₅ stopped₅ .same);
+      };
+      waited = unfold view in waits₄;
+      unheard = unfold view in unheard₄;
+      heard = unfold view in heard₅;
+      running = runs-at-end s₅ stopped₅ n (range .high) (omega arith);
+      holds = hears (end s₅ stopped₅) (on s₅ stopped₅ .meets) n (runs-at-end s₅ stopped₅ n (range .high) (omega arith));
+    }

@@ -95,7 +95,7 @@ module _ (r : Lacking) (h : shown r (after (r .events)) (logAt (r .events)) ≡ 
   is-needed = record {
     lacks = λ m. no-both _ (met-passes (r .events) (r .premise) m) (as-lacking (r .premise) ∙ ap not (eqb-same (number (r .premise))));
     others = λ p d. passes-met (r .events) p (as-lacking p ∙ ap not (refuted (eqb (number p) (number (r .premise))) (λ e. d (same-premise p e))));
-    runs = record { low = leb-true _ _ (search (and-l, and-r) depth 14); high = leb-true _ _ (search (and-l, and-r) depth 14); running = search (and-l, and-r) depth 14 };
+    running = record { low = leb-true _ _ (search (and-l, and-r) depth 14); high = leb-true _ _ (search (and-l, and-r) depth 14); running = search (and-l, and-r) depth 14 };
     holds-none = none-is (shownOutcome (after (r .events)) (r .who)) (search (and-l, and-r) depth 14);
   }
 

@@ -35,6 +35,7 @@ use Rattle.protocol.specs.Controllers.{isStopped, runs, phase, conclude}
 use Rattle.protocol.specs.Rules.{passedOver, becomes, proposing, proposeIfSufficient, keepsCall, answersCall, secondTimeout}
 use Rattle.protocol.specs.Calls.{arrives}
 use Rattle.protocol.specs.Benches.{newBench, benchOf, controller, ofKind}
+use Rattle.protocol.specs.Events.{subject}
 use Rattle.protocol.specs.Questions.{unless, firstNo, wasProposed, noOther}
 use Rattle.protocol.specs.SentOnce.{receiversOf, sendOf}
 use Rattle.protocol.specs.Steps.{run}
@@ -55,7 +56,7 @@ use Rattle.protocol.proofs.claim.Start.{start}
 use Rattle.protocol.proofs.claim.Reached.{reach}
 use Rattle.protocol.proofs.hearing.Moments.{HeardAt, heard-at}
 use Rattle.protocol.proofs.hearing.Hears.{stage-is}
-use Rattle.protocol.proofs.hearing.Later.{viewAt, Moment, performs, logs, Later, later-refl, later-trans, later-one, commit-calm}
+use Rattle.protocol.proofs.hearing.Later.{viewAt, Acts, Moment, performs, logs, Later, later-refl, later-trans, other, later-one, commit-calm}
 
 -- a delivery of the first kind sends nothing of the second: only a help call sends, and answers alone
 abbrev still : Kind → Kind → Bool
@@ -116,10 +117,19 @@ module _ (n f o : ℕ) (f<n : f < n) (1≤f : 1 ≤ f) (small : n ≤ limit) (op
   open-at es m = le-leb 1 ((after es) .shared .order) (let q : (after es) .shared .order ≡ o = m .is-order in omega arith)
 
   -- stage 3 ---------------------------------------------------------------------------
-  record Brought (es : List Event) (P : List Event → Type 0) : Type 0 where
-    to : List Event
-    later : To es to
-    holds : P to
+  pub record Brought (es : List Event) (P : List Event → Type 0) : Type 0 where
+    pub to : List Event
+    pub later : To es to
+    pub holds : P to
+
+  -- k is at stage s or past it, and nobody else has changed
+  pub record Raised (k s : ℕ) (es x : List Event) : Type 0 where
+    pub stage : s ≤ phase ((viewAt x) .ctl k)
+    pub others : (j : ℕ) → eqb j k ≡ false → (viewAt x) .ctl j ≡ (viewAt es) .ctl j
+
+  -- whom an event does not concern, it does not change
+  pub unmoved : (es : List Event) (m : At es) (e : Event) → Acts e → accepts n f (viewAt es) e ≡ true → (j : ℕ) → eqb j (subject e) ≡ false → (viewAt (es ++ (e ∷ []))) .ctl j ≡ (viewAt es) .ctl j
+  unmoved es m e u q j d = rw (performs n f o f<n 1≤f small es m e q) (other n f o f<n 1≤f small (viewAt es) e u j d)
 
   module _ (k : ℕ) (lo : 1 ≤ k) (hi : k ≤ n) where
     ring-accepted : (es : List Event) → At es → runs ((viewAt es) .ctl k) ≡ true → (eqb (phase ((viewAt es) .ctl k)) 1 || eqb (phase ((viewAt es) .ctl k)) 2) ≡ true → accepts n f (viewAt es) (Timeout k) ≡ true
@@ -130,32 +140,36 @@ module _ (n f o : ℕ) (f<n : f < n) (1≤f : 1 ≤ f) (small : n ≤ limit) (op
     unfolding accepts firstNo unless isController positionInRange
     cast-accepted es m r p = rw (le-leb 1 k lo, le-leb k n hi, open-at es m, r, p)
 
-    raised : (es : List Event) → At es → runs ((viewAt es) .ctl k) ≡ true → (s : ℕ) → suc s ≤ 3 → phase ((viewAt es) .ctl k) ≡ s → Brought es (λ x. suc s ≤ phase ((viewAt x) .ctl k))
+    raised : (es : List Event) → At es → runs ((viewAt es) .ctl k) ≡ true → (s : ℕ) → suc s ≤ 3 → phase ((viewAt es) .ctl k) ≡ s → Brought es (Raised k (suc s) es)
     raised es m r zero h p =
         let q : accepts n f (viewAt es) (Cast k true 0) ≡ true = cast-accepted es m r p in
         let w : NewVote n f (viewAt es) (performV n f (viewAt es) (Cast k true 0)) k true = perform-new n f small (viewAt es) (Cast k true 0) (m .inv) q in
-        record { to = es ++ (Cast k true 0 ∷ []); later = later-one n f o f<n 1≤f small es m (Cast k true 0) tt q r; holds = rw (performs n f o f<n 1≤f small es m (Cast k true 0) q) (w .begun) }
+        record { to = es ++ (Cast k true 0 ∷ []); later = later-one n f o f<n 1≤f small es m (Cast k true 0) tt q r; holds = record { stage = rw (performs n f o f<n 1≤f small es m (Cast k true 0) q) (w .begun); others = unmoved es m (Cast k true 0) tt q } }
     raised es m r (suc zero) h p =
         let q : accepts n f (viewAt es) (Timeout k) ≡ true = ring-accepted es m r (rw p) in
         let w : NewTimeout n f (viewAt es) (performV n f (viewAt es) (Timeout k)) k = perform-new n f small (viewAt es) (Timeout k) (m .inv) q in
-        record { to = es ++ (Timeout k ∷ []); later = later-one n f o f<n 1≤f small es m (Timeout k) tt q r; holds = rw (performs n f o f<n 1≤f small es m (Timeout k) q) (w .after) }
+        record { to = es ++ (Timeout k ∷ []); later = later-one n f o f<n 1≤f small es m (Timeout k) tt q r; holds = record { stage = rw (performs n f o f<n 1≤f small es m (Timeout k) q) (w .after); others = unmoved es m (Timeout k) tt q } }
     raised es m r (suc (suc zero)) h p =
         let q : accepts n f (viewAt es) (Timeout k) ≡ true = ring-accepted es m r (rw p) in
-        record { to = es ++ (Timeout k ∷ []); later = later-one n f o f<n 1≤f small es m (Timeout k) tt q r; holds = rw (performs n f o f<n 1≤f small es m (Timeout k) q) rung }
+        record { to = es ++ (Timeout k ∷ []); later = later-one n f o f<n 1≤f small es m (Timeout k) tt q r; holds = record { stage = rw (performs n f o f<n 1≤f small es m (Timeout k) q) rung; others = unmoved es m (Timeout k) tt q } }
       where
         rung : 3 ≤ phase ((performV n f (viewAt es) (Timeout k)) .ctl k)
         rung = unfold performV timeoutRule in rw p (omega (arith, rung-after n f (viewAt es) k (secondTimeout n f k ((viewAt es) .ctl k)) 3 (second-rings n f k ((viewAt es) .ctl k))))
     raised es m r (suc (suc (suc s))) h p = absurd (omega arith)
 
-    to-stage : (s : ℕ) → s ≤ 3 → (es : List Event) → At es → runs ((viewAt es) .ctl k) ≡ true → Brought es (λ x. s ≤ phase ((viewAt x) .ctl k))
-    to-stage zero h es m r = record { to = es; later = later-refl n f o f<n 1≤f small es m; holds = omega arith }
+    pub to-stage : (s : ℕ) → s ≤ 3 → (es : List Event) → At es → runs ((viewAt es) .ctl k) ≡ true → Brought es (Raised k s es)
+    to-stage zero h es m r = record { to = es; later = later-refl n f o f<n 1≤f small es m; holds = record { stage = omega arith; others = λ j d. refl } }
     to-stage (suc s) h es m r =
-        let b : Brought es (λ x. s ≤ phase ((viewAt x) .ctl k)) = to-stage s (omega arith) es m r in
-        let low : s ≤ phase ((viewAt (b .to)) .ctl k) = b .holds in
+        let b : Brought es (Raised k s es) = to-stage s (omega arith) es m r in
+        let low : s ≤ phase ((viewAt (b .to)) .ctl k) = b .holds .stage in
         elim (decLe (suc s) (phase ((viewAt (b .to)) .ctl k))) [
-          | yes y ↦ record { to = b .to; later = b .later; holds = y }
-          | no y ↦ let a : Brought (b .to) (λ x. suc s ≤ phase ((viewAt x) .ctl k)) = raised (b .to) (b .later .moment) (b .later .running k ∙ r) s h (omega arith) in
-              record { to = a .to; later = later-trans n f o f<n 1≤f small es (b .to) (a .to) (b .later) (a .later); holds = a .holds }
+          | yes y ↦ record { to = b .to; later = b .later; holds = record { stage = y; others = b .holds .others } }
+          | no y ↦ let a : Brought (b .to) (Raised k (suc s) (b .to)) = raised (b .to) (b .later .moment) (b .later .running k ∙ r) s h (omega arith) in
+              record {
+                to = a .to;
+                later = later-trans n f o f<n 1≤f small es (b .to) (a .to) (b .later) (a .later);
+                holds = record { stage = a .holds .stage; others = λ j d. a .holds .others j d ∙ b .holds .others j d };
+              }
         ]
 
   abbrev Staged : ℕ → List Event → Type 0
@@ -174,12 +188,12 @@ module _ (n f o : ℕ) (f<n : f < n) (1≤f : 1 ≤ f) (small : n ≤ limit) (op
             | no q ↦ b .holds k lo (omega arith) r
           ];
         }
-        | inl e ↦ let a : Brought (b .to) (λ x. 3 ≤ phase ((viewAt x) .ctl (suc m))) = to-stage (suc m) (omega arith) h 3 (omega arith) (b .to) (b .later .moment) e in
+        | inl e ↦ let a : Brought (b .to) (Raised (suc m) 3 (b .to)) = to-stage (suc m) (omega arith) h 3 (omega arith) (b .to) (b .later .moment) e in
             record {
               to = a .to;
               later = later-trans n f o f<n 1≤f small es (b .to) (a .to) (b .later) (a .later);
               holds = λ k lo hi r. elim (ℕ-discrete k (suc m)) [
-                | yes q ↦ subst (λ (x : ℕ). 3 ≤ phase ((viewAt (a .to)) .ctl x)) (sym q) (a .holds)
+                | yes q ↦ subst (λ (x : ℕ). 3 ≤ phase ((viewAt (a .to)) .ctl x)) (sym q) (a .holds .stage)
                 | no q ↦ let r′ : runs ((viewAt (b .to)) .ctl k) ≡ true = sym (a .later .running k) ∙ r in
                     let x : 3 ≤ phase ((viewAt (b .to)) .ctl k) = b .holds k lo (omega arith) r′ in let y : phase ((viewAt (b .to)) .ctl k) ≤ phase ((viewAt (a .to)) .ctl k) = a .later .phases k r′ in omega arith
               ];
@@ -228,7 +242,7 @@ module _ (n f o : ℕ) (f<n : f < n) (1≤f : 1 ≤ f) (small : n ≤ limit) (op
     unfolding aboutMessage
     routed = subst (λ (x : ℕ). route x kind i j ≡ true) (m .is-f) (asked .1 .1 .1 .1 .0)
 
-    deliver-accepted : runs ((viewAt es) .ctl j) ≡ true → accepts n f (viewAt es) (Deliver i j kind) ≡ true
+    pub deliver-accepted : runs ((viewAt es) .ctl j) ≡ true → accepts n f (viewAt es) (Deliver i j kind) ≡ true
     unfolding accepts firstNo unless
     deliver-accepted r = rw (differ, routed, open-at es m, r, e)
 

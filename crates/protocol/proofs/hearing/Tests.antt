@@ -22,9 +22,9 @@ use Rattle.message_record.specs.Messages.{aboutMessage}
 use Rattle.protocol.specs.declared.Bench.{Bench}
 use Rattle.protocol.specs.Controllers.{runs}
 use Rattle.protocol.specs.Benches.{controller, sentBy, ofKind}
-use Rattle.protocol.specs.Display.{shownStage}
+use Rattle.protocol.specs.Display.{shownStage, WasSent}
 use Rattle.protocol.specs.Claim.{after}
-use Rattle.protocol.specs.Reach.{WasSent, messageAt}
+use Rattle.protocol.specs.Reach.{messageAt}
 use Rattle.protocol.specs.Termination.{RunsAt, down, WasGiven, Premise, few-down, at-stage-3, delivered, answered, Meets}
 use Rattle.protocol.proofs.clean.Log.{In}
 use Rattle.protocol.proofs.claim.Moments.{logAt, in-order, in-log}

@@ -99,16 +99,16 @@ decide-fits n f b i w inv late p ch = becomes-fits n f b inv i (conclude (b .ctl
     given true false p ch e = absurd (true≢false e)
     given false true p ch e = absurd (false≢true e)
 
-pub saved-inv : (n f : ℕ) (b : View) (i : ℕ) (card : Checkpoint) → card .order ≡ b .order → card .outcome ≡ outcome (b .ctl i) → Inv n f b → Inv n f (savedV b i card)
+pub saved-inv : (n f : ℕ) (b : View) (i : ℕ) (checkpoint : Checkpoint) → checkpoint .order ≡ b .order → checkpoint .outcome ≡ outcome (b .ctl i) → Inv n f b → Inv n f (savedV b i checkpoint)
 unfolding savedV
-saved-inv n f b i card p q inv = record {
+saved-inv n f b i checkpoint p q inv = record {
   lines = inv .lines;
   owns = inv .owns;
   ctls = inv .ctls;
   move = inv .move;
   stay = inv .stay;
-  saved-old = upd-all (λ k (c : Saved). savedOrder c ≤ b .order) (b .saved) i (Newest card) (omega arith) (inv .saved-old);
-  saved-ok = upd-all (λ k (c : Saved). savedOrder c ≡ b .order → (v : Bool) → savedOutcome c ≡ wordOf v → OutcomeGrounds n f (b .state .sent) (b .state .consensus .decision) v) (b .saved) i (Newest card) (λ e v x. inv .ctls i .outcome-ok v (sym q ∙ x)) (inv .saved-ok);
+  saved-old = upd-all (λ k (c : Saved). savedOrder c ≤ b .order) (b .saved) i (Newest checkpoint) (omega arith) (inv .saved-old);
+  saved-ok = upd-all (λ k (c : Saved). savedOrder c ≡ b .order → (v : Bool) → savedOutcome c ≡ wordOf v → OutcomeGrounds n f (b .state .sent) (b .state .consensus .decision) v) (b .saved) i (Newest checkpoint) (λ e v x. inv .ctls i .outcome-ok v (sym q ∙ x)) (inv .saved-ok);
   chosen = inv .chosen;
 }
 

@@ -63,7 +63,7 @@ chosen v move = record {
 
 -- a checkpoint kept
 unfoldable pub savedV : View → ℕ → Checkpoint → View
-savedV v i card = record { order = v .order; state = v .state; ctl = v .ctl; saved = upd (v .saved) i (Newest card); counts = v .counts }
+savedV v i checkpoint = record { order = v .order; state = v .state; ctl = v .ctl; saved = upd (v .saved) i (Newest checkpoint); counts = v .counts }
 
 pub upd-id : {A : Type 0} (F : ℕ → A) (i : ℕ) → upd F i (F i) ≡ F
 unfolding upd

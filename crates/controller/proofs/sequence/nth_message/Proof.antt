@@ -10,7 +10,7 @@ use Rattle.model.specs.declared.Kind.the-variants.{Vote, Ack, Help, Helped}
 use Rattle.protocol.specs.declared.Identity.{Identity}
 use Rattle.protocol.specs.declared.Sends.{Sends}
 use Rattle.protocol.specs.Sequence.{messagesOfKind, messagesOf, nthOf}
-use Rattle.protocol.specs.SequenceLaws.{nth-in, nth-past}
+use Rattle.protocol.specs.SequenceLaws.{nth-in, nth-past, nth-message-of}
 use Rattle.controller.proofs.sequence.nth_message.Statement.{statement}
 use Rattle.controller.proofs.sequence.nth_message.Tie as tie
 
@@ -50,7 +50,7 @@ nth-of-kind-requires c κs = search needs
 returns : tie.Need-returns
 returns c =
     let start = c .before .before .before .args in
-    c .nth-of-kind .ensures ∙ in-votes (start .me) (start .sends) (start .k) _ (c .before .before .count-of .ensures) (c .before .if1 .taken)
+    nth-message-of _ _ _ _ (c .nth-of-kind .ensures ∙ in-votes (start .me) (start .sends) (start .k) _ (c .before .before .count-of .ensures) (c .before .if1 .taken))
 
 count-of-requires-2 : tie.Need-count-of-requires-2
 count-of-requires-2 c κs = search needs
@@ -61,9 +61,9 @@ nth-of-kind-requires-2 c κs = search needs
 returns-2 : tie.Need-returns-2
 returns-2 c =
     let start = c .before .before .before .before .before .args in
-    c .nth-of-kind2 .ensures
+    nth-message-of _ _ _ _ (c .nth-of-kind2 .ensures
     ∙ here (acks (start .me) (start .sends)) (calls (start .me) (start .sends) ++ answers (start .me) (start .sends)) _ _ (c .before .before .count-of2 .ensures) (c .before .if2 .taken)
-    ∙ past-votes (start .me) (start .sends) (start .k) _ (c .before .before .before .before .count-of .ensures) (c .before .before .before .if1 .left)
+    ∙ past-votes (start .me) (start .sends) (start .k) _ (c .before .before .before .before .count-of .ensures) (c .before .before .before .if1 .left))
 
 count-of-requires-3 : tie.Need-count-of-requires-3
 count-of-requires-3 c κs = search needs
@@ -74,10 +74,10 @@ nth-of-kind-requires-3 c κs = search needs
 returns-3 : tie.Need-returns-3
 returns-3 c =
     let start = c .before .before .before .before .before .before .before .args in
-    c .nth-of-kind3 .ensures
+    nth-message-of _ _ _ _ (c .nth-of-kind3 .ensures
     ∙ here (calls (start .me) (start .sends)) (answers (start .me) (start .sends)) _ _ (c .before .before .count-of3 .ensures) (c .before .if3 .taken)
     ∙ past (acks (start .me) (start .sends)) (calls (start .me) (start .sends) ++ answers (start .me) (start .sends)) _ _ (c .before .before .before .before .count-of2 .ensures) (c .before .before .before .if2 .left)
-    ∙ past-votes (start .me) (start .sends) (start .k) _ (c .before .before .before .before .before .before .count-of .ensures) (c .before .before .before .before .before .if1 .left)
+    ∙ past-votes (start .me) (start .sends) (start .k) _ (c .before .before .before .before .before .before .count-of .ensures) (c .before .before .before .before .before .if1 .left))
 
 nth-of-kind-requires-4 : tie.Need-nth-of-kind-requires-4
 nth-of-kind-requires-4 c κs = search needs
@@ -85,10 +85,10 @@ nth-of-kind-requires-4 c κs = search needs
 returns-4 : tie.Need-returns-4
 returns-4 c =
     let start = c .before .before .before .before .before .before .before .args in
-    c .nth-of-kind4 .ensures
+    nth-message-of _ _ _ _ (c .nth-of-kind4 .ensures
     ∙ past (calls (start .me) (start .sends)) (answers (start .me) (start .sends)) _ _ (c .before .before .count-of3 .ensures) (c .before .if3 .left)
     ∙ past (acks (start .me) (start .sends)) (calls (start .me) (start .sends) ++ answers (start .me) (start .sends)) _ _ (c .before .before .before .before .count-of2 .ensures) (c .before .before .before .if2 .left)
-    ∙ past-votes (start .me) (start .sends) (start .k) _ (c .before .before .before .before .before .before .count-of .ensures) (c .before .before .before .before .before .if1 .left)
+    ∙ past-votes (start .me) (start .sends) (start .k) _ (c .before .before .before .before .before .before .count-of .ensures) (c .before .before .before .before .before .if1 .left))
 
 pub nth-message-spec : {M : Type 1} → statement M
 nth-message-spec =
