@@ -2,10 +2,11 @@
 use dues::Answer;
 use dues::dues;
 use tariff::Shares;
+use text::LINE;
 use text::put_byte;
 use text::put_field;
 use text::put_number;
-use text::write_bytes;
+use text::write_line;
 use text::write_refusal;
 ghost use mathlib.Core.Path.{_≡_};
 ghost use Rattle.text.specs.Writing.{fitted, fittedLength, Rendered};
@@ -15,18 +16,18 @@ ghost use Rattle.dues_output.specs.Printed.{totalsLine, heldAnswer, outp
 pub const HELD: usize = 65536;
 
 // No output is longer: `always-fits`, in specs/PrintedLaws.
-pub const LONGEST_OUTPUT: usize = 22;
+pub const LONGEST_OUTPUT: usize = LINE;
 
 // The line of both totals, to the front of the buffer, whole or not at all.
 fn write_totals(out: &mut [u8], t: Shares) -> usize
     ensures { λ r. ⌜ r ≡ fittedLength (totalsLine t) (now (out .entry)) ⌝ }
     ensures { λ r. ⌜ now (out .exit) ≡ fitted (totalsLine t) (now (out .entry)) ⌝ }
 {
-    let mut line = [0u8; LONGEST_OUTPUT];
+    let mut line = [0u8; LINE];
     let next = put_number(&mut line, 0, t.upper);
     let next = put_field(&mut line, next, t.lower);
     let end = put_byte(&mut line, next, b'\n');
-    write_bytes(&mut *out, &line[..end])
+    write_line(&mut *out, line, end)
 }
 
 // The answer to a sheet that the program holds.

@@ -91,6 +91,10 @@ pub fitted-nothing : (out : List ℕ) → (0 ≡ fittedLength [] out) × (out �
 unfolding fitted fittedLength
 fitted-nothing out = rw (le-leb 0 (length out) (omega arith)) (refl, refl)
 
+-- what was written of a text was written of an equal one
+pub same-fitted : {x y after : List ℕ} {r : ℕ} (out : List ℕ) → x ≡ y → (r ≡ fittedLength x out) × (after ≡ fitted x out) → (r ≡ fittedLength y out) × (after ≡ fitted y out)
+same-fitted out e w = (w .0 ∙ ap (λ (z : List ℕ). fittedLength z out) e, w .1 ∙ ap (λ (z : List ℕ). fitted z out) e)
+
 module _ (text out : List ℕ) where
   pub nothing-fitted : length out < length text → (0 ≡ fittedLength text out) × (out ≡ fitted text out)
   unfolding fitted fittedLength
@@ -132,8 +136,8 @@ read-front {l} {m} {r} {text} h p =
     (e, rw (e, p .bytes, front text l h) (take-append-seam text (drop (length text) l)))
 
 -- the same of an array of its own: a line that is made there, and then lent on
-pub own-line : (n : ℕ) (text : List ℕ) {m : List ℕ} {r : ℕ} → length text ≤ n → Put (replicate n 0) m 0 r text → (take r m ≡ text) × (r ≤ length m)
+pub own-line : (n : ℕ) (text : List ℕ) {m : List ℕ} {r : ℕ} → length text ≤ n → Put (replicate n 0) m 0 r text → (take r m ≡ text) × (r ≤ n)
 own-line n text h p =
     let l : length (replicate {A = ℕ} n 0) ≡ n = length-replicate n 0 in
     let w = read-front (omega (arith, l)) p in
-    (w .1, omega (arith, l, w .0, put-length p))
+    (w .1, omega (arith, w .0))

@@ -12,8 +12,7 @@ use Rattle.protocol.specs.Steps.{run}
 use Rattle.bench_run.specs.declared.RunResult.{RunResult}
 use Rattle.bench_run.specs.Schedule.{count, events}
 use Rattle.bench_run.specs.Runs.{answers}
-use Rattle.text.specs.Writing.{fitted, fittedLength}
-use Rattle.text.specs.WritingLaws.{rendered}
+use Rattle.text.specs.WritingLaws.{same-fitted, rendered}
 use Rattle.bench_report.specs.declared.Summary.{Summary}
 use Rattle.bench_report.specs.Limits.{mostAnswers, isTooLong}
 use Rattle.bench_report.specs.Report.{reported}
@@ -92,7 +91,6 @@ returns-2 : tie.Need-returns-2
 returns-2 c =
     let r = c .before .before .before .before .before .before .before in
     let s = schedule r in
-    let out = r .before .before .before .before .before .before .args .out .now in
     let summary : c .before .before .before .before .before .summary-of .result ≡ summaryOf (run newBench (events s)) =
     c .before .before .before .before .before .summary-of .ensures ∙ ap (λ (x : RunResult). summaryOf (x .bench)) (ran r) in
     let text : reported (take (r .run .result .count) (r .run .last .1 .0)) (c .before .before .before .before .before .summary-of .result) ≡ outputOf s =
@@ -100,8 +98,7 @@ returns-2 c =
     ∙ ap (λ (x : Summary). reported (answers s) x) summary
     ∙ few (answers s) (summaryOf (run newBench (events s))) (few-answers s (short r))
     ∙ sym (is-report s (short r)) in
-    let w = c .before .before .write-report .ensures in
-    rendered _ _ (w .0 ∙ ap (λ (x : List ℕ). fittedLength x out) text, w .1 ∙ ap (λ (x : List ℕ). fitted x out) text)
+    rendered _ _ (same-fitted _ text (c .before .before .write-report .ensures))
 
 pub render-spec : {M : Type 1} → statement M
 render-spec =

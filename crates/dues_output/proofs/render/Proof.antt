@@ -1,17 +1,10 @@
 -- `dues_output::render` meets its contract.
-use Prim.Native.Nat.{ℕ}
-use mathlib.Core.Path.{_≡_, sym, _∙_, ap}
-use mathlib.Core.List.{List}
-use Rattle.text.specs.Writing.{fitted, fittedLength}
-use Rattle.text.specs.WritingLaws.{rendered}
+use mathlib.Core.Path.{sym, _∙_, ap}
+use Rattle.text.specs.WritingLaws.{same-fitted, rendered}
 use Rattle.dues_output.specs.Printed.{answerLine}
 use borrow.Author.Needs.{needs}
 use Rattle.dues_output.proofs.render.Statement.{statement}
 use Rattle.dues_output.proofs.render.Tie as tie
-
--- what was written of a text was written of an equal one
-same-text : {x y after : List ℕ} {r : ℕ} (out : List ℕ) → x ≡ y → (r ≡ fittedLength x out) × (after ≡ fitted x out) → (r ≡ fittedLength y out) × (after ≡ fitted y out)
-same-text out e w = (w .0 ∙ ap (λ (z : List ℕ). fittedLength z out) e, w .1 ∙ ap (λ (z : List ℕ). fitted z out) e)
 
 held-answer-requires : tie.Need-held-answer-requires
 held-answer-requires c κs = search needs
@@ -38,7 +31,7 @@ returns : tie.Need-returns
 unfolding answerLine
 returns c =
     let told = c .before .before .before .before .before in
-    rendered _ _ (same-text _ (ap answerLine (sym (told .t .given .1) ∙ told .before .before .held-answer .ensures)) (c .before .before .write-totals .ensures))
+    rendered _ _ (same-fitted _ (ap answerLine (sym (told .t .given .1) ∙ told .before .before .held-answer .ensures)) (c .before .before .write-totals .ensures))
 
 same-length-2 : tie.Need-same-length-2
 same-length-2 c = search needs
@@ -47,7 +40,7 @@ returns-2 : tie.Need-returns-2
 unfolding answerLine
 returns-2 c =
     let told = c .before .before .before .before .before in
-    rendered _ _ (same-text _ (ap answerLine (sym (told .q .given .1) ∙ told .before .before .held-answer .ensures)) (c .before .before .write-refusal .ensures))
+    rendered _ _ (same-fitted _ (ap answerLine (sym (told .q .given .1) ∙ told .before .before .held-answer .ensures)) (c .before .before .write-refusal .ensures))
 
 pub render-spec : {M : Type 1} → statement M
 render-spec =

@@ -1,8 +1,6 @@
-use mathlib.Core.Path.{sym, _∙_, ap}
-use mathlib.Core.List.{List}
-use Prim.Native.Nat.{ℕ}
+use mathlib.Core.Path.{sym}
 use lib.Seq.{length-take-le}
-use Rattle.text.specs.Writing.{fitted, fittedLength}
+use Rattle.text.specs.WritingLaws.{same-fitted}
 use Rattle.generator_output.specs.OutputLaws.{refused-output, short-output, whole-output}
 use borrow.Author.Needs.{needs}
 use Rattle.generator_output.proofs.write_for.Statement.{statement}
@@ -22,10 +20,8 @@ same-length c = search needs
 
 returns : tie.Need-returns
 returns c =
-    let out = c .before .before .before .before .before .before .before .args .out .now in
-    let w = c .before .before .write-refusal .ensures in
     let e = sym (refused-output _ _ _ _ _ (c .before .before .before .before .before .refusal-of .ensures) (c .before .before .before .before .if1 .taken)) in
-    (w .0 ∙ ap (λ (x : List ℕ). fittedLength x out) e, w .1 ∙ ap (λ (x : List ℕ). fitted x out) e)
+    same-fitted _ e (c .before .before .write-refusal .ensures)
 
 file-length-requires : tie.Need-file-length-requires
 file-length-requires c κs = search needs
