@@ -46,32 +46,31 @@ fn in_range(l: Lockage) -> bool
     1 <= l.length && l.length <= 2500
 }
 
-// Question 3, of every lockage.
-fn all_listed(s: &[u8]) -> bool
-    ensures { λ r. ⌜ r ≡ every listed (lockages (now (s .entry))) ⌝ }
-{
-    let count = s.len() / LENGTH;
-    let mut all = true;
-    let mut k: usize = 0;
-    while k < count {
-        all = both(all, listed(lockage_at(s, k * LENGTH)));
-        k += 1;
-    }
-    all
+// Which questions every lockage of a sheet passes: 3, and the lengths' part of 22.
+struct Checks {
+    listed: bool,
+    in_range: bool,
 }
 
-// The lengths' part of question 22, of every lockage.
-fn all_in_range(s: &[u8]) -> bool
-    ensures { λ r. ⌜ r ≡ every inRange (lockages (now (s .entry))) ⌝ }
+// One pass over the sheet for both.
+fn check_all(s: &[u8]) -> Checks
+    ensures { λ r. ⌜ r .listed ≡ every listed (lockages (now (s .entry))) ⌝ }
+    ensures { λ r. ⌜ r .«in_range» ≡ every inRange (lockages (now (s .entry))) ⌝ }
 {
     let count = s.len() / LENGTH;
-    let mut all = true;
+    let mut listed_all = true;
+    let mut in_range_all = true;
     let mut k: usize = 0;
     while k < count {
-        all = both(all, in_range(lockage_at(s, k * LENGTH)));
+        let l = lockage_at(s, k * LENGTH);
+        listed_all = both(listed_all, listed(l));
+        in_range_all = both(in_range_all, in_range(l));
         k += 1;
     }
-    all
+    Checks {
+        listed: listed_all,
+        in_range: in_range_all,
+    }
 }
 
 // A call and no `&&`, so that a loop has one way through.
@@ -113,13 +112,14 @@ pub fn dues(s: &[u8]) -> Answer
     if s.len() % LENGTH != 0 {
         return Answer::Refused(1);
     }
-    if !all_listed(s) {
+    let checks = check_all(s);
+    if !checks.listed {
         return Answer::Refused(3);
     }
     if MOST < s.len() / LENGTH {
         return Answer::Refused(22);
     }
-    if !all_in_range(s) {
+    if !checks.in_range {
         return Answer::Refused(22);
     }
     Answer::Totals(totals(s))
