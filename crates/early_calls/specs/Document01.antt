@@ -11,7 +11,7 @@ use Rattle.model.specs.declared.Event.{Event}
 use Rattle.model.specs.declared.Event.the-variants.{Lock, Order, Cast, Deliver, Timeout, Decide, Stop, Save, Restore}
 use Rattle.protocol.specs.declared.Controller.{Controller}
 use Rattle.protocol.specs.declared.Bench.{Bench}
-use Rattle.protocol.specs.Controllers.{phase}
+use Rattle.protocol.specs.Controllers.{phase, withHelp}
 use Rattle.protocol.specs.Benches.{newBench, station, controller, sentBy}
 use Rattle.protocol.specs.Questions.{isAccepted, reply}
 use Rattle.protocol.specs.Steps.{step}
@@ -66,15 +66,7 @@ lengthened b (e ∷ es) = e ∷ (onceMore b e ++ lengthened (step b e) es)
 
 -- a controller without the calls that it keeps
 abbrev pub withCallers : Controller → ℕ → Controller
-withCallers c m = record {
-  condition = c .condition;
-  votes = c .votes;
-  acks = c .acks;
-  helped = c .helped;
-  help = record { waiting = c .help .waiting; votes = c .help .votes; callers = m };
-  proposal = c .proposal;
-  gate = c .gate;
-}
+withCallers c m = withHelp c (record { waiting = c .help .waiting; votes = c .help .votes; callers = m })
 
 unfoldable pub withoutKept : Controller → Controller
 withoutKept c = cond (leb (phase c) 2) (withCallers c 0) c

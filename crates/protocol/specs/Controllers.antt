@@ -90,7 +90,7 @@ withAcks c a = record { condition = c .condition; votes = c .votes; acks = a; he
 abbrev withHelped : Controller → HelpAnswers → Controller
 withHelped c h = record { condition = c .condition; votes = c .votes; acks = c .acks; helped = h; help = c .help; proposal = c .proposal; gate = c .gate }
 
-abbrev withHelp : Controller → HelpState → Controller
+abbrev pub withHelp : Controller → HelpState → Controller
 withHelp c h = record { condition = c .condition; votes = c .votes; acks = c .acks; helped = c .helped; help = h; proposal = c .proposal; gate = c .gate }
 
 abbrev withProposal : Controller → Outcome → Controller
