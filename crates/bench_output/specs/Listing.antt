@@ -3,26 +3,13 @@ use Prim.Native.Nat.{ℕ}
 use mathlib.Core.Path.{_≡_, refl}
 use mathlib.Core.Bool.{true}
 use mathlib.Core.List.{List, [], _∷_, _++_}
-use Rattle.ground.specs.Mask.{has, insert, fullTo, collect}
-use Rattle.ground.specs.Quantify.{allTo, countTo}
-use Rattle.ground.specs.Lists.{nth, put}
-use Rattle.votes.specs.VoteSets.{single, join, complete, unanimous, joinAll}
-use Rattle.model.specs.Ranges.{sizesInRange, isController, positionInRange}
-use Rattle.model.specs.Routes.{voteRoute, ackRoute, route, recipients}
 use Rattle.model.specs.declared.Event.{Event}
 use Rattle.records.specs.Codec.{reads}
 use Rattle.records.specs.Codes.{isKind, kindOf}
 use Rattle.records.specs.Rows.{rowOf}
 use Rattle.event_record.specs.Events.{fieldsIn, fieldsOf, rows, rowFor, eventBytes}
 use Rattle.schedule_reader.specs.Pieces.{pieceAt}
-use Rattle.protocol.specs.Controllers.{advance, learn, aim, keepAck, freeze, conclude, cleared}
-use Rattle.protocol.specs.Rules.{becomes, verdict, voteRule, voteArrives, countOwn, firstTimeout, ackJoin, backupsComplete, secondKnows, decides, sufficient, proposeIfSufficient, helpVotes, frozen, ready, secondTimeout, ackArrives}
-use Rattle.protocol.specs.Calls.{validIdentity, vote, addressed, arrives, receive, timeout, renew}
-use Rattle.protocol.specs.Counts.{countsAfter}
-use Rattle.protocol.specs.Benches.{unsentAll, fresh, freshStation, benchOf, station, sentAfter}
-use Rattle.protocol.specs.Questions.{unless, firstNo, reply}
-use Rattle.protocol.specs.Steps.{renewed, orderOpened, proposedTo, stationAfter, answering, answerTo, effect, perform, step, run}
-use Rattle.protocol.specs.Display.{sumTo, sentCount, telegrams}
+use Rattle.protocol.specs.Computing.{wholeRun}
 use Rattle.protocol.specs.Trials.{listing}
 use Rattle.bench_run.specs.Schedule.{count, eventsTo}
 use Rattle.bench_run.specs.Runs.{answersTo}
@@ -44,5 +31,5 @@ pub listing-printed : outputOf (schedule (listing true)) ≡ page (
     "C 1 3 M 500" ∷
     "C 2 3 M -250" ∷
     "T 2 2 0 0" ∷ [])
-unfolding outputOf isTooLong summaryOf reportOf lines signed decimal digits answersTo eventsTo count pieceAt reads rowFor rows rowOf fieldsIn fieldsOf isKind kindOf run step perform effect answerTo answering stationAfter proposedTo orderOpened renewed telegrams sentCount sumTo reply countsAfter firstNo unless station benchOf freshStation fresh unsentAll sentAfter renew timeout receive arrives addressed vote validIdentity secondTimeout ready frozen helpVotes proposeIfSufficient sufficient decides secondKnows backupsComplete ackJoin firstTimeout countOwn voteArrives voteRule verdict becomes ackArrives conclude freeze keepAck aim learn advance cleared recipients route ackRoute voteRoute positionInRange isController sizesInRange joinAll put nth unanimous complete join single collect fullTo insert has countTo allTo
+unfolding outputOf isTooLong summaryOf reportOf lines signed decimal digits answersTo eventsTo count pieceAt reads rowFor rows rowOf fieldsIn fieldsOf isKind kindOf wholeRun
 listing-printed = refl

@@ -4,24 +4,13 @@ use Prim.Native.String.{String}
 use mathlib.Core.Path.{_≡_, refl}
 use mathlib.Core.Bool.{true, false}
 use mathlib.Core.List.{List, [], _∷_, map}
-use Rattle.ground.specs.Mask.{has, insert, fullTo, collect}
-use Rattle.ground.specs.Quantify.{allTo, countTo}
-use Rattle.ground.specs.Lists.{nth, put}
-use Rattle.votes.specs.VoteSets.{single, join, complete, unanimous, joinAll}
-use Rattle.model.specs.Ranges.{sizesInRange, isController, positionInRange}
-use Rattle.model.specs.Routes.{voteRoute, ackRoute, route, recipients}
 use Rattle.model.specs.declared.Event.{Event}
 use Rattle.model.specs.declared.Event.the-variants.{Lock, Order, Stop, Save, Restore}
-use Rattle.protocol.specs.Controllers.{cleared, advance, learn, aim, keepAck, freeze, conclude}
-use Rattle.protocol.specs.Rules.{passedOver, becomes, verdict, voteRule, voteArrives, countOwn, firstTimeout, ackJoin, backupsComplete, secondKnows, decides, sufficient, proposeIfSufficient, helpVotes, frozen, ready, secondTimeout, ackArrives}
-use Rattle.protocol.specs.Calls.{validIdentity, vote, addressed, arrives, receive, timeout, renew, stop, checkpointOf, save, restore}
-use Rattle.protocol.specs.Counts.{countsAfter}
-use Rattle.protocol.specs.Benches.{unsentAll, fresh, freshStation, benchOf, newBench, station, sentAfter}
-use Rattle.protocol.specs.Questions.{unless, firstNo, reply}
-use Rattle.protocol.specs.Steps.{renewed, orderOpened, proposedTo, stationAfter, answering, keeping, restoreFrom, answerTo, effect, perform, step, run}
+use Rattle.protocol.specs.Benches.{newBench}
+use Rattle.protocol.specs.Steps.{run}
+use Rattle.protocol.specs.Computing.{wholeRun}
 use Rattle.protocol.specs.Rows.{answersTo}
 use Rattle.protocol.specs.Trials.{listing}
-use Rattle.protocol.specs.Display.{sumTo, sentCount, telegrams}
 use Rattle.text.specs.Text.{digits, decimal, signed, lines}
 use Rattle.bench_report.specs.Lines.{reportOf}
 use Rattle.bench_report.specs.Listing.{page}
@@ -56,5 +45,5 @@ examples = record {
 } ∷ []
 
 pub as-printed : map (λ (x : Example). reportOf (answersTo newBench (x .events)) (summaryOf (run newBench (x .events)))) examples ≡ map (λ (x : Example). page (x .output)) examples
-unfolding has insert fullTo collect allTo countTo single join complete unanimous nth put joinAll sizesInRange isController positionInRange voteRoute ackRoute route recipients cleared advance learn aim keepAck freeze conclude passedOver becomes verdict voteRule voteArrives countOwn firstTimeout ackJoin backupsComplete secondKnows decides sufficient proposeIfSufficient helpVotes frozen ready secondTimeout ackArrives validIdentity vote addressed arrives receive timeout renew stop checkpointOf save restore unsentAll fresh freshStation benchOf station sentAfter unless firstNo countsAfter reply renewed orderOpened proposedTo stationAfter answering keeping restoreFrom answerTo effect perform step run sumTo sentCount telegrams answersTo digits decimal signed lines reportOf summaryOf
+unfolding answersTo digits decimal signed lines reportOf summaryOf wholeRun
 as-printed = refl

@@ -13,6 +13,8 @@ pub mod Questions
 pub mod Steps
 -- "The bench program": what is shown
 pub mod Display
+-- what a closed run goes through
+pub mod Computing
 -- "The words of demand 3"; the telegrams of a clean order; that neither is empty
 pub mod Claim
 pub mod CleanOrders

@@ -6,26 +6,16 @@ use mathlib.Core.List.{List, [], _∷_}
 use lib.Dec.{eqb, leb}
 use borrow.Author.Tests.{leb-true, eqb-true}
 use Rattle.ground.specs.Tests.{no-both, refuted, and-l, and-r, eqb-same}
-use Rattle.ground.specs.Quantify.{allTo, countTo}
-use Rattle.ground.specs.Mask.{has, insert, fullTo, collect}
-use Rattle.ground.specs.Lists.{nth, put}
-use Rattle.votes.specs.VoteSets.{single, join, complete, unanimous, joinAll}
-use Rattle.model.specs.Ranges.{sizesInRange, isController, positionInRange}
-use Rattle.model.specs.Routes.{voteRoute, ackRoute, helpRoute, route, recipients}
-use Rattle.model.specs.Questions.{unless, firstNo}
 use Rattle.model.specs.Numbers.{isNone}
 use Rattle.model.specs.declared.Outcome.{Outcome}
 use Rattle.model.specs.declared.Outcome.the-variants.{None, Stay, Move}
 use Rattle.model.specs.declared.Event.{Event}
 use Rattle.protocol.specs.declared.Bench.{Bench}
-use Rattle.protocol.specs.Controllers.{runs, cleared, advance, learn, aim, keepAck, keepHelped, freeze, addCaller, await, propose, conclude}
-use Rattle.protocol.specs.Rules.{passedOver, becomes, proposing, verdict, voteRule, voteArrives, countOwn, firstTimeout, ackJoin, backupsComplete, secondKnows, decides, sufficient, answersJoin, proposeIfSufficient, helpVotes, frozen, ready, callsHelp, secondTimeout, ackArrives, helpedArrives, keepsCall, answersCall, helpArrives}
-use Rattle.protocol.specs.Calls.{validIdentity, vote, addressed, arrives, receive, timeout, awaitsDecision, decide, stop, renew}
-use Rattle.protocol.specs.Counts.{countsAfter}
-use Rattle.protocol.specs.Benches.{unsentAll, fresh, freshStation, benchOf, newBench, station, controller, sentAfter}
-use Rattle.protocol.specs.Questions.{reply}
-use Rattle.protocol.specs.Steps.{renewed, orderOpened, proposedTo, decidedAs, stationAfter, answering, answerTo, effect, perform, step, run}
+use Rattle.protocol.specs.Controllers.{runs}
+use Rattle.protocol.specs.Benches.{newBench, controller}
+use Rattle.protocol.specs.Steps.{run}
 use Rattle.protocol.specs.Display.{shownOutcome}
+use Rattle.protocol.specs.Computing.{wholeRun}
 use Rattle.protocol.specs.Claim.{after}
 use Rattle.protocol.specs.Termination.{Premise, few-down, at-stage-3, delivered, answered, Lacking, Needed, AllNeeded, lackings}
 use Rattle.protocol.proofs.clean.Log.{entered}
@@ -51,7 +41,7 @@ allShown [] = true
 allShown (r ∷ rs) = shown r (run newBench (r .events)) (logOf newBench [] (r .events)) && allShown rs
 
 computed : allShown lackings ≡ true
-unfolding allShown shown lackings passes implies anyIn logOf push entered run step perform effect answerTo answering stationAfter decidedAs proposedTo orderOpened renewed countsAfter reply sentAfter station benchOf freshStation fresh unsentAll renew stop decide awaitsDecision timeout receive arrives addressed vote validIdentity helpArrives keepsCall answersCall helpedArrives ackArrives secondTimeout callsHelp ready frozen helpVotes proposeIfSufficient answersJoin sufficient decides secondKnows backupsComplete ackJoin firstTimeout countOwn voteArrives voteRule verdict proposing becomes passedOver conclude propose await addCaller freeze keepHelped keepAck aim learn advance cleared firstNo unless recipients route helpRoute ackRoute voteRoute positionInRange isController sizesInRange joinAll put nth unanimous complete join single collect fullTo insert has countTo allTo
+unfolding allShown shown lackings passes implies anyIn logOf push entered wholeRun
 computed = refl
 
 -- what the tests say

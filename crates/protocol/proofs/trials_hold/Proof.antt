@@ -1,21 +1,7 @@
 -- `protocol::trials_hold` meets its contract: every definition that a run goes through is opened, and both sides compute to the same. Assumes nothing.
 use mathlib.Core.Path.{refl}
-use Rattle.ground.specs.Quantify.{allTo, countTo}
-use Rattle.ground.specs.Mask.{has, insert, fullTo, collect}
-use Rattle.ground.specs.Lists.{nth, put}
-use Rattle.votes.specs.VoteSets.{single, join, complete, unanimous, joinAll}
-use Rattle.model.specs.Ranges.{sizesInRange, isController, positionInRange}
-use Rattle.model.specs.Routes.{voteRoute, ackRoute, helpRoute, route, recipients}
-use Rattle.model.specs.Questions.{unless, firstNo}
-use Rattle.protocol.specs.Controllers.{cleared, advance, learn, aim, keepAck, keepHelped, freeze, addCaller, await, propose, conclude}
-use Rattle.protocol.specs.Rules.{passedOver, becomes, proposing, verdict, voteRule, voteArrives, countOwn, firstTimeout, ackJoin, backupsComplete, secondKnows, decides, sufficient, answersJoin, proposeIfSufficient, helpVotes, frozen, ready, callsHelp, secondTimeout, ackArrives, helpedArrives, keepsCall, answersCall, helpArrives}
-use Rattle.protocol.specs.Calls.{validIdentity, vote, addressed, arrives, receive, timeout, awaitsDecision, decide, stop, checkpointOf, save, restore, renew}
+use Rattle.protocol.specs.Computing.{wholeRun}
 use Rattle.protocol.specs.Sequence.{members, messagesOfKind, messagesOf}
-use Rattle.protocol.specs.Counts.{countsAfter}
-use Rattle.protocol.specs.Benches.{unsentAll, fresh, freshStation, benchOf, station, sentAfter}
-use Rattle.protocol.specs.Questions.{reply}
-use Rattle.protocol.specs.Steps.{renewed, orderOpened, proposedTo, decidedAs, stationAfter, answering, keeping, restoreFrom, answerTo, effect, perform, step, run}
-use Rattle.protocol.specs.Display.{sumTo, sentCount, telegrams}
 use Rattle.protocol.specs.CleanOrders.{casts, timeouts, deliveriesOf, deliveries, allVoted, allAcked, allEnded, cleanOrder}
 use Rattle.protocol.specs.Rows.{answersTo, openAfter, each, same, shows, passes, sendsAs}
 use Rattle.protocol.specs.Trials.{table, sequences, allPass, TrialsHold}
@@ -23,7 +9,7 @@ use Rattle.protocol.proofs.trials_hold.Statement.{statement}
 use Rattle.protocol.proofs.trials_hold.Tie as tie
 
 trials : TrialsHold
-unfolding allPass table sequences cleanOrder allEnded allAcked allVoted deliveries deliveriesOf timeouts casts passes sendsAs messagesOf messagesOfKind members shows same each answersTo openAfter run step perform effect answerTo answering stationAfter restoreFrom keeping decidedAs proposedTo orderOpened renewed countsAfter reply telegrams sentCount sumTo sentAfter station benchOf freshStation fresh unsentAll renew restore save checkpointOf stop decide awaitsDecision timeout receive arrives addressed vote validIdentity helpArrives keepsCall answersCall helpedArrives ackArrives secondTimeout callsHelp ready frozen helpVotes proposeIfSufficient answersJoin sufficient decides secondKnows backupsComplete ackJoin firstTimeout countOwn voteArrives voteRule verdict proposing becomes passedOver conclude propose await addCaller freeze keepHelped keepAck aim learn advance cleared firstNo unless recipients route helpRoute ackRoute voteRoute positionInRange isController sizesInRange joinAll put nth unanimous complete join single collect fullTo insert has countTo allTo
+unfolding allPass table sequences cleanOrder allEnded allAcked allVoted deliveries deliveriesOf timeouts casts passes sendsAs messagesOf messagesOfKind members shows same each answersTo openAfter wholeRun
 trials = refl
 
 returns : tie.Need-returns
