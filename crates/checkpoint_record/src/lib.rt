@@ -1,10 +1,11 @@
 // Checkpoint records, the cards of document 01: their reader and writer.
 use model::Checkpoint;
+use records::frame_question;
 use records::is_outcome;
 use records::low_byte;
-use records::number2;
 use records::number4;
 use records::outcome_of;
+use records::write_record;
 ghost use mathlib.Core.Path.{_≡_};
 ghost use lib.ListN.{length};
 ghost use Rattle.model.specs.Questions.{firstNo, number};
@@ -28,8 +29,8 @@ fn checkpoint_in(s: &[u8]) -> Checkpoint
         n: s[3],
         f: s[4],
         outcome: outcome_of(s[5]),
-        order: number4(s[6], s[7], s[8], s[9]),
-        position: number4(s[10], s[11], s[12], s[13]),
+        order: number4(s, 6),
+        position: number4(s, 10),
     }
 }
 
@@ -56,19 +57,17 @@ fn question(p: Checkpoint) -> u8
 pub fn read_checkpoint(s: &[u8]) -> ReadCheckpoint
     ensures { λ r. ⌜ r ≡ reads checkpoints (now (s .entry)) ⌝ }
 {
-    if s.len() != Checkpoint::LENGTH {
-        return ReadCheckpoint::Refused(1);
-    }
-    if number2(s[0], s[1]) != Checkpoint::MARK {
-        return ReadCheckpoint::Refused(2);
+    let no = frame_question(s, Checkpoint::LENGTH, Checkpoint::MARK);
+    if no != 0 {
+        return ReadCheckpoint::Refused(no);
     }
     if !is_outcome(s[5]) {
         return ReadCheckpoint::Refused(3);
     }
     let p = checkpoint_in(s);
-    let q = question(p);
-    if q != 0 {
-        return ReadCheckpoint::Refused(q);
+    let no = question(p);
+    if no != 0 {
+        return ReadCheckpoint::Refused(no);
     }
     ReadCheckpoint::Read(p)
 }
@@ -100,16 +99,8 @@ fn checkpoint_bytes(p: Checkpoint) -> [u8; 14]
 pub fn write_checkpoint(out: &mut [u8], p: Checkpoint) -> u8
     ensures { λ r. ⌜ (r ≡ number (writeReply checkpoints (now (out .entry)) p)) × (now (out .exit) ≡ writes checkpoints (now (out .entry)) p) ⌝ }
 {
-    if out.len() != Checkpoint::LENGTH {
-        return 1;
-    }
-    let no = question(p);
-    if no != 0 {
-        return no;
-    }
-    let record = checkpoint_bytes(p);
-    bytes::copy(&record, out);
-    0
+    let content = checkpoint_bytes(p);
+    write_record(out, &content, question(p))
 }
 
 // Document 01's number for a reader's answer: 0 for a record.

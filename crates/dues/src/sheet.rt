@@ -26,7 +26,7 @@ fn lockage_at(s: &[u8], at: usize) -> Lockage
     ensures { λ r. ⌜ r ≡ lockageAt (now (s .entry)) at ⌝ }
 {
     Lockage {
-        length: number2(s[at], s[at + 1]),
+        length: number2(s, at),
         outcome: s[at + 2],
         returned: s[at + 3],
     }

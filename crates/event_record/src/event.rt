@@ -6,10 +6,11 @@ use model::Event;
 use model::kind_number;
 use records::flag_number;
 use records::flag_of;
+use records::frame_question;
 use records::kind_of;
 use records::low_byte;
-use records::number2;
 use records::number4;
+use records::write_record;
 ghost use mathlib.Core.Path.{_≡_};
 ghost use lib.ListN.{length};
 ghost use Rattle.model.specs.Questions.{number};
@@ -27,7 +28,7 @@ fn fields_in(s: &[u8]) -> Fields
         a: s[3],
         b: s[4],
         c: s[5],
-        value: number4(s[6], s[7], s[8], s[9]),
+        value: number4(s, 6),
     }
 }
 
@@ -65,11 +66,9 @@ fn event_of(x: Fields) -> Event
 pub fn read_event(s: &[u8]) -> ReadEvent
     ensures { λ r. ⌜ r ≡ readEvent (now (s .entry)) ⌝ }
 {
-    if s.len() != Event::LENGTH {
-        return ReadEvent::Refused(1);
-    }
-    if number2(s[0], s[1]) != Event::MARK {
-        return ReadEvent::Refused(2);
+    let no = frame_question(s, Event::LENGTH, Event::MARK);
+    if no != 0 {
+        return ReadEvent::Refused(no);
     }
     let x = fields_in(s);
     if !listed(x) {
@@ -167,16 +166,12 @@ fn event_bytes(e: Event) -> [u8; 10]
     ]
 }
 
-// Answers 0, or the number of the first question that was answered "no"; then the buffer is untouched.
+// Answers 0, or 1 for a buffer of another length, which is then untouched: there is nothing to ask of an event.
 pub fn write_event(out: &mut [u8], e: Event) -> u8
     ensures { λ r. ⌜ (r ≡ number (writeReply events (now (out .entry)) e)) × (now (out .exit) ≡ writes events (now (out .entry)) e) ⌝ }
 {
-    if out.len() != Event::LENGTH {
-        return 1;
-    }
-    let record = event_bytes(e);
-    bytes::copy(&record, out);
-    0
+    let content = event_bytes(e);
+    write_record(out, &content, 0)
 }
 
 // Document 01's number for a reader's answer: 0 for a record.

@@ -37,8 +37,8 @@ pub fn render(input: &[u8], out: &mut [u8]) -> usize
     if input.len() != 8 {
         return write_refusal(&mut *out, 1);
     }
-    let count = number2(input[2], input[3]);
-    let start = number4(input[4], input[5], input[6], input[7]);
+    let count = number2(input, 2);
+    let start = number4(input, 4);
     write_for(&mut *out, input[0], input[1], count, start)
 }
 

@@ -3,7 +3,6 @@ ghost use mathlib.Core.Path.{_≡_};
 ghost use Prim.Native.Nat.{_+_, _≤_};
 ghost use lib.ListN.{length};
 ghost use Rattle.text.specs.Writing.{fitted, fittedLength, Rendered};
-ghost use Rattle.records.specs.Bytes.{number4};
 ghost use Rattle.levels_text.specs.Output.{rangeAt, words, willingnessIn, outputOf};
 use levels::Range;
 use levels::Willingness;
@@ -15,22 +14,14 @@ use text::write_refusal;
 // No output is longer.
 pub const ROOM: usize = 20;
 
-// The level in the four bytes from a place on.
-fn level_at(s: &[u8], at: usize) -> u32
-    requires { ⌜ at + 4 ≤ length (now s) ⌝ }
-    ensures { λ r. ⌜ r ≡ number4 (now (s .entry)) at ⌝ }
-{
-    number4(s[at], s[at + 1], s[at + 2], s[at + 3])
-}
-
 // The range whose low and high level stand there.
 fn range_at(s: &[u8], at: usize) -> Range
     requires { ⌜ at + 8 ≤ length (now s) ⌝ }
     ensures { λ r. ⌜ r ≡ rangeAt (now (s .entry)) at ⌝ }
 {
     Range {
-        low: level_at(s, at),
-        high: level_at(s, at + 4),
+        low: number4(s, at),
+        high: number4(s, at + 4),
     }
 }
 

@@ -3,11 +3,13 @@ mod questions;
 
 use model::Message;
 use questions::question;
+use records::frame_question;
 use records::is_kind;
 use records::kind_of;
 use records::low_byte;
 use records::number2;
 use records::number4;
+use records::write_record;
 use votes::VoteSet;
 ghost use mathlib.Core.Path.{_≡_};
 ghost use lib.ListN.{length};
@@ -28,8 +30,8 @@ fn message_in(s: &[u8]) -> Message
     ensures { λ r. ⌜ r ≡ valueOn messages (now (s .entry)) ⌝ }
 {
     let votes = VoteSet {
-        known: number2(s[12], s[13]),
-        willing: number2(s[14], s[15]),
+        known: number2(s, 12),
+        willing: number2(s, 14),
     };
     Message {
         kind: kind_of(s[2]),
@@ -37,7 +39,7 @@ fn message_in(s: &[u8]) -> Message
         f: s[4],
         from: s[5],
         to: s[6],
-        order: number4(s[8], s[9], s[10], s[11]),
+        order: number4(s, 8),
         votes,
     }
 }
@@ -46,11 +48,9 @@ fn message_in(s: &[u8]) -> Message
 pub fn read_message(s: &[u8]) -> ReadMessage
     ensures { λ r. ⌜ r ≡ reads messages (now (s .entry)) ⌝ }
 {
-    if s.len() != Message::LENGTH {
-        return ReadMessage::Refused(1);
-    }
-    if number2(s[0], s[1]) != Message::MARK {
-        return ReadMessage::Refused(2);
+    let no = frame_question(s, Message::LENGTH, Message::MARK);
+    if no != 0 {
+        return ReadMessage::Refused(no);
     }
     if !is_kind(s[2]) {
         return ReadMessage::Refused(3);
@@ -59,9 +59,9 @@ pub fn read_message(s: &[u8]) -> ReadMessage
         return ReadMessage::Refused(3);
     }
     let m = message_in(s);
-    let q = question(m);
-    if q != 0 {
-        return ReadMessage::Refused(q);
+    let no = question(m);
+    if no != 0 {
+        return ReadMessage::Refused(no);
     }
     ReadMessage::Read(m)
 }
@@ -96,16 +96,8 @@ fn message_bytes(m: Message) -> [u8; 16]
 pub fn write_message(out: &mut [u8], m: Message) -> u8
     ensures { λ r. ⌜ (r ≡ number (writeReply messages (now (out .entry)) m)) × (now (out .exit) ≡ writes messages (now (out .entry)) m) ⌝ }
 {
-    if out.len() != Message::LENGTH {
-        return 1;
-    }
-    let no = question(m);
-    if no != 0 {
-        return no;
-    }
-    let record = message_bytes(m);
-    bytes::copy(&record, out);
-    0
+    let content = message_bytes(m);
+    write_record(out, &content, question(m))
 }
 
 // Document 01's number for a reader's answer: 0 for a record.

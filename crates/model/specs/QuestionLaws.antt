@@ -2,7 +2,7 @@
 use Prim.Native.Nat.{ℕ, zero, suc}
 use mathlib.Core.Path.{_≡_, refl, sym, _∙_, ap}
 use mathlib.Core.Bool.{Bool, true, _&&_}
-use mathlib.Core.List.{List, [], _∷_}
+use mathlib.Core.List.{List, [], _∷_, _++_}
 use native.Mathlib.Omega.{arith}
 use lib.Dec.{ltb}
 use mathlib.Core.Logic.{inl, inr}
@@ -29,6 +29,20 @@ pub yes-all : (qs : List Question) → AllYes qs → firstNo qs ≡ accepted
 unfolding firstNo unless
 yes-all [] a = refl
 yes-all (q ∷ qs) a = rw (a .0) (yes-all qs (a .1))
+
+-- questions after others: where those are all answered "yes" these give the reply, else the others do
+pub first-accepted : (qs rs : List Question) → firstNo qs ≡ accepted → firstNo (qs ++ rs) ≡ firstNo rs
+unfolding firstNo unless
+first-accepted [] rs e = refl
+first-accepted (q ∷ qs) rs e = let y = all-yes (q ∷ qs) e in rw (y .0) (first-accepted qs rs (yes-all qs (y .1)))
+
+pub first-refused : (qs rs : List Question) (k : ℕ) → firstNo qs ≡ refused k → firstNo (qs ++ rs) ≡ refused k
+unfolding firstNo unless
+first-refused [] rs k e = never k (sym e)
+first-refused (q ∷ qs) rs k e = elim (split (q .yes)) [
+  | inl y ↦ rw y (first-refused qs rs k (rw y at e))
+  | inr y ↦ rw y (rw y at e)
+]
 
 -- no question has the number 0, which means accepted
 abbrev pub numbered : List Question → Bool

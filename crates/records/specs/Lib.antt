@@ -6,3 +6,5 @@ pub mod Rows
 pub mod Codec
 pub mod Promises
 pub mod CodecLaws
+pub mod Frames
+pub mod FrameLaws

@@ -1,6 +1,8 @@
 // Big-endian numbers and their bytes.
 ghost use mathlib.Core.Path.{_≡_};
-ghost use Prim.Native.Nat.{_+_, _*_, _%_, _<_};
+ghost use Prim.Native.Nat.{_+_, _*_, _%_, _<_, _≤_};
+ghost use lib.ListN.{length};
+ghost use Rattle.records.specs.Bytes.{number2, number4};
 
 fn widened(x: u8) -> u32
     ensures { λ r. ⌜ (r ≡ x) × (r < 256) ⌝ }
@@ -8,17 +10,33 @@ fn widened(x: u8) -> u32
     x as u32
 }
 
-// The number that two bytes stand for, the first the highest; and that four do.
-pub fn number2(a: u8, b: u8) -> u32
+// The number of two bytes, the first the higher; and of four.
+fn of_two(a: u8, b: u8) -> u32
     ensures { λ r. ⌜ r ≡ a * 256 + b ⌝ }
 {
     widened(a) * 256 + widened(b)
 }
 
-pub fn number4(a: u8, b: u8, c: u8, d: u8) -> u32
+fn of_four(a: u8, b: u8, c: u8, d: u8) -> u32
     ensures { λ r. ⌜ r ≡ (a * 256 + b) * 65536 + (c * 256 + d) ⌝ }
 {
-    number2(a, b) * 65536 + number2(c, d)
+    of_two(a, b) * 65536 + of_two(c, d)
+}
+
+// The number that the two bytes from a place on stand for; and the four.
+pub fn number2(s: &[u8], at: usize) -> u32
+    requires { ⌜ at + 2 ≤ length (now s) ⌝ }
+    ensures { λ r. ⌜ r ≡ number2 (now (s .entry)) at ⌝ }
+{
+    of_two(s[at], s[at + 1])
+}
+
+pub fn number4(s: &[u8], at: usize) -> u32
+    requires { ⌜ at + 4 ≤ length (now s) ⌝ }
+    ensures { λ r. ⌜ r ≡ number4 (now (s .entry)) at ⌝ }
+{
+    let low = at + 2;
+    of_four(s[at], s[at + 1], s[low], s[low + 1])
 }
 
 // The lowest byte.

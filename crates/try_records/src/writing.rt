@@ -10,7 +10,6 @@ use model::Message;
 use records::number4;
 use votes::VoteSet;
 ghost use mathlib.Core.Path.{_≡_};
-ghost use Prim.Native.Nat.{_+_, _≤_};
 ghost use lib.ListN.{length};
 
 // A frame whose kind, outcome or fields are no listed values: there is nothing to write.
@@ -28,13 +27,6 @@ fn written(q: u8, out: &[u8]) -> Line {
     line
 }
 
-// The number in the four bytes from a place on.
-fn word(x: &[u8], at: usize) -> u32
-    requires { ⌜ at + 4 ≤ length (now x) ⌝ }
-{
-    number4(x[at], x[at + 1], x[at + 2], x[at + 3])
-}
-
 fn message_line(x: &[u8], out: &mut [u8]) -> Line
     requires { ⌜ length (now x) ≡ 38 ⌝ }
 {
@@ -42,8 +34,8 @@ fn message_line(x: &[u8], out: &mut [u8]) -> Line
         return unlisted();
     }
     let votes = VoteSet {
-        known: word(x, 9),
-        willing: word(x, 13),
+        known: number4(x, 9),
+        willing: number4(x, 13),
     };
     let m = Message {
         kind: records::kind_of(x[0]),
@@ -51,7 +43,7 @@ fn message_line(x: &[u8], out: &mut [u8]) -> Line
         f: x[2],
         from: x[3],
         to: x[4],
-        order: word(x, 5),
+        order: number4(x, 5),
         votes,
     };
     let q = message_record::write_message(out, m);
@@ -69,8 +61,8 @@ fn checkpoint_line(x: &[u8], out: &mut [u8]) -> Line
         n: x[1],
         f: x[2],
         outcome: records::outcome_of(x[3]),
-        order: word(x, 4),
-        position: word(x, 8),
+        order: number4(x, 4),
+        position: number4(x, 8),
     };
     let q = checkpoint_record::write_checkpoint(out, p);
     written(q, out)

@@ -18,38 +18,14 @@ shared-slice-read-outcome-of c = search needs
 outcome-of-requires : tie.Need-outcome-of-requires
 outcome-of-requires c κs = search needs
 
-shared-slice-read-number4 : tie.Need-shared-slice-read-number4
-shared-slice-read-number4 c = search needs
-
-shared-slice-read-number4-2 : tie.Need-shared-slice-read-number4-2
-shared-slice-read-number4-2 c = search needs
-
-shared-slice-read-number4-3 : tie.Need-shared-slice-read-number4-3
-shared-slice-read-number4-3 c = search needs
-
-shared-slice-read-number4-4 : tie.Need-shared-slice-read-number4-4
-shared-slice-read-number4-4 c = search needs
-
 number4-requires : tie.Need-number4-requires
 number4-requires c κs = search needs
-
-shared-slice-read-number4-5 : tie.Need-shared-slice-read-number4-5
-shared-slice-read-number4-5 c = search needs
-
-shared-slice-read-number4-6 : tie.Need-shared-slice-read-number4-6
-shared-slice-read-number4-6 c = search needs
-
-shared-slice-read-number4-7 : tie.Need-shared-slice-read-number4-7
-shared-slice-read-number4-7 c = search needs
-
-shared-slice-read-number4-8 : tie.Need-shared-slice-read-number4-8
-shared-slice-read-number4-8 c = search needs
 
 number4-requires-2 : tie.Need-number4-requires-2
 number4-requires-2 c κs = search needs
 
 returns : tie.Need-returns
-returns c = rw (c .before .before .before .before .before .before .before .before .before .before .outcome-of .ensures, c .before .before .before .before .before .number4 .ensures, c .number42 .ensures)
+returns c = rw (c .before .before .outcome-of .ensures, c .before .number4 .ensures, c .number42 .ensures)
 
 pub checkpoint-in-spec : {M : Type 1} → statement M
 checkpoint-in-spec =
@@ -60,14 +36,6 @@ checkpoint-in-spec =
     shared-slice-read-t7
     shared-slice-read-outcome-of
     outcome-of-requires
-    shared-slice-read-number4
-    shared-slice-read-number4-2
-    shared-slice-read-number4-3
-    shared-slice-read-number4-4
     number4-requires
-    shared-slice-read-number4-5
-    shared-slice-read-number4-6
-    shared-slice-read-number4-7
-    shared-slice-read-number4-8
     number4-requires-2
     returns)

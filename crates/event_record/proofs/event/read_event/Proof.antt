@@ -1,60 +1,56 @@
-use borrow.Author.Tests.{eq-eqb, ne-eqb, not-true, not-false}
-use borrow.Author.Needs.{needs}
-use mathlib.Core.Path.{ap}
-use Rattle.event_record.specs.Events.{rowFor}
+-- `read_event` meets its contract: each way out is one of the description (FrameLaws).
+use borrow.Author.Tests.{not-true, not-false}
+use mathlib.Core.Path.{refl, sym, _∙_, ap}
+use Rattle.model.specs.Questions.{firstNo}
+use Rattle.records.specs.FrameLaws.{frame-refused, frame-length, unlisted, questions-passed}
 use Rattle.event_record.specs.declared.Fields.{Fields}
-use Rattle.event_record.specs.declared.ReadEvent.the-variants.{Read}
-use Rattle.records.specs.Codec.{reads}
-use Rattle.model.specs.Questions.{firstNo, unless}
+use Rattle.event_record.specs.Events.{rowFor, events}
+use borrow.Author.Needs.{needs}
 use Rattle.event_record.proofs.event.read_event.Statement.{statement}
 use Rattle.event_record.proofs.event.read_event.Tie as tie
 
+frame-question-requires : tie.Need-frame-question-requires
+frame-question-requires c κs = search needs
+
 returns : tie.Need-returns
-unfolding reads firstNo unless
-returns c = simp (ne-eqb _ _ (c .if1 .taken))
-
-shared-slice-read-number2 : tie.Need-shared-slice-read-number2
-shared-slice-read-number2 c = search needs
-
-shared-slice-read-number2-2 : tie.Need-shared-slice-read-number2-2
-shared-slice-read-number2-2 c = search needs
-
-number2-requires : tie.Need-number2-requires
-number2-requires c κs = search needs
-
-returns-2 : tie.Need-returns-2
-unfolding reads firstNo unless
-returns-2 c = simp (eq-eqb _ _ (c .before .before .before .before .if1 .left), ← c .before .number2 .ensures, ne-eqb _ _ (c .if2 .taken))
+returns c = frame-refused events 0x4C45 refl _ _ (c .before .frame-question .ensures) (c .if1 .taken)
 
 fields-in-requires : tie.Need-fields-in-requires
-fields-in-requires c κs = search needs
+fields-in-requires c κs =
+    let framed = c in
+    let s = framed .before .before .before .args .s .now in
+    frame-length events 0x4C45 refl s _ (framed .before .frame-question .ensures) (framed .if1 .left)
 
 listed-requires : tie.Need-listed-requires
 listed-requires c κs = search needs
 
-returns-3 : tie.Need-returns-3
-unfolding reads firstNo unless
-returns-3 c = simp (eq-eqb _ _ (c .before .before .before .before .before .before .before .if1 .left), ← c .before .before .before .before .number2 .ensures, eq-eqb _ _ (c .before .before .before .if2 .left), ← c .before .before .fields-in .ensures, ← c .before .listed .ensures, not-true (c .before .listed .result) (c .if3 .taken))
+returns-2 : tie.Need-returns-2
+returns-2 c =
+    let read = c .before .before in
+    let framed = read .before in
+    unlisted events 0x4C45 refl _ _ (framed .before .frame-question .ensures) (framed .if1 .left)
+    (ap (λ (x : Fields). rowFor x .listed) (sym (read .fields-in .ensures)) ∙ sym (c .before .listed .ensures) ∙ not-true (c .before .listed .result) (c .if2 .taken))
 
 event-of-requires : tie.Need-event-of-requires
 event-of-requires c κs = search needs
 
-returns-4 : tie.Need-returns-4
-unfolding reads firstNo unless
-returns-4 c = simp (eq-eqb _ _ (c .before .before .before .before .before .before .before .before .if1 .left), ← c .before .before .before .before .before .number2 .ensures, eq-eqb _ _ (c .before .before .before .before .if2 .left), ← c .before .before .before .fields-in .ensures, ← c .before .before .listed .ensures, not-false (c .before .before .listed .result) (c .before .if3 .left), c .event-of .ensures)
-    (ap (λ (x : Fields). Read (rowFor x .value)) (c .before .before .before .fields-in .ensures))
+returns-3 : tie.Need-returns-3
+unfolding firstNo
+returns-3 c =
+    let read = c .before .before .before in
+    let framed = read .before in
+    questions-passed events 0x4C45 refl _ _ (framed .before .frame-question .ensures) (framed .if1 .left)
+    (ap (λ (x : Fields). rowFor x .listed) (sym (read .fields-in .ensures)) ∙ sym (c .before .before .listed .ensures) ∙ not-false (c .before .before .listed .result) (c .before .if2 .left))
+    _ (c .event-of .ensures ∙ ap (λ (x : Fields). rowFor x .value) (read .fields-in .ensures)) 0 refl refl refl
 
 pub read-event-spec : {M : Type 1} → statement M
 read-event-spec =
     tie.close
     (tie.spec
+    frame-question-requires
     returns
-    shared-slice-read-number2
-    shared-slice-read-number2-2
-    number2-requires
-    returns-2
     fields-in-requires
     listed-requires
-    returns-3
+    returns-2
     event-of-requires
-    returns-4)
+    returns-3)
