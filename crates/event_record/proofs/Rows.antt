@@ -1,17 +1,20 @@
 -- The rows of the table of events, by the kind.
 use Prim.Native.Nat.{ℕ, zero, suc, _≤_, _<_}
-use mathlib.Core.Path.{_≡_, ap}
-use mathlib.Core.Bool.{false}
+use mathlib.Core.Path.{_≡_}
+use mathlib.Core.Bool.{Bool, false}
 use native.Mathlib.Omega.{arith}
 use borrow.Author.Tests.{ne-eqb}
+use Rattle.model.specs.declared.Event.{Event}
 use Rattle.model.specs.declared.Event.the-variants.{Lock}
 use Rattle.records.specs.Rows.{row, rowOf}
 use Rattle.event_record.specs.Events.{rows, rowFor}
 use Rattle.event_record.specs.declared.Fields.{Fields}
 
-pub row-at : (x : Fields) (k : ℕ) → x .kind ≡ k → rowFor x ≡ rowOf (Lock 0 0) k (rows x)
-unfolding rowFor
-row-at x k e = ap (λ (k : ℕ). rowOf (Lock 0 0) k (rows x)) e
+-- what code answers by the row of a kind, it answers by the table
+pub at-row : (x : Fields) (k : ℕ) → x .kind ≡ k → {listed : Bool} {event : Event}
+    → listed ≡ rowOf (Lock 0 0) k (rows x) .listed → event ≡ rowOf (Lock 0 0) k (rows x) .value → (listed ≡ rowFor x .listed) × (event ≡ rowFor x .value)
+unfolding rowFor rows
+at-row x k e l v = rw e (l, v)
 
 -- what a match knows after the arms 0 to m - 1
 abbrev pub NoneOf : ℕ → ℕ → Type 0

@@ -1,13 +1,11 @@
 // Event records: their reader and writer.
 use crate::Fields;
 use crate::ReadEvent;
-use crate::listed::listed;
+use crate::kinds::row_for;
 use model::Event;
 use model::kind_number;
 use records::flag_number;
-use records::flag_of;
 use records::frame_question;
-use records::kind_of;
 use records::low_byte;
 use records::number4;
 use records::write_record;
@@ -16,7 +14,7 @@ ghost use lib.ListN.{length};
 ghost use Rattle.model.specs.Questions.{number};
 ghost use Rattle.records.specs.Codec.{fieldsOn, writeReply, writes};
 ghost use Rattle.records.specs.Promises.{Promises};
-ghost use Rattle.event_record.specs.Events.{answerOf, fieldsIn, fieldsOf, rowFor, events, eventLength, readEvent, eventBytes};
+ghost use Rattle.event_record.specs.Events.{answerOf, fieldsIn, fieldsOf, events, eventLength, readEvent, eventBytes};
 
 // The fields as they stand on the record.
 fn fields_in(s: &[u8]) -> Fields
@@ -32,36 +30,6 @@ fn fields_in(s: &[u8]) -> Fields
     }
 }
 
-// The event that the fields stand for.
-fn event_of(x: Fields) -> Event
-    ensures { λ r. ⌜ r ≡ rowFor x .value ⌝ }
-{
-    let kind = x.kind;
-    match kind {
-        0 => Event::Lock { n: x.a, f: x.b },
-        1 => Event::Order { number: x.value },
-        2 => Event::Cast {
-            id: x.a,
-            willing: flag_of(x.b),
-            target: x.value,
-        },
-        3 => Event::Deliver {
-            from: x.a,
-            to: x.b,
-            kind: kind_of(x.c),
-        },
-        4 => Event::Timeout { id: x.a },
-        5 => Event::Decide {
-            id: x.a,
-            to_move: flag_of(x.b),
-        },
-        6 => Event::Stop { id: x.a },
-        7 => Event::Save { id: x.a },
-        8 => Event::Restore { id: x.a },
-        _ => Event::Lock { n: 0, f: 0 },
-    }
-}
-
 // The questions of reading, in their sequence: 1, 2 and 3.
 pub fn read_event(s: &[u8]) -> ReadEvent
     ensures { λ r. ⌜ r ≡ readEvent (now (s .entry)) ⌝ }
@@ -70,11 +38,11 @@ pub fn read_event(s: &[u8]) -> ReadEvent
     if no != 0 {
         return ReadEvent::Refused(no);
     }
-    let x = fields_in(s);
-    if !listed(x) {
+    let row = row_for(fields_in(s));
+    if !row.listed {
         return ReadEvent::Refused(3);
     }
-    let e = event_of(x);
+    let e = row.event;
     ReadEvent::Read(e)
 }
 

@@ -1,6 +1,6 @@
 // Event records: their reader and writer.
 mod event;
-mod listed;
+mod kinds;
 
 pub use event::answer_of;
 pub use event::fields_of;

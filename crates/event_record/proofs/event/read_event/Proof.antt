@@ -16,32 +16,26 @@ returns : tie.Need-returns
 returns c = frame-refused events 0x4C45 refl _ _ (c .before .frame-question .ensures) (c .if1 .taken)
 
 fields-in-requires : tie.Need-fields-in-requires
-fields-in-requires c κs =
-    let framed = c in
-    let s = framed .before .before .before .args .s .now in
-    frame-length events 0x4C45 refl s _ (framed .before .frame-question .ensures) (framed .if1 .left)
+fields-in-requires c κs = frame-length events 0x4C45 refl (c .before .before .before .args .s .now) _ (c .before .frame-question .ensures) (c .if1 .left)
 
-listed-requires : tie.Need-listed-requires
-listed-requires c κs = search needs
+row-for-requires : tie.Need-row-for-requires
+row-for-requires c κs = search needs
 
 returns-2 : tie.Need-returns-2
 returns-2 c =
-    let read = c .before .before in
-    let framed = read .before in
+    let row = c .before .before in
+    let framed = row .before .before in
     unlisted events 0x4C45 refl _ _ (framed .before .frame-question .ensures) (framed .if1 .left)
-    (ap (λ (x : Fields). rowFor x .listed) (sym (read .fields-in .ensures)) ∙ sym (c .before .listed .ensures) ∙ not-true (c .before .listed .result) (c .if2 .taken))
-
-event-of-requires : tie.Need-event-of-requires
-event-of-requires c κs = search needs
+    (ap (λ (x : Fields). rowFor x .listed) (sym (row .before .fields-in .ensures)) ∙ sym (row .row-for .ensures .0) ∙ not-true (row .row-for .result .listed) (c .if2 .taken))
 
 returns-3 : tie.Need-returns-3
 unfolding firstNo
 returns-3 c =
-    let read = c .before .before .before in
-    let framed = read .before in
+    let row = c .before .before in
+    let framed = row .before .before in
     questions-passed events 0x4C45 refl _ _ (framed .before .frame-question .ensures) (framed .if1 .left)
-    (ap (λ (x : Fields). rowFor x .listed) (sym (read .fields-in .ensures)) ∙ sym (c .before .before .listed .ensures) ∙ not-false (c .before .before .listed .result) (c .before .if2 .left))
-    _ (c .event-of .ensures ∙ ap (λ (x : Fields). rowFor x .value) (read .fields-in .ensures)) 0 refl refl refl
+    (ap (λ (x : Fields). rowFor x .listed) (sym (row .before .fields-in .ensures)) ∙ sym (row .row-for .ensures .0) ∙ not-false (row .row-for .result .listed) (c .if2 .left))
+    _ (row .row-for .ensures .1 ∙ ap (λ (x : Fields). rowFor x .value) (row .before .fields-in .ensures)) 0 refl refl refl
 
 pub read-event-spec : {M : Type 1} → statement M
 read-event-spec =
@@ -50,7 +44,6 @@ read-event-spec =
     frame-question-requires
     returns
     fields-in-requires
-    listed-requires
+    row-for-requires
     returns-2
-    event-of-requires
     returns-3)

@@ -1,6 +1,6 @@
 use borrow.Author.Needs.{needs}
-use Rattle.event_record.proofs.listed.delivery_listed.Statement.{statement}
-use Rattle.event_record.proofs.listed.delivery_listed.Tie as tie
+use Rattle.event_record.proofs.kinds.delivery_listed.Statement.{statement}
+use Rattle.event_record.proofs.kinds.delivery_listed.Tie as tie
 
 is-kind-requires : tie.Need-is-kind-requires
 is-kind-requires c κs = search needs

@@ -1,10 +1,11 @@
--- `listed` meets its contract: each arm of the match is its row of the table of kinds, and what is left is no row.
-use borrow.Author.Needs.{needs}
+-- `row_for` meets its contract: each arm of the match is its row of the table of kinds (`at-row`), and what is left is no row.
+use mathlib.Core.Path.{refl}
 use Rattle.records.specs.Rows.{rowOf}
 use Rattle.event_record.specs.Events.{rows}
-use Rattle.event_record.proofs.Rows.{row-at, no-row, above}
-use Rattle.event_record.proofs.listed.listed.Statement.{statement}
-use Rattle.event_record.proofs.listed.listed.Tie as tie
+use Rattle.event_record.proofs.Rows.{at-row, no-row, above}
+use borrow.Author.Needs.{needs}
+use Rattle.event_record.proofs.kinds.row_for.Statement.{statement}
+use Rattle.event_record.proofs.kinds.row_for.Tie as tie
 
 lock-listed-requires : tie.Need-lock-listed-requires
 lock-listed-requires c κs = search needs
@@ -15,14 +16,23 @@ order-listed-requires c κs = search needs
 vote-listed-requires : tie.Need-vote-listed-requires
 vote-listed-requires c κs = search needs
 
+flag-of-requires : tie.Need-flag-of-requires
+flag-of-requires c κs = search needs
+
 delivery-listed-requires : tie.Need-delivery-listed-requires
 delivery-listed-requires c κs = search needs
+
+kind-of-requires : tie.Need-kind-of-requires
+kind-of-requires c κs = search needs
 
 other-listed-requires : tie.Need-other-listed-requires
 other-listed-requires c κs = search needs
 
 decision-listed-requires : tie.Need-decision-listed-requires
 decision-listed-requires c κs = search needs
+
+flag-of-requires-2 : tie.Need-flag-of-requires-2
+flag-of-requires-2 c κs = search needs
 
 other-listed-requires-2 : tie.Need-other-listed-requires-2
 other-listed-requires-2 c κs = search needs
@@ -35,54 +45,56 @@ other-listed-requires-4 c κs = search needs
 
 returns : tie.Need-returns
 unfolding rowOf rows
-returns c = simp (row-at (c .before .before .args .x) 0 (c .before .match .keys1), c .lock-listed .ensures)
+returns c = at-row _ 0 (c .before .match .keys1) (c .lock-listed .ensures) refl
 
 returns-2 : tie.Need-returns-2
 unfolding rowOf rows
-returns-2 c = simp (row-at (c .before .before .args .x) 1 (c .before .match .keys2), c .order-listed .ensures)
+returns-2 c = at-row _ 1 (c .before .match .keys2) (c .order-listed .ensures) refl
 
 returns-3 : tie.Need-returns-3
 unfolding rowOf rows
-returns-3 c = simp (row-at (c .before .before .args .x) 2 (c .before .match .keys3), c .vote-listed .ensures)
+returns-3 c = at-row _ 2 (c .before .before .match .keys3) (c .before .vote-listed .ensures) (rw (c .flag-of .ensures))
 
 returns-4 : tie.Need-returns-4
 unfolding rowOf rows
-returns-4 c = simp (row-at (c .before .before .args .x) 3 (c .before .match .keys4), c .delivery-listed .ensures)
+returns-4 c = at-row _ 3 (c .before .before .match .keys4) (c .before .delivery-listed .ensures) (rw (c .kind-of .ensures))
 
 returns-5 : tie.Need-returns-5
 unfolding rowOf rows
-returns-5 c = simp (row-at (c .before .before .args .x) 4 (c .before .match .keys5), c .other-listed .ensures)
+returns-5 c = at-row _ 4 (c .before .match .keys5) (c .other-listed .ensures) refl
 
 returns-6 : tie.Need-returns-6
 unfolding rowOf rows
-returns-6 c = simp (row-at (c .before .before .args .x) 5 (c .before .match .keys6), c .decision-listed .ensures)
+returns-6 c = at-row _ 5 (c .before .before .match .keys6) (c .before .decision-listed .ensures) (rw (c .flag-of2 .ensures))
 
 returns-7 : tie.Need-returns-7
 unfolding rowOf rows
-returns-7 c = simp (row-at (c .before .before .args .x) 6 (c .before .match .keys7), c .other-listed2 .ensures)
+returns-7 c = at-row _ 6 (c .before .match .keys7) (c .other-listed2 .ensures) refl
 
 returns-8 : tie.Need-returns-8
 unfolding rowOf rows
-returns-8 c = simp (row-at (c .before .before .args .x) 7 (c .before .match .keys8), c .other-listed3 .ensures)
+returns-8 c = at-row _ 7 (c .before .match .keys8) (c .other-listed3 .ensures) refl
 
 returns-9 : tie.Need-returns-9
 unfolding rowOf rows
-returns-9 c = simp (row-at (c .before .before .args .x) 8 (c .before .match .keys9), c .other-listed4 .ensures)
+returns-9 c = at-row _ 8 (c .before .match .keys9) (c .other-listed4 .ensures) refl
 
 returns-10 : tie.Need-returns-10
-unfolding rowOf rows
-returns-10 c = simp (no-row (c .before .args .x) (above 9 (c .before .args .x .kind) (c .match .rest)))
+returns-10 c = rw (no-row (c .before .args .x) (above 9 (c .before .args .x .kind) (c .match .rest))) (refl, refl)
 
-pub listed-spec : {M : Type 1} → statement M
-listed-spec =
+pub row-for-spec : {M : Type 1} → statement M
+row-for-spec =
     tie.close
     (tie.spec
     lock-listed-requires
     order-listed-requires
     vote-listed-requires
+    flag-of-requires
     delivery-listed-requires
+    kind-of-requires
     other-listed-requires
     decision-listed-requires
+    flag-of-requires-2
     other-listed-requires-2
     other-listed-requires-3
     other-listed-requires-4

@@ -1,7 +1,7 @@
 use borrow.Author.Tests.{eq-eqb, ne-eqb}
 use borrow.Author.Needs.{needs}
-use Rattle.event_record.proofs.listed.other_listed.Statement.{statement}
-use Rattle.event_record.proofs.listed.other_listed.Tie as tie
+use Rattle.event_record.proofs.kinds.other_listed.Statement.{statement}
+use Rattle.event_record.proofs.kinds.other_listed.Tie as tie
 
 lock-listed-requires : tie.Need-lock-listed-requires
 lock-listed-requires c κs = search needs

@@ -1,0 +1,116 @@
+// The table of kinds at the fields of an event: which values are listed (flags and kinds among them are, and what is not used is 0), and the event that they stand for.
+use crate::Fields;
+use model::Event;
+use records::flag_of;
+use records::is_flag;
+use records::is_kind;
+use records::kind_of;
+ghost use mathlib.Core.Path.{_≡_};
+ghost use mathlib.Core.Bool.{_&&_};
+ghost use Rattle.records.specs.Codes.{isKind, isFlag, unused};
+ghost use Rattle.event_record.specs.Events.{rowFor};
+
+fn lock_listed(c: u8, value: u32) -> bool
+    ensures { λ r. ⌜ r ≡ (unused c && unused value) ⌝ }
+{
+    c == 0 && value == 0
+}
+
+fn order_listed(a: u8, b: u8, c: u8) -> bool
+    ensures { λ r. ⌜ r ≡ (unused a && unused b && unused c) ⌝ }
+{
+    if a != 0 {
+        return false;
+    }
+    b == 0 && c == 0
+}
+
+fn vote_listed(b: u8, c: u8) -> bool
+    ensures { λ r. ⌜ r ≡ (isFlag b && unused c) ⌝ }
+{
+    is_flag(b) && c == 0
+}
+
+fn delivery_listed(c: u8, value: u32) -> bool
+    ensures { λ r. ⌜ r ≡ (isKind c && unused value) ⌝ }
+{
+    is_kind(c) && value == 0
+}
+
+fn decision_listed(b: u8, c: u8, value: u32) -> bool
+    ensures { λ r. ⌜ r ≡ (isFlag b && unused c && unused value) ⌝ }
+{
+    is_flag(b) && lock_listed(c, value)
+}
+
+fn other_listed(b: u8, c: u8, value: u32) -> bool
+    ensures { λ r. ⌜ r ≡ (unused b && unused c && unused value) ⌝ }
+{
+    b == 0 && lock_listed(c, value)
+}
+
+// What a record's fields stand for: whether they are listed values, and the event if they are.
+pub(crate) struct Row {
+    pub listed: bool,
+    pub event: Event,
+}
+
+// The row of a record's kind, at its fields. Question 3: is the kind a listed value, and do the other fields suit it?
+pub(crate) fn row_for(x: Fields) -> Row
+    ensures { λ r. ⌜ (r .listed ≡ rowFor x .listed) × (r .event ≡ rowFor x .value) ⌝ }
+{
+    let kind = x.kind;
+    match kind {
+        0 => Row {
+            listed: lock_listed(x.c, x.value),
+            event: Event::Lock { n: x.a, f: x.b },
+        },
+        1 => Row {
+            listed: order_listed(x.a, x.b, x.c),
+            event: Event::Order { number: x.value },
+        },
+        2 => Row {
+            listed: vote_listed(x.b, x.c),
+            event: Event::Cast {
+                id: x.a,
+                willing: flag_of(x.b),
+                target: x.value,
+            },
+        },
+        3 => Row {
+            listed: delivery_listed(x.c, x.value),
+            event: Event::Deliver {
+                from: x.a,
+                to: x.b,
+                kind: kind_of(x.c),
+            },
+        },
+        4 => Row {
+            listed: other_listed(x.b, x.c, x.value),
+            event: Event::Timeout { id: x.a },
+        },
+        5 => Row {
+            listed: decision_listed(x.b, x.c, x.value),
+            event: Event::Decide {
+                id: x.a,
+                to_move: flag_of(x.b),
+            },
+        },
+        6 => Row {
+            listed: other_listed(x.b, x.c, x.value),
+            event: Event::Stop { id: x.a },
+        },
+        7 => Row {
+            listed: other_listed(x.b, x.c, x.value),
+            event: Event::Save { id: x.a },
+        },
+        8 => Row {
+            listed: other_listed(x.b, x.c, x.value),
+            event: Event::Restore { id: x.a },
+        },
+        _ => Row {
+            listed: false,
+            event: Event::Lock { n: 0, f: 0 },
+        },
+    }
+}
