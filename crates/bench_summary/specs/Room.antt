@@ -47,7 +47,7 @@ run-limit (e ∷ es) b h =
     run-limit es (step b e) (by-cond (λ (x : Bench). x .shared .n ≤ limit) (isAccepted (reply b e)) (perform b e) b (λ a. perform-limit b e a h) (λ _. h))
 
 -- of every list from a new bench
-pub controllers-limit : (es : List Event) → (run newBench es) .shared .n ≤ limit
+controllers-limit : (es : List Event) → (run newBench es) .shared .n ≤ limit
 unfolding benchOf
 controllers-limit es = run-limit es newBench (omega arith)
 

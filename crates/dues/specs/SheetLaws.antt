@@ -13,7 +13,7 @@ use Rattle.dues.specs.declared.Lockage.{Lockage}
 use Rattle.dues.specs.Sheet.{chargeOf, lockageAt, lockagesTo, every, total}
 
 -- one lockage more
-pub every-more : (p : Lockage → Bool) (ls : List Lockage) (l : Lockage) → every p (ls ++ (l ∷ [])) ≡ (every p ls && p l)
+every-more : (p : Lockage → Bool) (ls : List Lockage) (l : Lockage) → every p (ls ++ (l ∷ [])) ≡ (every p ls && p l)
 unfolding every
 every-more p [] l = last (p l)
   where
@@ -26,7 +26,7 @@ every-more p (x ∷ ls) l = rw (every-more p ls l) (grouped (p x) (every p ls) (
     grouped true b c = refl
     grouped false b c = refl
 
-pub total-more : (f : Lockage → ℕ) (ls : List Lockage) (l : Lockage) → total f (ls ++ (l ∷ [])) ≡ total f ls + f l
+total-more : (f : Lockage → ℕ) (ls : List Lockage) (l : Lockage) → total f (ls ++ (l ∷ [])) ≡ total f ls + f l
 unfolding total
 total-more f [] l = omega arith
 total-more f (x ∷ ls) l = rw (total-more f ls l) (omega arith)

@@ -21,7 +21,7 @@ same-number : (r : Reply) (t : Shares) → numberOf (answered r t) ≡ number r
 same-number accepted t = refl
 same-number (refused q) t = refl
 
-pub answer-sum : (s : List ℕ) → numberOf (duesFor s) ≡ 0 → valuesOf (duesFor s) .upper + valuesOf (duesFor s) .lower ≡ total chargeOf (lockages s)
+answer-sum : (s : List ℕ) → numberOf (duesFor s) ≡ 0 → valuesOf (duesFor s) .upper + valuesOf (duesFor s) .lower ≡ total chargeOf (lockages s)
 unfolding duesFor questions
 answer-sum s z =
     let e : firstNo (questions s) ≡ accepted = reply-accepted (questions s) _ refl (same-number (firstNo (questions s)) (totals (lockages s))) z in

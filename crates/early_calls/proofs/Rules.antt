@@ -176,7 +176,7 @@ pub becomes-matches : (c c′ : Controller) → withoutKept c ≡ c′ → Match
 unfolding becomes
 becomes-matches c c′ e = record { next = e; sends = refl; word = refl }
 
-pub passed-matches : (c : Controller) → Matches (passedOver c) (passedOver (withoutKept c))
+passed-matches : (c : Controller) → Matches (passedOver c) (passedOver (withoutKept c))
 unfolding passedOver
 passed-matches c = record { next = refl; sends = refl; word = refl }
 

@@ -126,7 +126,7 @@ earlyV v (Restore i) = false
 
 module _ (n f : ℕ) where
   -- the questions look at no kept call
-  pub accepts-forget : (v : View) (e : Event) → accepts n f (forgetV v) e ≡ accepts n f v e
+  accepts-forget : (v : View) (e : Event) → accepts n f (forgetV v) e ≡ accepts n f v e
   unfolding accepts forgetV
   accepts-forget v e = λ p. isAccepted (firstNo (questionsOf (record {
     shared = sharedV n f v;
@@ -201,7 +201,7 @@ module _ (n f : ℕ) where
   runV01 v [] = v
   runV01 v (e ∷ es) = runV01 (stepV01 v e) es
 
-  pub runV01-append : (es es′ : List Event) (v : View) → runV01 v (es ++ es′) ≡ runV01 (runV01 v es) es′
+  runV01-append : (es es′ : List Event) (v : View) → runV01 v (es ++ es′) ≡ runV01 (runV01 v es) es′
   unfolding runV01
   runV01-append [] es′ v = refl
   runV01-append (e ∷ es) es′ v = runV01-append es es′ (stepV01 v e)

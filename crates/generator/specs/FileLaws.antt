@@ -19,7 +19,7 @@ use Rattle.generator.specs.DrawingLaws.{drawn-value, drawn-state}
 use Rattle.generator.specs.File.{votesTo, drawnFrom, eventsOf, recordsOf, fileOf}
 use Rattle.generator.specs.Claim.{recordsIn, stateAfter, Files}
 
-pub records-append : (es es′ : List Event) → recordsOf (es ++ es′) ≡ recordsOf es ++ recordsOf es′
+records-append : (es es′ : List Event) → recordsOf (es ++ es′) ≡ recordsOf es ++ recordsOf es′
 unfolding recordsOf
 records-append [] es′ = refl
 records-append (e ∷ es) es′ = ap (λ (l : List ℕ). eventBytes e ++ l) (records-append es es′) ∙ sym (append-assoc (eventBytes e) (recordsOf es) (recordsOf es′))

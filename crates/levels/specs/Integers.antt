@@ -37,13 +37,13 @@ le-to (pos a) (negsuc b) h = absurd (omega arith)
 le-to (negsuc a) (pos b) h = tt
 le-to (negsuc a) (negsuc b) h = le→leb b a (omega arith)
 
-pub lt-of : (a b : ℤ) → T (ltZ a b) → Strictly a b
+lt-of : (a b : ℤ) → T (ltZ a b) → Strictly a b
 lt-of (pos a) (pos b) t = omega (arith, ltb→lt a b t)
 lt-of (pos a) (negsuc b) t = absurd t
 lt-of (negsuc a) (pos b) t = omega arith
 lt-of (negsuc a) (negsuc b) t = omega (arith, ltb→lt b a t)
 
-pub lt-to : (a b : ℤ) → Strictly a b → T (ltZ a b)
+lt-to : (a b : ℤ) → Strictly a b → T (ltZ a b)
 lt-to (pos a) (pos b) h = lt→ltb a b (omega arith)
 lt-to (pos a) (negsuc b) h = absurd (omega arith)
 lt-to (negsuc a) (pos b) h = tt

@@ -21,7 +21,7 @@ prints-right s w l j =
     let e : willingness (rangeAt s 0) (rangeAt s 8) ≡ w = judged-once (rangeAt s 0) (rangeAt s 8) (willingness (rangeAt s 0) (rangeAt s 8)) w (ends-decide (rangeAt s 0) (rangeAt s 8)) j in
     rw (eq-eqb (length s) 16 l) (ap words e)
 
-pub words-length : (w : Willingness) → length (words w) ≤ 20
+words-length : (w : Willingness) → length (words w) ≤ 20
 unfolding words
 words-length Willing = omega arith
 words-length CertainlyUnwilling = omega arith

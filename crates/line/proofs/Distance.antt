@@ -65,7 +65,7 @@ module _ (k j : ℕ) (a : 1 ≤ k) (b : k ≤ 8) (c : 1 ≤ j) (d : j ≤ 8) whe
   ]
 
   -- one step further
-  pub ahead-up : (k ≡ j → ⊥) → ahead k j ≡ suc (ahead (up k) j)
+  ahead-up : (k ≡ j → ⊥) → ahead k j ≡ suc (ahead (up k) j)
   ahead-up n = elim (decLe 8 k) [
     | yes t ↦ omega (arith, ahead-gt k j (omega (arith, low t)), up-top k t, ahead-le (up k) j (omega (arith, up-top k t)))
     | no t ↦ (elim (decLe k j) [

@@ -88,7 +88,7 @@ module _ (l : Line) (h : Eight l) (i : ℕ) (t : Bool) (last : ℕ) (e : isLock 
 pub next-calls : (l : Line) → 1 ≤ next l → calls l (next l) ≡ true
 next-calls l q = met-calls l 8 _ q
 
-pub next-lock : (l : Line) → 1 ≤ next l → isLock (next l) ≡ true
+next-lock : (l : Line) → 1 ≤ next l → isLock (next l) ≡ true
 next-lock l q = is-lock (next l) q (met-high l 8 _)
 
 -- after its call it is calling, after its service not

@@ -12,7 +12,6 @@ pub use numbers::word_of;
 pub use ranges::different_controllers;
 pub use ranges::is_backup;
 pub use ranges::is_controller;
-pub use ranges::is_second_backup;
 pub use ranges::position_in_range;
 pub use ranges::sizes_in_range;
 pub use routes::recipients;

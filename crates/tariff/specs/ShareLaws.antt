@@ -6,7 +6,7 @@ use native.Mathlib.Omega.{arith}
 use Rattle.tariff.specs.Shares.{SmallestAtLeast, roundedUp, halfUp, upperShare, lowerShare}
 
 module _ (num den amount : ℕ) (d : 1 ≤ den) where
-  pub rounded-up : SmallestAtLeast num den amount (roundedUp num den amount)
+  rounded-up : SmallestAtLeast num den amount (roundedUp num den amount)
   unfolding roundedUp
   rounded-up = record { enough = omega (arith, lt-div-mul-add {a = num * amount + (den - 1)} {b = den} d); smallest = λ p h. omega (arith, div-lt-iff-lt-mul {k = den} {x = num * amount + (den - 1)} {y = suc p} d .1 (rw suc-mul (omega arith))) }
 

@@ -28,7 +28,7 @@ module _ (m : ℕ) (b : Band) (bs : List Band) (t : rising m (b ∷ bs) ≡ true
   rest-rises = and-r (ltb m (b .limit)) (rising (b .limit) bs) t
 
 -- the test, as the rule at each band
-pub rises-at : (m : ℕ) (bs : List Band) → rising m bs ≡ true → (i : ℕ) → i < length bs → limitBefore m bs i < bandAt bs i .limit
+rises-at : (m : ℕ) (bs : List Band) → rising m bs ≡ true → (i : ℕ) → i < length bs → limitBefore m bs i < bandAt bs i .limit
 unfolding limitBefore
 rises-at m [] t i h = absurd (omega arith)
 rises-at m (b ∷ bs) t zero h = first-above m b bs t
@@ -44,7 +44,7 @@ not-below m (b ∷ bs) t (suc zero) h = omega (arith, first-above m b bs t)
 not-below m (b ∷ bs) t (suc (suc i)) h = omega (arith, first-above m b bs t, not-below (b .limit) bs (rest-rises m b bs t) (suc i) (omega arith))
 
 -- the bound before a band of the rest is at least the first limit
-pub in-band : (m : ℕ) (bs : List Band) → rising m bs ≡ true → (i x : ℕ) → i < length bs → limitBefore m bs i < x → x ≤ bandAt bs i .limit → fullCharge bs x ≡ bandAt bs i .charge
+in-band : (m : ℕ) (bs : List Band) → rising m bs ≡ true → (i x : ℕ) → i < length bs → limitBefore m bs i < x → x ≤ bandAt bs i .limit → fullCharge bs x ≡ bandAt bs i .charge
 unfolding fullCharge limitBefore
 in-band m [] t i x h lo up = absurd (omega arith)
 in-band m (b ∷ bs) t zero x h lo up = rw (le-leb x (b .limit) up)

@@ -8,7 +8,7 @@ use lib.ListN.{length, length-append}
 use Rattle.ground.specs.Tests.{by-cond}
 use Rattle.text.specs.Text.{ascii, digit, digits, decimal, signed, lines, refusal}
 
-pub digits-length : (k v : ℕ) → length (digits k v) ≤ k
+digits-length : (k v : ℕ) → length (digits k v) ≤ k
 unfolding digits
 digits-length zero v = omega arith
 digits-length (suc k) v =

@@ -109,7 +109,7 @@ module _ (text out : List ℕ) where
   unfolding fittedLength
   fits = by-cond (λ (n : ℕ). n ≤ length out) (leb (length text) (length out)) (length text) 0 (λ h. leb-true _ _ h) (λ _. omega arith)
 
-  pub within-buffer : (r : ℕ) (after : List ℕ) → r ≡ fittedLength text out → length after ≡ length out → r ≤ length after
+  within-buffer : (r : ℕ) (after : List ℕ) → r ≡ fittedLength text out → length after ≡ length out → r ≤ length after
   within-buffer r after e l = omega (arith, fits)
 
   same-length : length (fitted text out) ≡ length out

@@ -36,7 +36,7 @@ pub fn put_number(out: &mut [u8], at: usize, v: u32) -> usize
 }
 
 // A number in two's complement, with its sign.
-pub fn put_signed(out: &mut [u8], at: usize, v: u32) -> usize
+fn put_signed(out: &mut [u8], at: usize, v: u32) -> usize
     ensures { λ r. ⌜ Put (now (out .entry)) (now (out .exit)) at r (signed v) ⌝ }
 {
     if v < 0x8000_0000 {

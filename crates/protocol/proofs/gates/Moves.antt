@@ -146,11 +146,6 @@ module _ (n f : ℕ) where
   restore-still b i k = by-cond (λ (v : View). (v .ctl k) .gate .position ≡ (b .ctl k) .gate .position) (accepts n f b (Restore i)) _ b
       (λ q. upd-all (λ k (c : Controller). c .gate .position ≡ (b .ctl k) .gate .position) (b .ctl) i _ (restore-position (identityV n f b i) (b .saved i) (b .ctl i) .position) (λ k. refl) k) (λ q. refl)
 
-  -- nor does an accepted order
-  pub order-still : (b : View) (o k : ℕ) → ((stepV n f b (Order o)) .ctl k) .gate .position ≡ (b .ctl k) .gate .position
-  unfolding stepV performV openedV renewed
-  order-still b o k = by-cond (λ (v : View). (v .ctl k) .gate .position ≡ (b .ctl k) .gate .position) (accepts n f b (Order o)) _ b (λ q. renew-keeps (b .ctl k) .position) (λ q. refl)
-
   module _ (f<n : f < n) (1≤f : 1 ≤ f) (small : n ≤ limit) where
     pub voted-run : (es : List Event) (b : View) (k : ℕ) → Willing (runV n f b es) k → (((runV n f b es) .order ≡ b .order) × Willing b k) ⊎ VotedBefore b es k
     unfolding runV
