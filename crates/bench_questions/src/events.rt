@@ -46,7 +46,7 @@ pub fn subject(e: Event) -> u8
     }
 }
 
-// The controller whose telegram a delivery hands over; of any other event its subject.
+// The controller whose message a delivery hands over; of any other event its subject.
 pub fn source(e: Event) -> u8
     ensures { λ r. ⌜ r ≡ source e ⌝ }
 {
@@ -63,7 +63,7 @@ pub fn source(e: Event) -> u8
     }
 }
 
-// The telegrams of one kind that a controller has sent.
+// The messages of one kind that a controller has sent.
 pub fn of_kind(kind: Kind, s: Sent) -> Outgoing
     ensures { λ r. ⌜ r ≡ ofKind kind s ⌝ }
 {
@@ -87,7 +87,7 @@ pub fn of_kind(kind: Kind, s: Sent) -> Outgoing
     }
 }
 
-// To whom the source has sent telegrams of the kind that is delivered.
+// To whom the source has sent messages of the kind that is delivered.
 fn receivers_in(e: Event, sent: Sent) -> u32
     ensures { λ r. ⌜ r ≡ receiversIn e sent ⌝ }
 {

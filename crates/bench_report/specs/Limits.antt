@@ -23,12 +23,12 @@ answerWidth = 22
 abbrev pub controllerWidth : ℕ
 controllerWidth = 38
 
-abbrev pub telegramWidth : ℕ
-telegramWidth = 46
+abbrev pub messageWidth : ℕ
+messageWidth = 46
 
 -- the report on m answers and n controllers, and any output
 abbrev pub longestReport : ℕ → ℕ → ℕ
-longestReport m n = m * answerWidth + n * controllerWidth + telegramWidth
+longestReport m n = m * answerWidth + n * controllerWidth + messageWidth
 
 abbrev pub longestOutput : ℕ
 longestOutput = longestReport mostAnswers limit

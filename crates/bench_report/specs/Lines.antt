@@ -6,7 +6,7 @@ use Rattle.text.specs.Text.{ascii, decimal, signed, line, lines}
 use Rattle.model.specs.declared.Outcome.{Outcome}
 use Rattle.model.specs.declared.Outcome.the-variants.{None, Stay, Move}
 use Rattle.bench_report.specs.declared.Row.{Row}
-use Rattle.bench_report.specs.declared.Telegrams.{Telegrams}
+use Rattle.bench_report.specs.declared.MessageCounts.{MessageCounts}
 use Rattle.bench_report.specs.declared.Summary.{Summary}
 
 -- "Per record it prints the index from 0 and the answer (0 accepted)"
@@ -34,9 +34,9 @@ abbrev pub controllerLines : ℕ → List Row → List ℕ
 controllerLines n rows = lines n (λ i. controllerLine (suc i) (getD rows i blankRow))
 
 -- "Then T and the telegrams sent in this order, by kind."
-abbrev pub telegramLine : Telegrams → List ℕ
-telegramLine sent = line (ascii "T" ∷ decimal (sent .vote) ∷ decimal (sent .ack) ∷ decimal (sent .help) ∷ decimal (sent .helped) ∷ [])
+abbrev pub messageLine : MessageCounts → List ℕ
+messageLine sent = line (ascii "T" ∷ decimal (sent .vote) ∷ decimal (sent .ack) ∷ decimal (sent .help) ∷ decimal (sent .helped) ∷ [])
 
 -- The whole text. "With no lock there are no C lines": n is 0 then.
 unfoldable pub reportOf : List ℕ → Summary → List ℕ
-reportOf answers s = answerLines answers ++ controllerLines (s .n) (s .rows) ++ telegramLine (s .telegrams)
+reportOf answers s = answerLines answers ++ controllerLines (s .n) (s .rows) ++ messageLine (s .messages)

@@ -20,7 +20,7 @@ page (l ∷ rest) = ascii l ++ ascii "\n" ++ page rest
 pub listing : reportOf (replicate 12 0) (record {
   n = 2;
   rows = record { stage = 3; outcome = Move; position = 500 } ∷ record { stage = 3; outcome = Move; position = 2 ^ 32 - 250 } ∷ replicate (limit - 2) blankRow;
-  telegrams = record { vote = 2; ack = 2; help = 0; helped = 0 };
+  messages = record { vote = 2; ack = 2; help = 0; helped = 0 };
 }) ≡ page (
     "0 0" ∷ "1 0" ∷ "2 0" ∷ "3 0" ∷ "4 0" ∷ "5 0" ∷ "6 0" ∷ "7 0" ∷ "8 0" ∷ "9 0" ∷ "10 0" ∷ "11 0" ∷
     "C 1 3 M 500" ∷
@@ -29,11 +29,11 @@ pub listing : reportOf (replicate 12 0) (record {
 unfolding digits decimal signed lines reportOf
 listing = refl
 
--- a refusal; Stay, and none; each kind of telegram in its place
+-- a refusal; Stay, and none; each kind of message in its place
 pub other-signs : reportOf (0 ∷ 19 ∷ []) (record {
   n = 2;
   rows = record { stage = 8; outcome = None; position = 0 } ∷ record { stage = 9; outcome = Stay; position = 2 ^ 32 - 20000 } ∷ [];
-  telegrams = record { vote = 1; ack = 2; help = 30; helped = 4 };
+  messages = record { vote = 1; ack = 2; help = 30; helped = 4 };
 }) ≡ page (
     "0 0" ∷ "1 19" ∷
     "C 1 8 - 0" ∷
@@ -43,6 +43,6 @@ unfolding digits decimal signed lines reportOf
 other-signs = refl
 
 -- "With no lock there are no C lines; with no order T is all 0."
-pub nothing-yet : reportOf [] (record { n = 0; rows = replicate limit blankRow; telegrams = record { vote = 0; ack = 0; help = 0; helped = 0 } }) ≡ page ("T 0 0 0 0" ∷ [])
+pub nothing-yet : reportOf [] (record { n = 0; rows = replicate limit blankRow; messages = record { vote = 0; ack = 0; help = 0; helped = 0 } }) ≡ page ("T 0 0 0 0" ∷ [])
 unfolding digits decimal signed lines reportOf
 nothing-yet = refl

@@ -8,10 +8,10 @@ use Rattle.text.specs.Lengths.{decimal-length, signed-length, lines-length}
 use Rattle.model.specs.declared.Outcome.{Outcome}
 use Rattle.model.specs.declared.Outcome.the-variants.{None, Stay, Move}
 use Rattle.bench_report.specs.declared.Row.{Row}
-use Rattle.bench_report.specs.declared.Telegrams.{Telegrams}
+use Rattle.bench_report.specs.declared.MessageCounts.{MessageCounts}
 use Rattle.bench_report.specs.declared.Summary.{Summary}
-use Rattle.bench_report.specs.Limits.{answerWidth, controllerWidth, telegramWidth, longestReport}
-use Rattle.bench_report.specs.Lines.{letter, blankRow, answerLine, answerLines, controllerLine, controllerLines, telegramLine, reportOf}
+use Rattle.bench_report.specs.Limits.{answerWidth, controllerWidth, messageWidth, longestReport}
+use Rattle.bench_report.specs.Lines.{letter, blankRow, answerLine, answerLines, controllerLine, controllerLines, messageLine, reportOf}
 
 letter-length : (o : Outcome) → length (letter o) ≡ 1
 letter-length None = refl
@@ -26,8 +26,8 @@ controller-length k r =
     simp length-append
     (omega (arith, decimal-length k, decimal-length (r .stage), letter-length (r .outcome), signed-length (r .position)))
 
-telegram-length : (t : Telegrams) → length (telegramLine t) ≤ telegramWidth
-telegram-length t =
+message-length : (t : MessageCounts) → length (messageLine t) ≤ messageWidth
+message-length t =
     simp length-append
     (omega (arith, decimal-length (t .vote), decimal-length (t .ack), decimal-length (t .help), decimal-length (t .helped)))
 
@@ -38,10 +38,10 @@ report-length answers s =
     let p : length (answerLines answers) ≤ length answers * answerWidth = lines-length answerWidth (length answers) (answerLine answers) (answer-length answers) in
     let q : length rows ≤ s .n * controllerWidth =
     lines-length controllerWidth (s .n) (λ i. controllerLine (suc i) (getD (s .rows) i blankRow)) (λ i. controller-length (suc i) (getD (s .rows) i blankRow)) in
-    let r : length (telegramLine (s .telegrams)) ≤ telegramWidth = telegram-length (s .telegrams) in
-    rw (length-append (answerLines answers ++ rows) (telegramLine (s .telegrams)), length-append (answerLines answers) rows) (omega arith)
+    let r : length (messageLine (s .messages)) ≤ messageWidth = message-length (s .messages) in
+    rw (length-append (answerLines answers ++ rows) (messageLine (s .messages)), length-append (answerLines answers) rows) (omega arith)
 
 -- no text is empty, so that 0 says that nothing was written
 pub report-some : (answers : List ℕ) (s : Summary) → 1 ≤ length (reportOf answers s)
 unfolding reportOf
-report-some answers s = rw (length-append (answerLines answers ++ controllerLines (s .n) (s .rows)) (telegramLine (s .telegrams))) (omega arith)
+report-some answers s = rw (length-append (answerLines answers ++ controllerLines (s .n) (s .rows)) (messageLine (s .messages))) (omega arith)

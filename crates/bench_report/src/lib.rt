@@ -9,7 +9,7 @@ ghost use Rattle.bench_report.specs.Report.{tooLong, reported};
 use ground::LIMIT;
 use lines::put_answers;
 use lines::put_controllers;
-use lines::put_telegrams;
+use lines::put_messages;
 use model::Event;
 use model::Outcome;
 use text::write_refusal;
@@ -22,17 +22,17 @@ pub const LONGEST_SCHEDULE: usize = 40960;
 // It has so many records.
 pub const MOST_ANSWERS: usize = LONGEST_SCHEDULE / Event::LENGTH;
 
-// No line of an answer, of a controller, of the telegrams is longer.
+// No line of an answer, of a controller, of the messages is longer.
 const ANSWER_LINE: usize = 22;
 
 const CONTROLLER_LINE: usize = 38;
 
-const TELEGRAM_LINE: usize = 46;
+const MESSAGE_LINE: usize = 46;
 
 // A buffer of so many bytes holds whatever the program prints: bench_output's `always_prints`.
 pub const LONGEST_OUTPUT: usize = MOST_ANSWERS * ANSWER_LINE
     + LIMIT * CONTROLLER_LINE
-    + TELEGRAM_LINE;
+    + MESSAGE_LINE;
 
 // What a C line shows of a controller.
 pub struct Row {
@@ -42,8 +42,8 @@ pub struct Row {
     pub position: u32,
 }
 
-// What the T line shows: the telegrams sent in this order, by kind.
-pub struct Telegrams {
+// What the T line shows: the messages sent in this order, by kind.
+pub struct MessageCounts {
     pub vote: u32,
     pub ack: u32,
     pub help: u32,
@@ -55,7 +55,7 @@ pub struct Summary {
     pub n: u8,
     // by controller
     pub rows: [Row; LIMIT],
-    pub telegrams: Telegrams,
+    pub messages: MessageCounts,
 }
 
 // Is a schedule of so many bytes not run?
@@ -97,7 +97,7 @@ fn longest_report(answers: usize, n: u8) -> usize
     requires { ⌜ answers ≤ mostAnswers ⌝ }
     ensures { λ r. ⌜ r ≡ longestReport answers n ⌝ }
 {
-    answers * ANSWER_LINE + (n as usize) * CONTROLLER_LINE + TELEGRAM_LINE
+    answers * ANSWER_LINE + (n as usize) * CONTROLLER_LINE + MESSAGE_LINE
 }
 
 // The report's length: it is written where none of its bytes is kept.
@@ -115,8 +115,8 @@ fn put_report(out: &mut [u8], answers: &[u8], s: Summary) -> usize
     ensures { λ r. ⌜ Put (now (out .entry)) (now (out .exit)) 0 r (reportOf (now (answers .entry)) s) ⌝ }
 {
     let rows = s.rows;
-    let telegrams = s.telegrams;
+    let messages = s.messages;
     let next = put_answers(&mut *out, answers);
     let next = put_controllers(&mut *out, next, s.n, rows);
-    put_telegrams(&mut *out, next, telegrams)
+    put_messages(&mut *out, next, messages)
 }

@@ -6,9 +6,9 @@ ghost use lib.ListN.{length, getD};
 ghost use Rattle.text.specs.Text.{ascii, decimal, line};
 ghost use Rattle.text.specs.Writing.{Put};
 ghost use Rattle.bench_report.specs.Limits.{mostAnswers};
-ghost use Rattle.bench_report.specs.Lines.{letter, blankRow, controllerLine, answerLines, controllerLines, telegramLine};
+ghost use Rattle.bench_report.specs.Lines.{letter, blankRow, controllerLine, answerLines, controllerLines, messageLine};
+use crate::MessageCounts;
 use crate::Row;
-use crate::Telegrams;
 use ground::LIMIT;
 use model::Outcome;
 use text::put_byte;
@@ -101,8 +101,8 @@ pub(crate) fn put_controllers(out: &mut [u8], at: usize, n: u8, rows: [Row; LIMI
 }
 
 // The T line.
-pub(crate) fn put_telegrams(out: &mut [u8], at: usize, sent: Telegrams) -> usize
-    ensures { λ r. ⌜ Put (now (out .entry)) (now (out .exit)) at r (telegramLine sent) ⌝ }
+pub(crate) fn put_messages(out: &mut [u8], at: usize, sent: MessageCounts) -> usize
+    ensures { λ r. ⌜ Put (now (out .entry)) (now (out .exit)) at r (messageLine sent) ⌝ }
 {
     let next = put_byte(&mut *out, at, b'T');
     let next = put_field(&mut *out, next, sent.vote);

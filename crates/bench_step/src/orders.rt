@@ -31,7 +31,7 @@ pub(crate) fn may_open(m: Shared) -> bool
     open_gates(m) == 0
 }
 
-// A station in a new order: old telegrams are gone, the checkpoint remains.
+// A station in a new order: old messages are gone, the checkpoint remains.
 fn renewed(s: Station) -> Station
     ensures { λ r. ⌜ r ≡ renewed s ⌝ }
 {

@@ -84,7 +84,7 @@ pub(crate) fn bench_of(locked: bool, n: u8, f: u8) -> Bench
     }
 }
 
-// A bench without lock, order, telegrams, words or checkpoints.
+// A bench without lock, order, messages, words or checkpoints.
 pub fn new_bench() -> Bench
     ensures { λ r. ⌜ r ≡ newBench ⌝ }
 {

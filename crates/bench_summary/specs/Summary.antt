@@ -9,9 +9,9 @@ use Rattle.protocol.specs.declared.Station.{Station}
 use Rattle.protocol.specs.declared.Bench.{Bench}
 use Rattle.protocol.specs.Controllers.{outcomeIn}
 use Rattle.protocol.specs.Benches.{fresh, freshStation, station}
-use Rattle.protocol.specs.Display.{stageShown, shownStage, shownOutcome, shownPosition, telegrams}
+use Rattle.protocol.specs.Display.{stageShown, shownStage, shownOutcome, shownPosition, messageCount}
 use Rattle.bench_report.specs.declared.Row.{Row}
-use Rattle.bench_report.specs.declared.Telegrams.{Telegrams}
+use Rattle.bench_report.specs.declared.MessageCounts.{MessageCounts}
 use Rattle.bench_report.specs.declared.Summary.{Summary}
 use Rattle.bench_report.specs.Lines.{blankRow}
 
@@ -23,11 +23,11 @@ abbrev pub rowOf : Station → Row
 rowOf s = rowIn (s .controller .condition) (s .controller .gate .position)
 
 -- "T and the telegrams sent in this order, by kind"
-abbrev pub telegramsOf : Bench → Telegrams
-telegramsOf b = record { vote = telegrams b Vote; ack = telegrams b Ack; help = telegrams b Help; helped = telegrams b Helped }
+abbrev pub messageCountsOf : Bench → MessageCounts
+messageCountsOf b = record { vote = messageCount b Vote; ack = messageCount b Ack; help = messageCount b Help; helped = messageCount b Helped }
 
 unfoldable pub summaryOf : Bench → Summary
-summaryOf b = record { n = b .shared .n; rows = map rowOf (b .stations); telegrams = telegramsOf b }
+summaryOf b = record { n = b .shared .n; rows = map rowOf (b .stations); messages = messageCountsOf b }
 
 -- the row of controller k is what the claim says that its C line shows
 pub shows : (b : Bench) (k : ℕ) → nth blankRow (summaryOf b .rows) k ≡ record { stage = shownStage b k; outcome = shownOutcome b k; position = shownPosition b k }

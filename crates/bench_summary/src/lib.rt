@@ -1,24 +1,24 @@
-// What the report shows of a bench: a row for each controller, and the telegrams sent in this order, by kind.
+// What the report shows of a bench: a row for each controller, and the messages sent in this order, by kind.
 ghost use mathlib.Core.Path.{_≡_};
-ghost use Rattle.bench_summary.specs.Summary.{telegramsOf, summaryOf};
+ghost use Rattle.bench_summary.specs.Summary.{messageCountsOf, summaryOf};
+use bench_report::MessageCounts;
 use bench_report::Summary;
-use bench_report::Telegrams;
+use message_count::message_count;
 use model::Kind;
 use protocol::Bench;
 use rows::rows_of;
-use telegrams::telegrams;
 
+mod message_count;
 mod rows;
-mod telegrams;
 
-fn telegrams_of(b: Bench) -> Telegrams
-    ensures { λ r. ⌜ r ≡ telegramsOf b ⌝ }
+fn message_counts_of(b: Bench) -> MessageCounts
+    ensures { λ r. ⌜ r ≡ messageCountsOf b ⌝ }
 {
-    Telegrams {
-        vote: telegrams(b, Kind::Vote),
-        ack: telegrams(b, Kind::Ack),
-        help: telegrams(b, Kind::Help),
-        helped: telegrams(b, Kind::Helped),
+    MessageCounts {
+        vote: message_count(b, Kind::Vote),
+        ack: message_count(b, Kind::Ack),
+        help: message_count(b, Kind::Help),
+        helped: message_count(b, Kind::Helped),
     }
 }
 
@@ -27,10 +27,10 @@ pub fn summary_of(b: Bench) -> Summary
 {
     let stations = b.stations;
     let rows = rows_of(stations);
-    let telegrams = telegrams_of(b);
+    let messages = message_counts_of(b);
     Summary {
         n: b.shared.n,
         rows,
-        telegrams,
+        messages,
     }
 }

@@ -1,4 +1,4 @@
-// A vote is asked for, a telegram arrives, a timeout (document 01: a bell) is over.
+// A vote is asked for, a message arrives, a timeout (document 01: a bell) is over.
 use controller_rules::arrives;
 use controller_rules::first_timeout;
 use controller_rules::second_timeout;
@@ -49,7 +49,7 @@ pub fn vote(me: Identity, willing: bool, target: u32, c: Controller) -> Answer
     vote_rule(me.n, me.f, me.id, willing, target, c)
 }
 
-// Is a telegram of this order, n and f, meant for this controller, and may it travel so?
+// Is a message of this order, n and f, meant for this controller, and may it travel so?
 fn addressed(me: Identity, m: Message) -> bool
     ensures { λ r. ⌜ r ≡ addressed me m ⌝ }
 {
@@ -72,7 +72,7 @@ fn addressed(me: Identity, m: Message) -> bool
     route(me.f, kind, m.from, me.id)
 }
 
-// A telegram arrives.
+// A message arrives.
 pub fn receive(me: Identity, m: Message, c: Controller) -> Answer
     ensures { λ r. ⌜ r ≡ receive me m c ⌝ }
 {

@@ -23,7 +23,7 @@ ghost use Rattle.protocol.specs.Controllers.{phase};
 ghost use Rattle.protocol.specs.Rules.{voteArrives, ackArrives, helpedArrives, keepsCall, answersCall, helpArrives};
 ghost use Rattle.protocol.specs.Calls.{arrives};
 
-// A vote: at stage 0 or 1 it goes on the sheet.
+// A vote: at stage 0 or 1 it goes on the vote set.
 fn vote_arrives(s: VoteSet, c: Controller) -> Answer
     ensures { λ r. ⌜ r ≡ voteArrives s c ⌝ }
 {
@@ -78,7 +78,7 @@ fn keeps_call(j: u8, c: Controller) -> Answer
     becomes(add_caller(c, j))
 }
 
-// The help sheet is sent back to a caller.
+// The help vote set is sent back to a caller.
 fn answers_call(j: u8, c: Controller) -> Answer
     ensures { λ r. ⌜ r ≡ answersCall j c ⌝ }
 {
@@ -101,7 +101,7 @@ fn help_arrives(j: u8, c: Controller) -> Answer
     answers_call(j, c)
 }
 
-// A telegram of each kind.
+// A message of each kind.
 pub fn arrives(kind: Kind, n: u8, f: u8, from: u8, s: VoteSet, c: Controller) -> Answer
     ensures { λ r. ⌜ r ≡ arrives kind n f from s c ⌝ }
 {

@@ -29,7 +29,7 @@ fn phase_after_vote(f: u8, i: u8) -> u8
     2
 }
 
-// Its own vote goes on its sheet, and to the backups.
+// Its own vote goes on its vote set, and to the backups.
 pub fn vote_rule(n: u8, f: u8, i: u8, willing: bool, target: u32, c: Controller) -> Answer
     ensures { λ r. ⌜ r ≡ voteRule n f i willing target c ⌝ }
 {
@@ -53,7 +53,7 @@ fn count_own(f: u8, i: u8, c: Controller) -> Controller
     keep_ack(c, i, votes)
 }
 
-// The sheet is frozen as the acknowledgement and sent, and the controller goes to stage 2.
+// The vote set is frozen as the acknowledgement and sent, and the controller goes to stage 2.
 pub fn first_timeout(n: u8, f: u8, i: u8, c: Controller) -> Answer
     ensures { λ r. ⌜ r ≡ firstTimeout n f i c ⌝ }
 {

@@ -1,4 +1,4 @@
-// The rules of a controller (document 01, "A controller's rules"): what it does with its vote, with each kind of telegram and at its two timeouts, each
+// The rules of a controller (document 01, "A controller's rules"): what it does with its vote, with each kind of message and at its two timeouts, each
 // equal to its definition. Whether a call is taken at all, crate `controller` asks.
 mod arrivals;
 mod first;

@@ -22,7 +22,7 @@ use votes::join;
 ghost use mathlib.Core.Path.{_≡_};
 ghost use Rattle.protocol.specs.Rules.{ready, callsHelp, secondTimeout};
 
-// The help sheet goes to those whose calls were kept, and is ready from now on for those who call.
+// The help vote set goes to those whose calls were kept, and is ready from now on for those who call.
 fn ready(s: VoteSet, next: Controller) -> Answer
     ensures { λ r. ⌜ r ≡ ready s next ⌝ }
 {
@@ -30,7 +30,7 @@ fn ready(s: VoteSet, next: Controller) -> Answer
     sending(next, helps(Send::Nothing, Send::To(callers, s)))
 }
 
-// It waits, calls for help, counts its own help sheet as an answer, and answers the calls kept.
+// It waits, calls for help, counts its own help vote set as an answer, and answers the calls kept.
 fn calls_help(n: u8, f: u8, i: u8, s: VoteSet, c: Controller) -> Answer
     ensures { λ r. ⌜ r ≡ callsHelp n f i s c ⌝ }
 {
@@ -40,7 +40,7 @@ fn calls_help(n: u8, f: u8, i: u8, s: VoteSet, c: Controller) -> Answer
     sending(next, helps(Send::To(to, empty_set()), Send::To(callers, s)))
 }
 
-// To stage 3 with the help sheet frozen: the outcome, or else a word put, or else it waits.
+// To stage 3 with the help vote set frozen: the outcome, or else a word put, or else it waits.
 pub fn second_timeout(n: u8, f: u8, i: u8, c: Controller) -> Answer
     ensures { λ r. ⌜ r ≡ secondTimeout n f i c ⌝ }
 {

@@ -45,7 +45,7 @@ pub fn acks_to(to: u32, s: VoteSet) -> Sends
     }
 }
 
-// Help calls, and the help sheet, sent or held ready.
+// Help calls, and the help vote set, sent or held ready.
 pub fn helps(call: Send, answer: Send) -> Sends
     ensures { λ r. ⌜ r ≡ helps call answer ⌝ }
 {

@@ -81,7 +81,7 @@ pub fn advance(c: Controller, phase: u8) -> Controller
     Controller { condition, ..c }
 }
 
-// A sheet goes on its own.
+// A vote set goes on its own.
 pub fn learn(c: Controller, s: VoteSet) -> Controller
     ensures { λ r. ⌜ r ≡ learn c s ⌝ }
 {
@@ -101,7 +101,7 @@ pub fn aim(c: Controller, target: u32) -> Controller
     next
 }
 
-// The help sheet is frozen; the calls kept remain, to be answered with it.
+// The help vote set is frozen; the calls kept remain, to be answered with it.
 pub fn freeze(c: Controller, votes: VoteSet) -> Controller
     ensures { λ r. ⌜ r ≡ freeze c votes ⌝ }
 {

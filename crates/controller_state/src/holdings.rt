@@ -23,7 +23,7 @@ pub fn bump(k: u8) -> u8
     k
 }
 
-// Where the sheet of sender j stands in a list.
+// Where the vote set of sender j stands in a list.
 fn place(j: u8) -> usize
     ensures { λ r. ⌜ r ≡ j - 1 ⌝ }
 {
@@ -33,7 +33,7 @@ fn place(j: u8) -> usize
     (j - 1) as usize
 }
 
-// The list with the sheet of sender j. Only as many senders as the limit have a place.
+// The list with the vote set of sender j. Only as many senders as the limit have a place.
 fn placed(sets: [VoteSet; LIMIT], j: u8, s: VoteSet) -> [VoteSet; LIMIT]
     ensures { λ r. ⌜ r ≡ put sets j s ⌝ }
 {

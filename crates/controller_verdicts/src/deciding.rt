@@ -14,7 +14,7 @@ ghost use Rattle.ground.specs.Mask.{has};
 ghost use Rattle.votes.specs.VoteSets.{empty, complete};
 ghost use Rattle.protocol.specs.Rules.{backupsComplete, secondKnows, decides};
 
-// The sheet of sender j in a list. Only as many senders as the limit have a place.
+// The vote set of sender j in a list. Only as many senders as the limit have a place.
 fn set_of(sets: [VoteSet; LIMIT], j: u8) -> VoteSet
     ensures { λ r. ⌜ r ≡ nth empty sets j ⌝ }
 {

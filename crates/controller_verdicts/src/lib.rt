@@ -1,4 +1,4 @@
-// What the sheets that a controller holds say: their word, whether they decide, and whether they suffice to put a word.
+// What the vote sets that a controller holds say: their word, whether they decide, and whether they suffice to put a word.
 mod deciding;
 mod waiting;
 

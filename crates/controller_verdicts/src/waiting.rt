@@ -12,7 +12,7 @@ ghost use mathlib.Core.Path.{_≡_};
 ghost use Rattle.votes.specs.Tallies.{tallyOf};
 ghost use Rattle.protocol.specs.Rules.{verdict, ackJoin, sufficient, answersJoin, proposeIfSufficient};
 
-// The word of a sheet.
+// The word of a vote set.
 fn verdict(n: u8, s: VoteSet) -> Outcome
     ensures { λ r. ⌜ r ≡ verdict n s ⌝ }
 {

@@ -1,4 +1,4 @@
 pub mod Rules
-pub mod Bells
+pub mod Timeouts
 pub mod Views
 pub mod Theorem

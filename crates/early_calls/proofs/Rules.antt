@@ -1,5 +1,5 @@
 -- Each rule does to a controller without kept calls what it does to the controller: it sends and puts the same, and leaves the same but for the calls kept.
--- The help call before stage 3 and the second bell are apart (Bells).
+-- The help call before stage 3 and the second timeout are apart (Timeouts).
 use Prim.Native.Nat.{ℕ, suc}
 use mathlib.Core.Path.{_≡_, refl, sym, _∙_, ap}
 use mathlib.Core.Bool.{Bool, true, false, not, _&&_, _||_, cond, false≢true}
@@ -139,7 +139,7 @@ early-call j c e = rw e (by-cond (KeptAlone c) (hasCalled c j) _ _
     (λ p. record { next = refl; sends = refl; word = refl })
     (λ p. record { next = early (addCaller c j) e ∙ sym (early c e); sends = refl; word = refl }))
 
--- the own vote, and the first bell
+-- the own vote, and the first timeout
 pub cast-matches : (n f i : ℕ) (w : Bool) (t : ℕ) (c : Controller) → eqb (phase c) 0 ≡ true → Matches (voteRule n f i w t c) (voteRule n f i w t (withoutKept c))
 unfolding voteRule advance aim learn
 cast-matches n f i w t c e = let z : phase c ≡ 0 = eqb-true _ _ e in rw (early c (rw z)) (early-match _ _ (record { there = below (leb i (suc f)); next = refl; sends = refl; word = refl }))

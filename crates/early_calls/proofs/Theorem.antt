@@ -33,9 +33,9 @@ use Rattle.protocol.proofs.view.Simulation.{view, Sound, Runs, ranges, Steps, r
 use Rattle.protocol.proofs.claim.Start.{unlocked, idle, freshes, lock-sound}
 use Rattle.protocol.proofs.claim.Reach.{Alive, Reached, JustLocked, new-step, reached}
 use Rattle.protocol.proofs.claim.Reached.{reach}
-use Rattle.early_calls.specs.Document01.{isEarly, step01, run01, isSecondBell, keptCalls, onceMore, lengthened, withCallers, withoutKept, SameButKept, AsDocument01}
+use Rattle.early_calls.specs.Document01.{isEarly, step01, run01, isSecondTimeout, keptCalls, onceMore, lengthened, withCallers, withoutKept, SameButKept, AsDocument01}
 use Rattle.early_calls.proofs.Rules.{by-equal, alike}
-use Rattle.early_calls.proofs.Views.{forgetV, step-forget, call-forget, earlyV, stepV01, runV01, MayCome, bell-forget}
+use Rattle.early_calls.proofs.Views.{forgetV, step-forget, call-forget, earlyV, stepV01, runV01, MayCome, timeout-forget}
 
 -- document 01's bench steps as its view does
 early-sim : (b : Bench) (e : Event) → earlyV (view b) e ≡ isEarly b e
@@ -122,23 +122,23 @@ module _ (b : Bench) (ok : Fine b) (a : Alive b) where
       (unfold forgetV in ap (λ (x : Condition). leb (phaseIn x) 2) (alike (v .ctl j) .condition)) v v _ _
       (λ e. call-forget n f v i j e) (λ e. step-forget n f v (Deliver i j Help) (λ q. e))
 
-  bell-together : (i : ℕ) → Together (Timeout i)
+  timeout-together : (i : ℕ) → Together (Timeout i)
   unfolding runV01 stepV01
-  bell-together i = elim (split (isSecondBell b i)) [
-    | inl e ↦ rw e (rings e)
+  timeout-together i = elim (split (isSecondTimeout b i)) [
+    | inl e ↦ rw e (times-out e)
     | inr e ↦ rw e (step-forget n f v (Timeout i) (λ q. first q e))
   ]
     where
-      rings : isSecondBell b i ≡ true → forgetV (stepV n f v (Timeout i)) ≡ runV01 n f (stepV n f (forgetV v) (Timeout i)) (keptCalls b i)
-      rings e = unfold view in
+      times-out : isSecondTimeout b i ≡ true → forgetV (stepV n f v (Timeout i)) ≡ runV01 n f (stepV n f (forgetV v) (Timeout i)) (keptCalls b i)
+      times-out e = unfold view in
           let taken : isAccepted (reply b (Timeout i)) ≡ true = and-l (isAccepted (reply b (Timeout i))) (eqb (phase (controller b i)) 2) e in
           let st : eqb (phase (controller b i)) 2 ≡ true = and-r (isAccepted (reply b (Timeout i))) (eqb (phase (controller b i)) 2) e in
-          bell-forget n f (ranges n f (a .sound .sized) .small) v i st (sym (reply-sim b (a .sound) (Timeout i)) ∙ taken) (may-come i st)
+          timeout-forget n f (ranges n f (a .sound .sized) .small) v i st (sym (reply-sim b (a .sound) (Timeout i)) ∙ taken) (may-come i st)
 
-      first : accepts n f v (Timeout i) ≡ true → isSecondBell b i ≡ false → eqb (phase (v .ctl i)) 1 ≡ true
+      first : accepts n f v (Timeout i) ≡ true → isSecondTimeout b i ≡ false → eqb (phase (v .ctl i)) 1 ≡ true
       first q e = unfold accepts firstNo in elim (or-e (eqb (phase (v .ctl i)) 1) (eqb (phase (v .ctl i)) 2) (search (ask-l, ask-r) depth 14)) [
         | inl p ↦ p
-        | inr p ↦ absurd (no-both (isSecondBell b i) (and-i _ _ (reply-sim b (a .sound) (Timeout i) ∙ q) (unfold view in p)) e)
+        | inr p ↦ absurd (no-both (isSecondTimeout b i) (and-i _ _ (reply-sim b (a .sound) (Timeout i) ∙ q) (unfold view in p)) e)
       ]
 
   together : (e : Event) → Together e
@@ -150,7 +150,7 @@ module _ (b : Bench) (ok : Fine b) (a : Alive b) where
   together (Deliver i j Ack) = step-forget n f v (Deliver i j Ack) (λ q. tt)
   together (Deliver i j Help) = call-together i j
   together (Deliver i j Helped) = step-forget n f v (Deliver i j Helped) (λ q. tt)
-  together (Timeout i) = bell-together i
+  together (Timeout i) = timeout-together i
   together (Decide i w) = step-forget n f v (Decide i w) (λ q. tt)
   together (Stop i) = step-forget n f v (Stop i) (λ q. tt)
   together (Save i) = step-forget n f v (Save i) (λ q. tt)

@@ -1,5 +1,5 @@
 -- One event, seen as functions of the controller's number: the view without kept calls steps by document 01 as the view does, with each kept call once more
--- right after a second bell.
+-- right after a second timeout.
 use Prim.Native.Nat.{ℕ, zero, suc, _≤_}
 use mathlib.Core.Path.{_≡_, refl, sym, _∙_, ap, subst}
 use mathlib.Core.Bool.{Bool, true, false, not, _&&_, _||_, cond, or-false, false≢true}
@@ -48,7 +48,7 @@ use Rattle.protocol.proofs.view.View.{View, sharedV, accepts, openedV, ask-l, a
 use Rattle.protocol.proofs.view.Performed.{commitV, chosen, savedV, checkpointAt, identityV, timeoutRule, performV, stepV}
 use Rattle.protocol.proofs.view.Simulation.{part}
 use Rattle.early_calls.specs.Document01.{withCallers, withoutKept}
-use Rattle.early_calls.proofs.Bells.{answeredTo, bell-kept, Frozen, bell-frozen}
+use Rattle.early_calls.proofs.Timeouts.{answeredTo, timeout-kept, Frozen, timeout-frozen}
 use Rattle.early_calls.proofs.Rules.{by-equal, early, late, alike, Matches, vote-matches, ack-matches, helped-matches, call-matches, KeptAlone, early-call, cast-matches, first-matches, conclude-kept, cleared-kept, renew-kept, becomes-matches, restore-matches}
 
 -- without the calls kept
@@ -136,7 +136,7 @@ module _ (n f : ℕ) where
     «may_open» = mayOpen (sharedV n f v);
   }) e))
 
-  -- an accepted event other than an early call and a second bell
+  -- an accepted event other than an early call and a second timeout
   abbrev Apart : View → Event → Type 0
   Apart v (Lock a c) = Unit {0}
   Apart v (Order o) = Unit {0}
@@ -206,7 +206,7 @@ module _ (n f : ℕ) where
   runV01-append [] es′ v = refl
   runV01-append (e ∷ es) es′ v = runV01-append es es′ (stepV01 v e)
 
-  -- THE SECOND BELL. What was kept is answered by document 01 one by one, in rising order.
+  -- THE SECOND TIMEOUT. What was kept is answered by document 01 one by one, in rising order.
   module _ (small : n ≤ limit) (v : View) (i : ℕ) (st : eqb (phase (v .ctl i)) 2 ≡ true) where
     abbrev c : Controller
     c = v .ctl i
@@ -214,47 +214,47 @@ module _ (n f : ℕ) where
     abbrev s : VoteSet
     s = helpVotes n c
 
-    -- the bell without kept calls; and then, with the callers m answered
-    abbrev bell : Answer
-    bell = secondTimeout n f i (withCallers c 0)
+    -- the timeout without kept calls; and then, with the callers m answered
+    abbrev timedOut : Answer
+    timedOut = secondTimeout n f i (withCallers c 0)
 
-    abbrev rung : ℕ → View
-    rung m = commitV (forgetV v) i (answeredTo m s bell)
+    abbrev afterTimeout : ℕ → View
+    afterTimeout m = commitV (forgetV v) i (answeredTo m s timedOut)
 
     stage : phase c ≡ 2
     stage = eqb-true _ _ st
 
-    frozen : Frozen n f i (withCallers c 0) bell
-    frozen = bell-frozen n f i (withCallers c 0)
+    frozen : Frozen n f i (withCallers c 0) timedOut
+    frozen = timeout-frozen n f i (withCallers c 0)
 
-    same-sheet : helpVotes n (withCallers c 0) ≡ s
+    same-votes : helpVotes n (withCallers c 0) ≡ s
     unfolding helpVotes ackJoin
-    same-sheet = refl
+    same-votes = refl
 
     second-rule : (c : Controller) → eqb (phase c) 2 ≡ true → timeoutRule n f i c ≡ secondTimeout n f i c
     unfolding timeoutRule
     second-rule c e = let z : phase c ≡ 2 = eqb-true _ _ e in rw z
 
     -- with the calls kept
-    kept-bell : forgetV (commitV v i (timeoutRule n f i c)) ≡ rung (c .help .callers)
-    kept-bell = ap (λ (a : Answer). forgetV (commitV v i a)) (second-rule c st ∙ bell-kept n f i c (c .help .callers))
-        ∙ commit-forget v i (answeredTo (c .help .callers) s bell) (answeredTo (c .help .callers) s bell)
-        (record { next = late (withCallers (bell .controller) (c .help .callers)) (rw (frozen .phase)); sends = refl; word = refl })
+    kept-timeout : forgetV (commitV v i (timeoutRule n f i c)) ≡ afterTimeout (c .help .callers)
+    kept-timeout = ap (λ (a : Answer). forgetV (commitV v i a)) (second-rule c st ∙ timeout-kept n f i c (c .help .callers))
+        ∙ commit-forget v i (answeredTo (c .help .callers) s timedOut) (answeredTo (c .help .callers) s timedOut)
+        (record { next = late (withCallers (timedOut .controller) (c .help .callers)) (rw (frozen .phase)); sends = refl; word = refl })
 
     -- without them
-    plain-bell : commitV (forgetV v) i (timeoutRule n f i (withoutKept c)) ≡ rung 0
-    plain-bell = ap (λ (a : Answer). commitV (forgetV v) i a) (ap (timeoutRule n f i) (early c (rw stage)) ∙ second-rule (withCallers c 0) st ∙ bell-kept n f i c 0)
+    plain-timeout : commitV (forgetV v) i (timeoutRule n f i (withoutKept c)) ≡ afterTimeout 0
+    plain-timeout = ap (λ (a : Answer). commitV (forgetV v) i a) (ap (timeoutRule n f i) (early c (rw stage)) ∙ second-rule (withCallers c 0) st ∙ timeout-kept n f i c 0)
 
     -- the controller after it, with the callers m answered
     abbrev d : ℕ → Controller
-    d m = withCallers (bell .controller) m
+    d m = withCallers (timedOut .controller) m
 
-    rung-ctl : (m : ℕ) → (rung m) .ctl i ≡ d m
+    after-ctl : (m : ℕ) → (afterTimeout m) .ctl i ≡ d m
     unfolding commitV
-    rung-ctl m = upd-same _ i (d m)
+    after-ctl m = upd-same _ i (d m)
 
-    late-stage : (m : ℕ) → leb (phase ((rung m) .ctl i)) 2 ≡ false
-    late-stage m = ap (λ (x : Controller). leb (phase x) 2) (rung-ctl m) ∙ ap (λ (x : ℕ). leb x 2) (frozen .phase)
+    late-stage : (m : ℕ) → leb (phase ((afterTimeout m) .ctl i)) 2 ≡ false
+    late-stage m = ap (λ (x : Controller). leb (phase x) 2) (after-ctl m) ∙ ap (λ (x : ℕ). leb x 2) (frozen .phase)
 
     -- a call of j that was sent may come once more
     pub record MayCome (j : ℕ) : Type 0 where
@@ -268,22 +268,22 @@ module _ (n f : ℕ) where
     unfolding route helpRoute
     apart j h = not-true (eqb j i) (and-l (not (eqb j i)) _ (h .way))
 
-    rung-sent : (m j : ℕ) → eqb j i ≡ false → (rung m) .state .sent j ≡ v .state .sent j
+    after-sent : (m j : ℕ) → eqb j i ≡ false → (afterTimeout m) .state .sent j ≡ v .state .sent j
     unfolding commitV forgetV
-    rung-sent m j e = upd-other (v .state .sent) i _ j e
+    after-sent m j e = upd-other (v .state .sent) i _ j e
 
-    comes : (m j : ℕ) → MayCome j → accepts n f (rung m) (Deliver j i Help) ≡ true
+    comes : (m j : ℕ) → MayCome j → accepts n f (afterTimeout m) (Deliver j i Help) ≡ true
     unfolding accepts commitV forgetV
     comes m j h = ap isAccepted (yes-all _ (refl, (h .between, (h .way, (h .opened, (running, (sent, tt)))))))
       where
-        running : isRunning ((rung m) .ctl i .condition) ≡ true
-        running = ap (λ (x : Controller). isRunning (x .condition)) (rung-ctl m) ∙ frozen .runs
+        running : isRunning ((afterTimeout m) .ctl i .condition) ≡ true
+        running = ap (λ (x : Controller). isRunning (x .condition)) (after-ctl m) ∙ frozen .runs
 
-        sent : has (((rung m) .state .sent j) .help .to) i ≡ true
-        sent = ap (λ (x : Sent). has (x .help .to) i) (rung-sent m j (apart j h)) ∙ h .called
+        sent : has (((afterTimeout m) .state .sent j) .help .to) i ≡ true
+        sent = ap (λ (x : Sent). has (x .help .to) i) (after-sent m j (apart j h)) ∙ h .called
 
-    answers : (m j : ℕ) → has m j ≡ false → helpArrives j ((rung m) .ctl i) ≡ answersCall j (d m)
-    answers m j e = ap (helpArrives j) (rung-ctl m) ∙ taken
+    answers : (m j : ℕ) → has m j ≡ false → helpArrives j ((afterTimeout m) .ctl i) ≡ answersCall j (d m)
+    answers m j e = ap (helpArrives j) (after-ctl m) ∙ taken
       where
         taken : helpArrives j (d m) ≡ answersCall j (d m)
         taken = unfold helpArrives in rw (e, frozen .phase)
@@ -309,45 +309,45 @@ module _ (n f : ℕ) where
     unfolding upd
     again F x y z e = fun-ext _ _ (λ k. elim (split (eqb k i)) [ inl q ↦ rw q e | inr q ↦ rw q ])
 
-    answered-more : (m j : ℕ) → 1 ≤ j → j ≤ n → commitV (rung m) i (answersCall j (d m)) ≡ rung (insert m j)
+    answered-more : (m j : ℕ) → 1 ≤ j → j ≤ n → commitV (afterTimeout m) i (answersCall j (d m)) ≡ afterTimeout (insert m j)
     unfolding commitV forgetV answersCall addCaller
     answered-more m j lo hi = λ p. record {
       order = v .order;
       state = record {
-        sent = again (v .state .sent) (sentAfter (v .state .sent i) ((answeredTo m s bell) .sends)) _ _ outgoing p;
+        sent = again (v .state .sent) (sentAfter (v .state .sent i) ((answeredTo m s timedOut) .sends)) _ _ outgoing p;
         consensus = record {
-          «move_proposed» = or-false (v .state .consensus .«move_proposed» || isMove (bell .proposal)) p;
-          «stay_proposed» = or-false (v .state .consensus .«stay_proposed» || isStay (bell .proposal)) p;
+          «move_proposed» = or-false (v .state .consensus .«move_proposed» || isMove (timedOut .proposal)) p;
+          «stay_proposed» = or-false (v .state .consensus .«stay_proposed» || isStay (timedOut .proposal)) p;
           decision = v .state .consensus .decision;
         };
       };
       ctl = again (λ k. withoutKept (v .ctl k)) (d m) (addCaller (d m) j) (d (insert m j)) refl p;
       saved = v .saved;
-      counts = counts-same (((rung m) .ctl i) .condition) (d m .condition) ((rung m) .counts) (sym (ap (λ (x : Controller). x .condition) (upd-same (λ k. withoutKept (v .ctl k)) i (d m)))) p;
+      counts = counts-same (((afterTimeout m) .ctl i) .condition) (d m .condition) ((afterTimeout m) .counts) (sym (ap (λ (x : Controller). x .condition) (upd-same (λ k. withoutKept (v .ctl k)) i (d m)))) p;
     }
       where
-        outgoing : sentAfter ((rung m) .state .sent i) (helps Nothing (To (insert 0 j) (bell .controller .help .votes))) ≡ sentAfter (v .state .sent i) ((answeredTo (insert m j) s bell) .sends)
-        outgoing = unfold commitV forgetV in ap (λ (l : Sent). sentAfter l (helps Nothing (To (insert 0 j) (bell .controller .help .votes)))) (upd-same (v .state .sent) i _) ∙ joined
+        outgoing : sentAfter ((afterTimeout m) .state .sent i) (helps Nothing (To (insert 0 j) (timedOut .controller .help .votes))) ≡ sentAfter (v .state .sent i) ((answeredTo (insert m j) s timedOut) .sends)
+        outgoing = unfold commitV forgetV in ap (λ (l : Sent). sentAfter l (helps Nothing (To (insert 0 j) (timedOut .controller .help .votes)))) (upd-same (v .state .sent) i _) ∙ joined
           where
-            joined : sentAfter (sentAfter (v .state .sent i) ((answeredTo m s bell) .sends)) (helps Nothing (To (insert 0 j) (bell .controller .help .votes))) ≡ sentAfter (v .state .sent i) ((answeredTo (insert m j) s bell) .sends)
+            joined : sentAfter (sentAfter (v .state .sent i) ((answeredTo m s timedOut) .sends)) (helps Nothing (To (insert 0 j) (timedOut .controller .help .votes))) ≡ sentAfter (v .state .sent i) ((answeredTo (insert m j) s timedOut) .sends)
             joined = unfold sentAfter in λ p. record {
-              vote = afterSend ((v .state .sent i) .vote) (bell .sends .vote);
-              ack = afterSend ((v .state .sent i) .ack) (bell .sends .ack);
-              help = afterSend ((v .state .sent i) .help) (bell .sends .help);
-              helped = record { to = one-more ((v .state .sent i) .helped .to) m j lo hi p; votes = (frozen .votes ∙ same-sheet) p };
+              vote = afterSend ((v .state .sent i) .vote) (timedOut .sends .vote);
+              ack = afterSend ((v .state .sent i) .ack) (timedOut .sends .ack);
+              help = afterSend ((v .state .sent i) .help) (timedOut .sends .help);
+              helped = record { to = one-more ((v .state .sent i) .helped .to) m j lo hi p; votes = (frozen .votes ∙ same-votes) p };
             }
 
-    call-more : (m j : ℕ) → 1 ≤ j → MayCome j → has m j ≡ false → stepV n f (rung m) (Deliver j i Help) ≡ rung (insert m j)
+    call-more : (m j : ℕ) → 1 ≤ j → MayCome j → has m j ≡ false → stepV n f (afterTimeout m) (Deliver j i Help) ≡ afterTimeout (insert m j)
     unfolding stepV performV arrives
-    call-more m j lo h e = rw (comes m j h) (ap (commitV (rung m) i) (answers m j e) ∙ answered-more m j lo (h .high))
+    call-more m j lo h e = rw (comes m j h) (ap (commitV (afterTimeout m) i) (answers m j e) ∙ answered-more m j lo (h .high))
 
     -- all of them
-    calls-more : (kept k : ℕ) → k ≤ n → ((j : ℕ) → 1 ≤ j → has kept j ≡ true → MayCome j) → runV01 (rung 0) (map (λ j. Deliver j i Help) (members k kept)) ≡ rung (collect k (has kept))
+    calls-more : (kept k : ℕ) → k ≤ n → ((j : ℕ) → 1 ≤ j → has kept j ≡ true → MayCome j) → runV01 (afterTimeout 0) (map (λ j. Deliver j i Help) (members k kept)) ≡ afterTimeout (collect k (has kept))
     unfolding members collect runV01
     calls-more kept zero h may = refl
     calls-more kept (suc k) h may =
-        ap (runV01 (rung 0)) (map-append (λ j. Deliver j i Help) (members k kept) (cond (has kept (suc k)) (suc k ∷ []) []))
-        ∙ runV01-append (map (λ j. Deliver j i Help) (members k kept)) (map (λ j. Deliver j i Help) (cond (has kept (suc k)) (suc k ∷ []) [])) (rung 0)
+        ap (runV01 (afterTimeout 0)) (map-append (λ j. Deliver j i Help) (members k kept) (cond (has kept (suc k)) (suc k ∷ []) []))
+        ∙ runV01-append (map (λ j. Deliver j i Help) (members k kept)) (map (λ j. Deliver j i Help) (cond (has kept (suc k)) (suc k ∷ []) [])) (afterTimeout 0)
         ∙ ap (λ (x : View). runV01 x (map (λ j. Deliver j i Help) (cond (has kept (suc k)) (suc k ∷ []) []))) (calls-more kept k (omega arith) may)
         ∙ last
       where
@@ -356,25 +356,25 @@ module _ (n f : ℕ) where
             let q : leb 1 (suc k) && leb (suc k) k && has kept (suc k) ≡ true = sym (has-collect k (has kept) (suc k) (omega arith)) ∙ e in
             no-both (leb (suc k) k) (and-r (leb 1 (suc k)) (leb (suc k) k) (and-l (leb 1 (suc k) && leb (suc k) k) (has kept (suc k)) q)) (lt-leb (suc k) k (omega arith)))
 
-        not-early : stepV01 (rung (collect k (has kept))) (Deliver (suc k) i Help) ≡ stepV n f (rung (collect k (has kept))) (Deliver (suc k) i Help)
+        not-early : stepV01 (afterTimeout (collect k (has kept))) (Deliver (suc k) i Help) ≡ stepV n f (afterTimeout (collect k (has kept))) (Deliver (suc k) i Help)
         not-early = unfold stepV01 in rw (late-stage (collect k (has kept)))
 
-        last : runV01 (rung (collect k (has kept))) (map (λ j. Deliver j i Help) (cond (has kept (suc k)) (suc k ∷ []) [])) ≡ rung (cond (has kept (suc k)) (insert (collect k (has kept)) (suc k)) (collect k (has kept)))
+        last : runV01 (afterTimeout (collect k (has kept))) (map (λ j. Deliver j i Help) (cond (has kept (suc k)) (suc k ∷ []) [])) ≡ afterTimeout (cond (has kept (suc k)) (insert (collect k (has kept)) (suc k)) (collect k (has kept)))
         last = elim (split (has kept (suc k))) [
           | inl e ↦ rw e (unfold runV01 in not-early ∙ call-more (collect k (has kept)) (suc k) (omega arith) (may (suc k) (omega arith) e) free)
           | inr e ↦ rw e (unfold runV01 in refl)
         ]
 
-    -- the bell and then all the kept calls
-    pub bell-forget : accepts n f v (Timeout i) ≡ true → ((j : ℕ) → 1 ≤ j → has (c .help .callers) j ≡ true → MayCome j)
+    -- the timeout and then all the kept calls
+    pub timeout-forget : accepts n f v (Timeout i) ≡ true → ((j : ℕ) → 1 ≤ j → has (c .help .callers) j ≡ true → MayCome j)
         → forgetV (stepV n f v (Timeout i)) ≡ runV01 (stepV n f (forgetV v) (Timeout i)) (map (λ j. Deliver j i Help) (members n (c .help .callers)))
-    bell-forget q may = kept-side ∙ ap rung (sym all) ∙ sym (calls-more (c .help .callers) n (omega arith) may) ∙ ap (λ (x : View). runV01 x (map (λ j. Deliver j i Help) (members n (c .help .callers)))) (sym plain-side)
+    timeout-forget q may = kept-side ∙ ap afterTimeout (sym all) ∙ sym (calls-more (c .help .callers) n (omega arith) may) ∙ ap (λ (x : View). runV01 x (map (λ j. Deliver j i Help) (members n (c .help .callers)))) (sym plain-side)
       where
-        kept-side : forgetV (stepV n f v (Timeout i)) ≡ rung (c .help .callers)
-        kept-side = unfold stepV performV in rw q kept-bell
+        kept-side : forgetV (stepV n f v (Timeout i)) ≡ afterTimeout (c .help .callers)
+        kept-side = unfold stepV performV in rw q kept-timeout
 
-        plain-side : stepV n f (forgetV v) (Timeout i) ≡ rung 0
-        plain-side = unfold stepV performV forgetV in rw (accepts-forget v (Timeout i) ∙ q) plain-bell
+        plain-side : stepV n f (forgetV v) (Timeout i) ≡ afterTimeout 0
+        plain-side = unfold stepV performV forgetV in rw (accepts-forget v (Timeout i) ∙ q) plain-timeout
 
         -- all callers are among 1 to n
         all : collect n (has (c .help .callers)) ≡ c .help .callers

@@ -1,5 +1,5 @@
 -- HOW LISTS WITH KEPT CALLS RELATE TO DOCUMENT 01'S. There a help call that comes before stage 3 is passed over; by document 02, U4 it is kept and answered at
--- the second bell. Every list gives the bench that document 01 gives when each kept call is delivered once more right after its receiver's second bell.
+-- the second timeout. Every list gives the bench that document 01 gives when each kept call is delivered once more right after its receiver's second timeout.
 -- `as_document_01` in src/lib.rt has it as its contract.
 use Prim.Native.Nat.{ℕ}
 use mathlib.Core.Path.{_≡_}
@@ -33,7 +33,7 @@ isEarly b (Stop i) = false
 isEarly b (Save i) = false
 isEarly b (Restore i) = false
 
--- Document 01's bench: "Before stage 3 it is passed over." So none is kept, and a second bell answers nobody; in all else it steps as the bench does
+-- Document 01's bench: "Before stage 3 it is passed over." So none is kept, and a second timeout answers nobody; in all else it steps as the bench does
 unfoldable pub step01 : Bench → Event → Bench
 step01 b e = cond (isEarly b e) b (step b e)
 
@@ -41,9 +41,9 @@ unfoldable pub run01 : Bench → List Event → Bench
 run01 b [] = b
 run01 b (e ∷ es) = run01 (step01 b e) es
 
--- right after an accepted second bell, each call that was kept, in rising order of caller
-abbrev pub isSecondBell : Bench → ℕ → Bool
-isSecondBell b i = isAccepted (reply b (Timeout i)) && eqb (phase (controller b i)) 2
+-- right after an accepted second timeout, each call that was kept, in rising order of caller
+abbrev pub isSecondTimeout : Bench → ℕ → Bool
+isSecondTimeout b i = isAccepted (reply b (Timeout i)) && eqb (phase (controller b i)) 2
 
 abbrev pub keptCalls : Bench → ℕ → List Event
 keptCalls b i = map (λ j. Deliver j i Help) (members (b .shared .n) ((controller b i) .help .callers))
@@ -53,7 +53,7 @@ onceMore b (Lock n f) = []
 onceMore b (Order o) = []
 onceMore b (Cast i willing target) = []
 onceMore b (Deliver i j kind) = []
-onceMore b (Timeout i) = cond (isSecondBell b i) (keptCalls b i) []
+onceMore b (Timeout i) = cond (isSecondTimeout b i) (keptCalls b i) []
 onceMore b (Decide i move) = []
 onceMore b (Stop i) = []
 onceMore b (Save i) = []

@@ -17,8 +17,8 @@ drawn e s = record { event = e; state = s }
 abbrev pub controllerOf : ℕ → ℕ → ℕ
 controllerOf n s = 1 + s % n
 
-abbrev pub telegramKindOf : ℕ → Kind
-telegramKindOf s = kindOf (1 + s % 4)
+abbrev pub messageKindOf : ℕ → Kind
+messageKindOf s = kindOf (1 + s % 4)
 
 abbrev pub isMoveOf : ℕ → Bool
 isMoveOf s = flagOf (s % 2)
@@ -29,7 +29,7 @@ delivery n s =
     let a : ℕ = draw s in
     let b : ℕ = draw a in
     let c : ℕ = draw b in
-    drawn (Deliver (controllerOf n a) (controllerOf n b) (telegramKindOf c)) c
+    drawn (Deliver (controllerOf n a) (controllerOf n b) (messageKindOf c)) c
 
 unfoldable pub timeout : ℕ → ℕ → Drawn
 timeout n s = let a : ℕ = draw s in drawn (Timeout (controllerOf n a)) a

@@ -7,7 +7,7 @@ use records::kind_of;
 use xorshift::draw;
 ghost use mathlib.Core.Path.{_≡_};
 ghost use Prim.Native.Nat.{_<_};
-ghost use Rattle.generator.specs.Drawing.{controllerOf, telegramKindOf, isMoveOf, delivery, timeout, decision, interruption, interrupted, chosen, drawnEvent};
+ghost use Rattle.generator.specs.Drawing.{controllerOf, messageKindOf, isMoveOf, delivery, timeout, decision, interruption, interrupted, chosen, drawnEvent};
 
 fn controller_of(n: u8, s: u32) -> u8
     requires { ⌜ 0 < n ⌝ }
@@ -16,8 +16,8 @@ fn controller_of(n: u8, s: u32) -> u8
     1 + (s % n as u32) as u8
 }
 
-fn telegram_kind_of(s: u32) -> Kind
-    ensures { λ r. ⌜ r ≡ telegramKindOf s ⌝ }
+fn message_kind_of(s: u32) -> Kind
+    ensures { λ r. ⌜ r ≡ messageKindOf s ⌝ }
 {
     kind_of(1 + (s % 4) as u8)
 }
@@ -39,7 +39,7 @@ fn delivery(n: u8, s: u32) -> Drawn
     let event = Event::Deliver {
         from: controller_of(n, a),
         to: controller_of(n, b),
-        kind: telegram_kind_of(c),
+        kind: message_kind_of(c),
     };
     Drawn { event, state: c }
 }

@@ -13,7 +13,7 @@ fn bits_in_range(m: Message) -> bool
     ground::none_above(set.known, m.n) && ground::none_above(set.willing, m.n)
 }
 
-// Question 9: whom a sheet of that kind knows.
+// Question 9: whom a vote set of that kind knows.
 fn knows_for_kind(kind: Kind, from: u8, known: u32) -> bool
     ensures { λ r. ⌜ r ≡ knowsForKind kind from known ⌝ }
 {
@@ -25,7 +25,7 @@ fn knows_for_kind(kind: Kind, from: u8, known: u32) -> bool
     }
 }
 
-// Question 9: does the sheet suit the kind?
+// Question 9: does the vote set suit the kind?
 fn suits(m: Message) -> bool
     ensures { λ r. ⌜ r ≡ suits m ⌝ }
 {

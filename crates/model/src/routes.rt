@@ -40,7 +40,7 @@ fn help_route(f: u8, from: u8, to: u8) -> bool
     f < from && f < to
 }
 
-// May a telegram of this kind go from the one to the other?
+// May a message of this kind go from the one to the other?
 pub fn route(f: u8, kind: Kind, from: u8, to: u8) -> bool
     ensures { λ r. ⌜ r ≡ route f kind from to ⌝ }
 {

@@ -70,7 +70,7 @@ controller b i = (station b i) .controller
 abbrev pub sentBy : Bench → ℕ → Sent
 sentBy b i = (station b i) .sent
 
--- controller i as it is called; and the telegrams of one kind that a controller has sent, as a sheet and its receivers, and one of them
+-- controller i as it is called; and the messages of one kind that a controller has sent, as a vote set and its receivers, and one of them
 abbrev pub identity : Shared → ℕ → Identity
 identity m i = record { n = m .n; f = m .f; id = i; order = m .order }
 

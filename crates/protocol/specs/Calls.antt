@@ -42,7 +42,7 @@ arrives Ack n f from s c = ackArrives n f from s c
 arrives Help n f from s c = helpArrives from c
 arrives Helped n f from s c = helpedArrives n f from s c
 
--- a telegram arrives
+-- a message arrives
 unfoldable pub receive : Identity → Message → Controller → Answer
 receive me m c = cond (validIdentity me && runs c && addressed me m) (arrives (m .kind) (me .n) (me .f) (m .from) (m .votes) c) (passedOver c)
 
@@ -69,7 +69,7 @@ checkpointOf me c = record { id = me .id; n = me .n; f = me .f; outcome = outcom
 unfoldable pub save : Identity → Controller → Saved
 save me c = cond (runs c || standsBy c) (Newest (checkpointOf me c)) Nothing
 
--- what its answer says in document 01's terms: 0 and the card; or 15, "Is the condition right?", and none
+-- what its answer says in document 01's terms: 0 and the checkpoint; or 15, "Is the condition right?", and none
 abbrev pub savedNumber : Saved → ℕ
 savedNumber Nothing = 15
 savedNumber (Newest p) = 0

@@ -16,7 +16,7 @@ use Rattle.protocol.specs.declared.Bench.{Bench}
 use Rattle.protocol.specs.Benches.{newBench}
 use Rattle.protocol.specs.Questions.{accepted, isAccepted, reply}
 use Rattle.protocol.specs.Steps.{step, run}
-use Rattle.protocol.specs.Display.{shownOutcome, shownPosition, telegrams}
+use Rattle.protocol.specs.Display.{shownOutcome, shownPosition, messageCount}
 
 -- "The first goes to a new bench, without lock, order, telegrams, words or cards; each later one to the bench that the one before returned or left."
 -- "A moment is the time after any event of the list": a moment is the list up to there, and this is the bench at it.
@@ -70,7 +70,7 @@ abbrev pub Moves : List Event → Event → ℕ → Type 0
 Moves es e k = shownPosition (after (es ++ (e ∷ []))) k ≡ shownPosition (after es) k → ⊥
 
 module _ (n f : ℕ) where
-  -- "A second bell is the second accepted bell in the order of one of 1 to f + 1, the first of any other": an accepted bell of i after es is one
+  -- "A second bell is the second accepted bell in the order of one of 1 to f + 1, the first of any other": an accepted timeout of i after es is one
   abbrev pub IsSecondTimeout : List Event → ℕ → Type 0
   IsSecondTimeout es i = (suc f < i) ⊎ InOrder es (Timeout i)
 
@@ -129,4 +129,4 @@ pub record Demand3 : Type 0 where
   pub clean-stay : (es : List Event) (i : ℕ) → Accepted es (Timeout i) → IsSecondTimeout ((after es) .shared .n) ((after es) .shared .f) es i
       → Clean ((after es) .shared .n) ((after es) .shared .f) (es ++ (Timeout i ∷ [])) → OneUnwilling es → Holds (es ++ (Timeout i ∷ [])) i Stay
   -- "The bench program": "In any order, kinds 1 and 2 together are at most 2fn telegrams."
-  pub at-most-2fn : (es : List Event) → telegrams (after es) Vote + telegrams (after es) Ack ≤ 2 * ((after es) .shared .f * (after es) .shared .n)
+  pub at-most-2fn : (es : List Event) → messageCount (after es) Vote + messageCount (after es) Ack ≤ 2 * ((after es) .shared .f * (after es) .shared .n)

@@ -20,7 +20,7 @@ timeouts zero log = log
 timeouts (suc m) log = Timeout (suc m) ∷ timeouts m log
 
 module _ (n f : ℕ) where
-  -- every telegram of a kind is delivered: of sender i to 1..m; of the senders 1..m to all
+  -- every message of a kind is delivered: of sender i to 1..m; of the senders 1..m to all
   unfoldable pub deliveriesOf : Kind → ℕ → ℕ → List Event → List Event
   deliveriesOf kind i zero log = log
   deliveriesOf kind i (suc j) log = cond (route f kind i (suc j)) (Deliver i (suc j) kind ∷ deliveriesOf kind i j log) (deliveriesOf kind i j log)
@@ -29,7 +29,7 @@ module _ (n f : ℕ) where
   deliveries kind zero log = log
   deliveries kind (suc i) log = deliveriesOf kind (suc i) n (deliveries kind i log)
 
-  -- all vote, and every vote telegram is delivered; 1 to f + 1 have their first timeout, and every acknowledgement is delivered; all have their second timeout
+  -- all vote, and every vote message is delivered; 1 to f + 1 have their first timeout, and every acknowledgement is delivered; all have their second timeout
   unfoldable pub allVoted : (ℕ → Bool) → List Event
   allVoted w = deliveries Vote n (casts w n)
 

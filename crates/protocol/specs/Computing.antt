@@ -13,8 +13,8 @@ use Rattle.protocol.specs.Counts.{countsAfter}
 use Rattle.protocol.specs.Benches.{unsentAll, fresh, freshStation, benchOf, station, sentAfter}
 use Rattle.protocol.specs.Questions.{reply}
 use Rattle.protocol.specs.Steps.{renewed, orderOpened, proposedTo, decidedAs, stationAfter, answering, keeping, restoreFrom, answerTo, effect, perform, step, run}
-use Rattle.protocol.specs.Display.{sumTo, sentCount, telegrams}
+use Rattle.protocol.specs.Display.{sumTo, sentCount, messageCount}
 
 unfoldable pub wholeRun : Unit {0}
-unfolding run step perform effect answerTo answering stationAfter restoreFrom keeping decidedAs proposedTo orderOpened renewed countsAfter reply telegrams sentCount sumTo sentAfter station benchOf freshStation fresh unsentAll renew restore save checkpointOf stop decide awaitsDecision timeout receive arrives addressed vote validIdentity helpArrives keepsCall answersCall helpedArrives ackArrives secondTimeout callsHelp ready frozen helpVotes proposeIfSufficient answersJoin sufficient decides secondKnows backupsComplete ackJoin firstTimeout countOwn voteArrives voteRule verdict proposing becomes passedOver conclude propose await addCaller freeze keepHelped keepAck aim learn advance cleared firstNo unless recipients route helpRoute ackRoute voteRoute positionInRange isController sizesInRange joinAll put nth unanimous complete join single collect fullTo insert has countTo allTo
+unfolding run step perform effect answerTo answering stationAfter restoreFrom keeping decidedAs proposedTo orderOpened renewed countsAfter reply messageCount sentCount sumTo sentAfter station benchOf freshStation fresh unsentAll renew restore save checkpointOf stop decide awaitsDecision timeout receive arrives addressed vote validIdentity helpArrives keepsCall answersCall helpedArrives ackArrives secondTimeout callsHelp ready frozen helpVotes proposeIfSufficient answersJoin sufficient decides secondKnows backupsComplete ackJoin firstTimeout countOwn voteArrives voteRule verdict proposing becomes passedOver conclude propose await addCaller freeze keepHelped keepAck aim learn advance cleared firstNo unless recipients route helpRoute ackRoute voteRoute positionInRange isController sizesInRange joinAll put nth unanimous complete join single collect fullTo insert has countTo allTo
 wholeRun = tt

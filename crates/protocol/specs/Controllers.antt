@@ -120,7 +120,7 @@ cleared k c = blank k (c .acks .sets) (c .gate .position)
 unfoldable pub advance : Controller → ℕ → Controller
 advance c s = withCondition c (inPhase s (outcome c))
 
--- a sheet goes on its own
+-- a vote set goes on its own
 unfoldable pub learn : Controller → VoteSet → Controller
 learn c s = withVotes c (join (c .votes) s)
 
@@ -140,7 +140,7 @@ keepAck c j s = withAcks c (record { sets = put (c .acks .sets) j s; from = inse
 unfoldable pub keepHelped : Controller → ℕ → VoteSet → Controller
 keepHelped c j s = withHelped c (record { votes = join (c .helped .votes) s; from = insert (c .helped .from) j; «cnt_help» = record { 0 = bump (c .helped .«cnt_help» .0) } })
 
--- the help sheet is frozen; the calls kept remain, to be answered with it
+-- the help vote set is frozen; the calls kept remain, to be answered with it
 unfoldable pub freeze : Controller → VoteSet → Controller
 freeze c s = withHelp c (record { waiting = c .help .waiting; votes = s; callers = c .help .callers })
 

@@ -28,7 +28,7 @@ shownOutcome b i = outcome (controller b i)
 abbrev pub shownPosition : Bench → ℕ → ℕ
 shownPosition b i = (controller b i) .gate .position
 
--- the telegram of a kind from i to j was sent in this order (question 17)
+-- the message of a kind from i to j was sent in this order (question 17)
 abbrev pub WasSent : Bench → Kind → ℕ → ℕ → Type 0
 WasSent b kind i j = has ((ofKind kind (sentBy b i)) .to) j ≡ true
 
@@ -40,5 +40,5 @@ sumTo (suc m) g = g (suc m) + sumTo m g
 unfoldable pub sentCount : Bench → Kind → ℕ → ℕ
 sentCount b kind i = countTo (b .shared .n) (has ((ofKind kind (sentBy b i)) .to))
 
-unfoldable pub telegrams : Bench → Kind → ℕ
-telegrams b kind = sumTo (b .shared .n) (sentCount b kind)
+unfoldable pub messageCount : Bench → Kind → ℕ
+messageCount b kind = sumTo (b .shared .n) (sentCount b kind)

@@ -30,7 +30,7 @@ subject (Stop i) = i
 subject (Save i) = i
 subject (Restore i) = i
 
--- the controller whose telegram a delivery hands over; of any other event its subject
+-- the controller whose message a delivery hands over; of any other event its subject
 abbrev pub source : Event → ℕ
 source (Lock n f) = 0
 source (Order o) = 0
@@ -42,7 +42,7 @@ source (Stop i) = i
 source (Save i) = i
 source (Restore i) = i
 
--- to whom the source has sent telegrams of the kind that is delivered
+-- to whom the source has sent messages of the kind that is delivered
 abbrev pub receiversIn : Event → Sent → ℕ
 receiversIn (Lock n f) s = 0
 receiversIn (Order o) s = 0

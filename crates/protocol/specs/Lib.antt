@@ -1,4 +1,4 @@
--- document 01, "Words with values" (sheets: `votes`; numbers and routes: `model`) and "A controller's rules"
+-- document 01, "Words with values" (vote sets: `votes`; numbers and routes: `model`) and "A controller's rules"
 pub mod Controllers
 pub mod Rules
 pub mod Calls
@@ -15,10 +15,10 @@ pub mod Steps
 pub mod Display
 -- what a closed run goes through
 pub mod Computing
--- "The words of demand 3"; the telegrams of a clean order; that neither is empty
+-- "The words of demand 3"; the messages of a clean order; that neither is empty
 pub mod Claim
 pub mod CleanOrders
-pub mod CleanTelegrams
+pub mod CleanMessages
 pub mod NotHollow
 -- document 02, U5
 pub mod Termination

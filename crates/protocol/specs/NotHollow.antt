@@ -1,6 +1,6 @@
 -- THE CLAIM IS NOT HOLLOW: what Claim.antt says of clean orders is said of something. For every n and f that a lock accepts, and every controller of it,
--- there is a list with a clean order in which that controller's second bell comes next: one where all are willing, one where somebody is not.
--- Nor is CleanTelegrams.antt: for every n and f there is a clean order that has ended everywhere, willing and not.
+-- there is a list with a clean order in which that controller's second timeout comes next: one where all are willing, one where somebody is not.
+-- Nor is CleanMessages.antt: for every n and f there is a clean order that has ended everywhere, willing and not.
 -- `clean_orders_exist` in src/lib.rt has it as its contract; the proof is in proofs/.
 use Prim.Native.Nat.{ℕ, _≤_}
 use mathlib.Core.Path.{_≡_}
@@ -13,19 +13,19 @@ use Rattle.model.specs.declared.Event.{Event}
 use Rattle.model.specs.declared.Event.the-variants.{Timeout}
 use Rattle.protocol.specs.Claim.{after, Accepted, Holds, IsSecondTimeout, Clean, AllWilling, OneUnwilling}
 use Rattle.protocol.specs.CleanOrders.{cleanOrder}
-use Rattle.protocol.specs.CleanTelegrams.{CleanEnd}
+use Rattle.protocol.specs.CleanMessages.{CleanEnd}
 
--- a list of events, put to a new bench, that sets up a lock of n and f and ends just before a second bell of controller i in a clean order
+-- a list of events, put to a new bench, that sets up a lock of n and f and ends just before a second timeout of controller i in a clean order
 pub record CleanList (n f i : ℕ) : Type 0 where
   pub events : List Event
   pub lock-n : (after events) .shared .n ≡ n
   pub lock-f : (after events) .shared .f ≡ f
-  -- the bell of i is accepted there, it is a second bell, and right after it the order is clean
+  -- the timeout of i is accepted there, it is a second timeout, and right after it the order is clean
   pub timeout : Accepted events (Timeout i)
   pub second : IsSecondTimeout n f events i
   pub clean : Clean n f (events ++ (Timeout i ∷ []))
 
--- all are willing, and so, by demand 3, the bell leaves controller i holding Move
+-- all are willing, and so, by demand 3, the timeout leaves controller i holding Move
 pub record MoveList (n f i : ℕ) : Type 0 where
   pub list : CleanList n f i
   pub willing : AllWilling (list .events)

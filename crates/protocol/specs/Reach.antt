@@ -1,4 +1,4 @@
--- WHAT THE BENCH CAN REACH, over every list of events: stages, positions and sheets stay within document 01's "Words with values", and what a cabinet
+-- WHAT THE BENCH CAN REACH, over every list of events: stages, positions and vote sets stay within document 01's "Words with values", and what a cabinet
 -- sends or saves passes every question put to its record, so that it can be written, and is read back as it was.
 -- `reach` in src/lib.rt has it as its contract.
 use Prim.Native.Nat.{ℕ, _≤_, _<_, _^_}
@@ -32,7 +32,7 @@ use Rattle.protocol.specs.Claim.{after}
 abbrev pub Within : VoteSet → Type 0
 Within s = within (s .willing) (s .known) ≡ true
 
--- each sheet that a controller holds
+-- each vote set that a controller holds
 pub record HeldWithin (c : Controller) : Type 0 where
   pub own : Within (c .votes)
   pub acks : (j : ℕ) → hasAck c j ≡ true → Within (ackOf c j)
@@ -69,7 +69,7 @@ pub record Reach : Type 0 where
   -- "Positions are −20,000 to 20,000 mm"
   pub positions : (es : List Event) (i : ℕ) → positionInRange (shownPosition (after es) i) ≡ true
   pub vote-sets : (es : List Event) (i : ℕ) → HeldWithin (controller (after es) i)
-  -- every telegram sent, and every card kept, passes the questions of its record; a card is its own controller's
+  -- every message sent, and every checkpoint kept, passes the questions of its record; a checkpoint is its own controller's
   pub messages-pass : (es : List Event) (kind : Kind) (i j : ℕ) → WasSent (after es) kind i j → firstNo (aboutMessage (messageAt (after es) kind i j)) ≡ accepted
   pub checkpoints-pass : (es : List Event) (i : ℕ) (p : Checkpoint) → IsSaved (after es) i p → firstNo (aboutCheckpoint p) ≡ accepted
   pub checkpoints-own : (es : List Event) (i : ℕ) (p : Checkpoint) → IsSaved (after es) i p → p .id ≡ i

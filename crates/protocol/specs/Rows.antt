@@ -18,7 +18,7 @@ use Rattle.protocol.specs.Counts.{openGates}
 use Rattle.protocol.specs.Benches.{newBench, controller, identity}
 use Rattle.protocol.specs.Questions.{number, isAccepted, reply}
 use Rattle.protocol.specs.Steps.{sendsAt, step, run}
-use Rattle.protocol.specs.Display.{shownStage, shownOutcome, shownPosition, telegrams}
+use Rattle.protocol.specs.Display.{shownStage, shownOutcome, shownPosition, messageCount}
 
 -- a C line: "stage (8 stopped, 9 standing by), outcome (M, S, -), position"
 pub record Line : Type 0 where
@@ -43,7 +43,7 @@ pub record Trial : Type 0 where
   -- the C lines, from controller 1 on
   pub lines : List Line
   -- the T line: how many votes, acknowledgements, help calls and help answers were sent
-  pub telegrams : List ℕ
+  pub messageCounts : List ℕ
   -- the words put in this order
   pub words : List Outcome
   -- inside each controller, from 1 on
@@ -78,8 +78,8 @@ lineOf b i = record { stage = shownStage b i; outcome = shownOutcome b i; positi
 abbrev pub insideOf : Bench → ℕ → Inside
 insideOf b i = record { cnt = (controller b i) .acks .cnt .0; cnt-help = (controller b i) .helped .«cnt_help» .0; callers = members (b .shared .n) ((controller b i) .help .callers); waits = (controller b i) .help .waiting; proposal = (controller b i) .proposal }
 
-abbrev pub telegramsOf : Bench → List ℕ
-telegramsOf b = telegrams b Vote ∷ telegrams b Ack ∷ telegrams b Help ∷ telegrams b Helped ∷ []
+abbrev pub messageCountsOf : Bench → List ℕ
+messageCountsOf b = messageCount b Vote ∷ messageCount b Ack ∷ messageCount b Help ∷ messageCount b Helped ∷ []
 
 abbrev pub wordsIf : Bool → Bool → List Outcome
 wordsIf true true = Move ∷ Stay ∷ []
@@ -109,7 +109,7 @@ sameInside x y = eqb (x .cnt) (y .cnt) && eqb (x .cnt-help) (y .cnt-help) && sam
 -- what a bench shows is what the row says
 unfoldable pub shows : Bench → Trial → Bool
 shows b r = same sameLine (each (b .shared .n) (lineOf b)) (r .lines)
-    && same eqb (telegramsOf b) (r .telegrams)
+    && same eqb (messageCountsOf b) (r .messageCounts)
     && same sameOutcome (wordsPut (b .shared .consensus)) (r .words)
     && same sameInside (each (b .shared .n) (insideOf b)) (r .inside)
 

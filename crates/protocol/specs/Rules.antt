@@ -21,7 +21,7 @@ use Rattle.protocol.specs.declared.Sends.{Sends}
 use Rattle.protocol.specs.declared.Answer.{Answer}
 use Rattle.protocol.specs.Controllers.{phase, hasAck, ackOf, hasHelped, hasCalled, advance, learn, aim, keepAck, keepHelped, freeze, addCaller, await, propose, conclude}
 
--- what an answer may send: nothing; a vote; an acknowledgement; help calls and the help sheet, to be sent or to be held ready
+-- what an answer may send: nothing; a vote; an acknowledgement; help calls and the help vote set, to be sent or to be held ready
 abbrev pub nothing : Sends
 nothing = record { vote = Nothing; ack = Nothing; help = Nothing; helped = Nothing }
 
@@ -47,7 +47,7 @@ becomes c = record { taken = true; controller = c; sends = nothing; proposal = N
 unfoldable pub proposing : Answer → Outcome → Answer
 proposing a o = record { taken = a .taken; controller = propose (a .controller) o; sends = a .sends; proposal = o }
 
--- the word of a sheet
+-- the word of a vote set
 unfoldable pub verdict : ℕ → VoteSet → Outcome
 verdict n s = wordOf (unanimous n s)
 
@@ -102,7 +102,7 @@ unfoldable pub frozen : ℕ → Controller → Controller
 frozen n c = freeze (advance c 3) (helpVotes n c)
 
 -- Document 02, U4: a call kept is "answered at the second bell, after its own calls, in rising order of caller" (Sequence.antt has the sequence), whatever
--- comes of the bell. The help sheet s goes to those callers, and is ready from now on for those who call later: it is fixed, also if its owner stops.
+-- comes of the timeout. The help vote set s goes to those callers, and is ready from now on for those who call later: it is fixed, also if its owner stops.
 unfoldable pub ready : VoteSet → Controller → Answer
 ready s next = sending next (helps Nothing (To (next .help .callers) s))
 

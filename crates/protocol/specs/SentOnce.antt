@@ -1,4 +1,4 @@
--- T COUNTS SENDS, and what was sent stays what it was. `telegrams` (Display), which the T line shows, is the size of sets of receivers; that is the number of telegrams sent by the
+-- T COUNTS SENDS, and what was sent stays what it was. `messageCount` (Display), which the T line shows, is the size of sets of receivers; that is the number of messages sent by the
 -- rules, since none is sent twice in an order. Said of every list of events. `sent_once` in src/lib.rt has it as its contract.
 use Prim.Native.Nat.{ℕ, _+_}
 use mathlib.Core.Path.{_≡_}
@@ -21,10 +21,10 @@ use Rattle.protocol.specs.Benches.{newBench, sentBy, ofKind}
 use Rattle.protocol.specs.Events.{subject}
 use Rattle.protocol.specs.Questions.{isAccepted, reply}
 use Rattle.protocol.specs.Steps.{sendsAt, step}
-use Rattle.protocol.specs.Display.{WasSent, telegrams}
+use Rattle.protocol.specs.Display.{WasSent, messageCount}
 use Rattle.protocol.specs.Claim.{after, Accepted, SameOrder}
 
--- to whom an answer sends telegrams of a kind
+-- to whom an answer sends messages of a kind
 abbrev pub receiversOf : Send → ℕ
 receiversOf Nothing = 0
 receiversOf (To receivers votes) = receivers
@@ -71,6 +71,6 @@ pub record SentOnce : Type 0 where
   pub kept : (es more : List Event) (kind : Kind) (i j : ℕ) → SameOrder es more → WasSent (after es) kind i j
       → StaysSent kind i j (after es) (after (es ++ more))
   -- so the figures of the T line are the counts of the sends of the order's accepted events
-  pub counted : (es : List Event) (kind : Kind) → telegrams (after es) kind ≡ countSends kind newBench es 0
+  pub counted : (es : List Event) (kind : Kind) → messageCount (after es) kind ≡ countSends kind newBench es 0
   -- and each of these sends has one message among those of the answer (Sequence)
   pub listed : (me : Identity) (kind : Kind) (s : Send) → length (messagesOfKind me kind s) ≡ countTo (me .n) (has (receiversOf s))

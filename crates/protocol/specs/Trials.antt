@@ -41,7 +41,7 @@ calledBy who x = record { cnt = x .cnt; cnt-help = x .cnt-help; callers = who; w
 
 -- a row after which no word is put
 abbrev pub silent : List Event → List ℕ → List Line → List ℕ → List Inside → Trial
-silent events answers lines telegrams inside = record { events = events; answers = answers; lines = lines; telegrams = telegrams; words = []; inside = inside }
+silent events answers lines messageCounts inside = record { events = events; answers = answers; lines = lines; messageCounts = messageCounts; words = []; inside = inside }
 
 -- a position of −x mm: its two's complement in 32 bits; −250 is 4294967046
 abbrev pub minus : ℕ → ℕ
@@ -66,12 +66,12 @@ abbrev pub helped : List Event
 helped = Lock 3 1 ∷ Order 1 ∷ Cast 1 true 10 ∷ Cast 2 true 20 ∷ Cast 3 true 30 ∷ Deliver 2 1 Vote ∷ Deliver 3 1 Vote
     ∷ Timeout 1 ∷ Timeout 2 ∷ Timeout 2 ∷ Timeout 3 ∷ Deliver 3 2 Help ∷ Deliver 2 3 Helped ∷ []
 
--- as the listing, but without 1's acknowledgement to 2, which puts Move by its own sheet and is given it; then 2 is saved, stopped and restored
+-- as the listing, but without 1's acknowledgement to 2, which puts Move by its own vote set and is given it; then 2 is saved, stopped and restored
 abbrev pub restored : List Event
 restored = Lock 2 1 ∷ Order 1 ∷ Cast 1 true 500 ∷ Cast 2 true 250 ∷ Deliver 1 2 Vote ∷ Deliver 2 1 Vote ∷ Timeout 1 ∷ Timeout 2 ∷ Deliver 2 1 Ack
     ∷ Timeout 1 ∷ Timeout 2 ∷ Decide 2 true ∷ Save 2 ∷ Stop 2 ∷ Restore 2 ∷ []
 
--- document 02, U4: 3 calls while 2 has not voted yet; or where 2 will hold 1's full acknowledgement at its second bell
+-- document 02, U4: 3 calls while 2 has not voted yet; or where 2 will hold 1's full acknowledgement at its second timeout
 abbrev pub calling : List Event
 calling = Lock 3 1 ∷ Order 1 ∷ Cast 1 true 10 ∷ Cast 3 true 30 ∷ Timeout 3 ∷ []
 
@@ -79,7 +79,7 @@ abbrev pub decidesWithCall : List Event
 decidesWithCall = Lock 3 1 ∷ Order 1 ∷ Cast 1 true 10 ∷ Cast 2 true 20 ∷ Cast 3 true 30 ∷ Deliver 2 1 Vote ∷ Deliver 3 1 Vote ∷ Timeout 3 ∷ Timeout 1 ∷ Timeout 2
     ∷ Deliver 3 2 Help ∷ Deliver 1 2 Ack ∷ []
 
--- 4 calls 2, and 3 calls 2 after it; then 2's first bell
+-- 4 calls 2, and 3 calls 2 after it; then 2's first timeout
 abbrev pub twoCalling : List Event
 twoCalling = Lock 4 1 ∷ Order 1 ∷ Cast 3 true 30 ∷ Cast 4 true 40 ∷ Timeout 3 ∷ Timeout 4 ∷ Deliver 4 2 Help ∷ Deliver 3 2 Help ∷ Cast 2 true 20 ∷ Timeout 2 ∷ []
 
@@ -94,7 +94,7 @@ table =
       events = undelivered;
       answers = allAccepted 8;
       lines = C 3 None 0 ∷ C 3 None 0 ∷ [];
-      telegrams = T 2 2 0 0;
+      messageCounts = T 2 2 0 0;
       words = Stay ∷ [];
       inside = proposed Stay 1 0 ∷ proposed Stay 0 1 ∷ [];
     }
@@ -105,7 +105,7 @@ table =
       events = helped;
       answers = allAccepted 13;
       lines = C 2 None 0 ∷ C 3 None 0 ∷ C 3 None 0 ∷ [];
-      telegrams = T 3 3 2 1;
+      messageCounts = T 3 3 2 1;
       words = Stay ∷ [];
       inside = held 1 0 ∷ calledBy (3 ∷ []) (waits 0 1) ∷ proposed Stay 0 2 ∷ [];
     }
@@ -114,7 +114,7 @@ table =
       events = helped ++ (Deliver 1 2 Ack ∷ []);
       answers = allAccepted 14;
       lines = C 2 None 0 ∷ C 3 None 0 ∷ C 3 None 0 ∷ [];
-      telegrams = T 3 3 2 1;
+      messageCounts = T 3 3 2 1;
       words = Move ∷ Stay ∷ [];
       inside = held 1 0 ∷ calledBy (3 ∷ []) (proposed Move 1 1) ∷ proposed Stay 0 2 ∷ [];
     }
@@ -131,7 +131,7 @@ table =
       events = undelivered ++ (Decide 1 true ∷ Decide 1 false ∷ []);
       answers = allAccepted 8 ++ (18 ∷ 0 ∷ []);
       lines = C 3 Stay 0 ∷ C 3 None 0 ∷ [];
-      telegrams = T 2 2 0 0;
+      messageCounts = T 2 2 0 0;
       words = Stay ∷ [];
       inside = proposed Stay 1 0 ∷ proposed Stay 0 1 ∷ [];
     }
@@ -140,7 +140,7 @@ table =
       events = restored;
       answers = allAccepted 15;
       lines = C 3 Move 500 ∷ C 9 Move 250 ∷ [];
-      telegrams = T 2 2 0 0;
+      messageCounts = T 2 2 0 0;
       words = Move ∷ [];
       inside = held 2 0 ∷ held 0 0 ∷ [];
     }
@@ -159,25 +159,25 @@ table =
     -- Document 02, U4: "a call that comes before stage 3 is kept, one per caller, and answered at the second bell". Kept at stage 0:
     ∷ silent (calling ++ (Deliver 3 2 Help ∷ [])) (allAccepted 6) (C 1 None 0 ∷ C 0 None 0 ∷ C 3 None 0 ∷ []) (T 2 0 1 0)
     (held 0 0 ∷ calledBy (3 ∷ []) (held 0 0) ∷ waits 0 1 ∷ [])
-    -- and answered at the second bell, which waits
+    -- and answered at the second timeout, which waits
     ∷ silent (calling ++ (Deliver 3 2 Help ∷ Cast 2 true 20 ∷ Timeout 2 ∷ Timeout 2 ∷ [])) (allAccepted 9) (C 1 None 0 ∷ C 3 None 0 ∷ C 3 None 0 ∷ []) (T 3 1 2 1)
     (held 0 0 ∷ calledBy (3 ∷ []) (waits 0 1) ∷ waits 0 1 ∷ [])
     -- kept at stage 1:
     ∷ silent (calling ++ (Cast 2 true 20 ∷ Deliver 3 2 Help ∷ [])) (allAccepted 7) (C 1 None 0 ∷ C 1 None 0 ∷ C 3 None 0 ∷ []) (T 3 0 1 0)
     (held 0 0 ∷ calledBy (3 ∷ []) (held 0 0) ∷ waits 0 1 ∷ [])
-    -- and answered at the second bell, which puts a word
+    -- and answered at the second timeout, which puts a word
     ∷ record {
       events = calling ++ (Cast 2 true 20 ∷ Deliver 3 2 Help ∷ Timeout 1 ∷ Deliver 1 2 Ack ∷ Timeout 2 ∷ Timeout 2 ∷ []);
       answers = allAccepted 11;
       lines = C 2 None 0 ∷ C 3 None 0 ∷ C 3 None 0 ∷ [];
-      telegrams = T 3 3 1 1;
+      messageCounts = T 3 3 1 1;
       words = Stay ∷ [];
       inside = held 1 0 ∷ calledBy (3 ∷ []) (proposed Stay 1 0) ∷ waits 0 1 ∷ [];
     }
     -- kept at stage 2:
     ∷ silent decidesWithCall (allAccepted 12) (C 2 None 0 ∷ C 2 None 0 ∷ C 3 None 0 ∷ []) (T 3 3 1 0)
     (held 1 0 ∷ calledBy (3 ∷ []) (held 1 0) ∷ waits 0 1 ∷ [])
-    -- and answered at the second bell, which decides
+    -- and answered at the second timeout, which decides
     ∷ silent (decidesWithCall ++ (Timeout 2 ∷ [])) (allAccepted 13) (C 2 None 0 ∷ C 3 Move 20 ∷ C 3 None 0 ∷ []) (T 3 3 1 1)
     (held 1 0 ∷ calledBy (3 ∷ []) (held 1 0) ∷ waits 0 1 ∷ [])
     -- "one per caller": it comes three times, is kept once and answered once, and not again when it comes at stage 3
@@ -197,27 +197,27 @@ table =
     (allAccepted 21) (C 0 None 10 ∷ C 3 None 20 ∷ C 0 None 30 ∷ []) (T 1 1 1 0) (held 0 0 ∷ waits 0 1 ∷ held 0 0 ∷ [])
     ∷ []
 
--- a telegram of order 1
-abbrev pub telegram : ℕ → ℕ → Kind → ℕ → ℕ → ℕ → ℕ → Message
-telegram n f kind from to known willing = record { kind = kind; n = n; f = f; from = from; to = to; order = 1; votes = record { known = known; willing = willing } }
+-- a message of order 1
+abbrev pub message : ℕ → ℕ → Kind → ℕ → ℕ → ℕ → ℕ → Message
+message n f kind from to known willing = record { kind = kind; n = n; f = f; from = from; to = to; order = 1; votes = record { known = known; willing = willing } }
 
 unfoldable pub sequences : List SendTrial
 sequences =
-    -- the telegrams of a vote, and of a first bell
-    record { events = Lock 4 2 ∷ Order 1 ∷ []; last = Cast 1 true 10; messages = telegram 4 2 Vote 1 2 1 1 ∷ telegram 4 2 Vote 1 3 1 1 ∷ [] }
+    -- the messages of a vote, and of a first timeout
+    record { events = Lock 4 2 ∷ Order 1 ∷ []; last = Cast 1 true 10; messages = message 4 2 Vote 1 2 1 1 ∷ message 4 2 Vote 1 3 1 1 ∷ [] }
     ∷ record {
       events = Lock 4 2 ∷ Order 1 ∷ Cast 1 true 10 ∷ Cast 4 false 40 ∷ Deliver 4 1 Vote ∷ [];
       last = Timeout 1;
-      messages = telegram 4 2 Ack 1 2 9 1 ∷ telegram 4 2 Ack 1 3 9 1 ∷ telegram 4 2 Ack 1 4 9 1 ∷ [];
+      messages = message 4 2 Ack 1 2 9 1 ∷ message 4 2 Ack 1 3 9 1 ∷ message 4 2 Ack 1 4 9 1 ∷ [];
     }
     -- Document 02, U4: "answered at the second bell, after its own calls, in rising order of caller"
     ∷ record {
       events = twoCalling;
       last = Timeout 2;
-      messages = telegram 4 1 Help 2 3 0 0 ∷ telegram 4 1 Help 2 4 0 0 ∷ telegram 4 1 Helped 2 3 2 2 ∷ telegram 4 1 Helped 2 4 2 2 ∷ [];
+      messages = message 4 1 Help 2 3 0 0 ∷ message 4 1 Help 2 4 0 0 ∷ message 4 1 Helped 2 3 2 2 ∷ message 4 1 Helped 2 4 2 2 ∷ [];
     }
-    -- with the help sheet that is frozen at that bell
-    ∷ record { events = decidesWithCall; last = Timeout 2; messages = telegram 3 1 Helped 2 3 7 7 ∷ [] }
+    -- with the help vote set that is frozen at that timeout
+    ∷ record { events = decidesWithCall; last = Timeout 2; messages = message 3 1 Helped 2 3 7 7 ∷ [] }
     -- a call that is kept sends nothing, nor does one that was answered
     ∷ record { events = calling; last = Deliver 3 2 Help; messages = [] }
     ∷ record { events = decidesWithCall ++ (Timeout 2 ∷ []); last = Deliver 3 2 Help; messages = [] }

@@ -1,6 +1,6 @@
 // The state of the controllers and of the bench. The rules over it stand in specs/, and so does the claim about them.
 ghost use Rattle.protocol.specs.Claim.{Demand3};
-ghost use Rattle.protocol.specs.CleanTelegrams.{CleanTelegrams};
+ghost use Rattle.protocol.specs.CleanMessages.{CleanMessages};
 ghost use Rattle.protocol.specs.NotHollow.{NotHollow};
 ghost use Rattle.protocol.specs.OpenCount.{OpenCount};
 ghost use Rattle.protocol.specs.Reach.{Reach};
@@ -46,7 +46,7 @@ pub struct HelpAnswers {
     pub cnt_help: CntHelp,
 }
 
-// A controller's own help: does it wait for answers (it has called, and put no word yet); its help sheet, frozen at the second timeout; whose help
+// A controller's own help: does it wait for answers (it has called, and put no word yet); its help vote set, frozen at the second timeout; whose help
 // calls it has taken: before the second timeout they are kept, from then on they are answered.
 pub struct HelpState {
     pub waiting: bool,
@@ -62,7 +62,7 @@ pub struct Gate {
 
 pub struct Controller {
     pub condition: Condition,
-    // its own sheet
+    // its own vote set
     pub votes: VoteSet,
     pub acks: Acks,
     pub helped: HelpAnswers,
@@ -81,7 +81,7 @@ pub struct Identity {
     pub order: u32,
 }
 
-// What a call sends of one kind: nothing, or one sheet to a set of controllers.
+// What a call sends of one kind: nothing, or one vote set to a set of controllers.
 pub enum Send {
     Nothing,
     To(u32, VoteSet),
@@ -115,7 +115,7 @@ pub enum Saved {
     Newest(Checkpoint),
 }
 
-// A sheet, and to whom it was sent.
+// A vote set, and to whom it was sent.
 pub struct Outgoing {
     pub to: u32,
     pub votes: VoteSet,
@@ -167,7 +167,7 @@ pub struct Bench {
 }
 
 // What the questions of an event look at beside the event: what is shared; the condition of the controller that it concerns, and whether that has a
-// checkpoint; to whom the delivered telegram was sent; whether an order may be opened.
+// checkpoint; to whom the delivered message was sent; whether an order may be opened.
 pub struct Facts {
     pub shared: Shared,
     pub condition: Condition,
@@ -193,9 +193,9 @@ pub fn clean_orders_exist()
     ensures { λ _. ⌜ NotHollow ⌝ }
 {}
 
-// The telegrams of a clean order that has ended everywhere (document 02, U10): fn votes, fn acknowledgements, no help call, no answer.
-pub fn clean_telegrams()
-    ensures { λ _. ⌜ CleanTelegrams ⌝ }
+// The messages of a clean order that has ended everywhere (document 02, U10): fn votes, fn acknowledgements, no help call, no answer.
+pub fn clean_messages()
+    ensures { λ _. ⌜ CleanMessages ⌝ }
 {}
 
 // A running gate is never left waiting: document 02, U5, over every list of events, with lists that meet its premises and lists that lack one.
@@ -203,7 +203,7 @@ pub fn termination()
     ensures { λ _. ⌜ Termination ⌝ }
 {}
 
-// The T line counts the telegrams that were sent by the rules: none is sent twice in an order. What was sent stays, with its sheet, until the next
+// The T line counts the messages that were sent by the rules: none is sent twice in an order. What was sent stays, with its vote set, until the next
 // order; and the messages of an answer, which a cabinet sends one by one, are as many as it sends.
 pub fn sent_once()
     ensures { λ _. ⌜ SentOnce ⌝ }
@@ -214,7 +214,7 @@ pub fn open_count()
     ensures { λ _. ⌜ OpenCount ⌝ }
 {}
 
-// Stages, positions and sheets stay in range, and what is sent or saved passes the questions of its record and is read back as it was.
+// Stages, positions and vote sets stay in range, and what is sent or saved passes the questions of its record and is read back as it was.
 pub fn reach()
     ensures { λ _. ⌜ Reach ⌝ }
 {}

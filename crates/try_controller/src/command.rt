@@ -54,7 +54,7 @@ fn number(s: &[u8], i: usize) -> u32 {
     ((a * 256 + b) * 256 + c) * 256 + d
 }
 
-// Is this a command? A telegram has a kind from 1 to 4.
+// Is this a command? A message has a kind from 1 to 4.
 pub(crate) fn is_command(s: &[u8]) -> bool {
     let op = byte(s, 0);
     if op == 3 {

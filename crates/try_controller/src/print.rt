@@ -58,11 +58,11 @@ fn put_outcome(out: &mut [u8], at: usize, o: Outcome) -> usize {
 fn put_send(out: &mut [u8], at: usize, send: Send) -> usize {
     match send {
         Send::Nothing => put_outcome(out, at, Outcome::None),
-        Send::To(to, s) => put_sheet(out, at, to, s),
+        Send::To(to, s) => put_vote_set(out, at, to, s),
     }
 }
 
-fn put_sheet(out: &mut [u8], at: usize, to: u32, s: VoteSet) -> usize {
+fn put_vote_set(out: &mut [u8], at: usize, to: u32, s: VoteSet) -> usize {
     if to == 0 {
         return put_outcome(out, at, Outcome::None);
     }
@@ -123,14 +123,14 @@ fn put_checkpoint(out: &mut [u8], at: usize, saved: Saved) -> usize {
     }
 }
 
-// A space, then a telegram: its kind > its receiver.
+// A space, then a message: its kind > its receiver.
 fn put_message(out: &mut [u8], at: usize, m: Message) -> usize {
     let kind = m.kind;
     let next = put_number(out, at, b' ', kind_number(kind) as u32);
     put_number(out, next, b'>', m.to as u32)
 }
 
-// The telegrams of an answer, one by one as a cabinet sends them: at most four kinds to sixteen receivers.
+// The messages of an answer, one by one as a cabinet sends them: at most four kinds to sixteen receivers.
 fn put_messages(out: &mut [u8], at: usize, me: Identity, sends: Sends) -> usize {
     let mut next = at;
     let mut k: u8 = 0;

@@ -9,7 +9,7 @@ use Rattle.votes.specs.VoteSets.{joinAll}
 use Rattle.votes.specs.VoteLaws.{all-past}
 use Rattle.votes.specs.declared.VoteSet.{VoteSet}
 
--- the sheets of as many senders as the list has are those of all
+-- the vote sets of as many senders as the list has are those of all
 pub joined-all : (m n from : ℕ) (l : List VoteSet) → length l ≡ n → joinAll (min m n) from l ≡ joinAll m from l
 joined-all m n from l e = elim (decLe m n) [
   | yes h ↦ ap (λ (x : ℕ). joinAll x from l) (omega arith)

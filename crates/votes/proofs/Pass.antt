@@ -14,7 +14,7 @@ use Rattle.votes.specs.declared.VoteSet.{VoteSet}
 empty-join : (s : VoteSet) → join empty s ≡ s
 empty-join s = join-comm empty s ∙ join-empty s
 
--- from any sheet on, the pass gives the answers of its join with the rest
+-- from any vote set on, the pass gives the answers of its join with the rest
 from-any : (n : ℕ) (joined : VoteSet) (sets : List VoteSet) → tallyFrom n joined sets ≡ tallyOf n (join joined (joinList sets))
 unfolding tallyFrom joinList
 from-any n joined [] = ap (tallyOf n) (sym (join-empty joined))
@@ -33,7 +33,7 @@ one-set : (s : VoteSet) → joinList (s ∷ []) ≡ s
 unfolding joinList
 one-set s = join-empty s
 
--- the join of the sheets of a set of senders is that of their list
+-- the join of the vote sets of a set of senders is that of their list
 senders : (m from : ℕ) (l : List VoteSet) → joinList (setsOf m from l) ≡ joinAll m from l
 unfolding setsOf joinAll joinList
 senders zero from l = refl

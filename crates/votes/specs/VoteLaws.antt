@@ -30,7 +30,7 @@ both s t p q = λ i. record { known = p i; willing = q i }
 pub same-votes : (s t : VoteSet) → ((k : ℕ) → knows s k ≡ knows t k) → ((k : ℕ) → wills s k ≡ wills t k) → s ≡ t
 same-votes s t p q = both s t (same-set (s .known) (t .known) p) (same-set (s .willing) (t .willing) q)
 
--- the sheet of one vote knows the one who cast it
+-- the vote set of one vote knows the one who cast it
 pub single-knows : (i : ℕ) (willing : Bool) (k : ℕ) → 1 ≤ i → i ≤ width → knows (single i willing) k ≡ eqb k i
 unfolding single upd
 single-knows i willing k a b = has-insert 0 i k a b ∙ rw (has-none k) (alone (eqb k i))
@@ -53,11 +53,11 @@ join-knows = on-join known-half
 pub join-wills : (s t : VoteSet) (k : ℕ) → wills (join s t) k ≡ (wills s k || wills t k)
 join-wills = on-join willing-half
 
--- the join of many knows whom some sender's sheet knows
+-- the join of many knows whom some sender's vote set knows
 pub all-knows : (m from : ℕ) (l : List VoteSet) (k : ℕ) → knows (joinAll m from l) k ≡ anyTo m (λ j. has from j && knows (nth empty l j) k)
 all-knows = on-all known-half
 
--- and has as willing whom some sender's sheet has
+-- and has as willing whom some sender's vote set has
 pub all-wills : (m from : ℕ) (l : List VoteSet) (k : ℕ) → wills (joinAll m from l) k ≡ anyTo m (λ j. has from j && wills (nth empty l j) k)
 all-wills = on-all willing-half
 
@@ -153,21 +153,21 @@ join-unanimous-r n s t e = rw (join-comm s t) (join-unanimous n t s e)
 -- joins of many ----------------------------------------------------------------------------
 
 module _ (m from : ℕ) (l : List VoteSet) where
-  -- what one sender's sheet knows, the join of all knows
+  -- what one sender's vote set knows, the join of all knows
   pub knows-in-all : (j : ℕ) → 1 ≤ j → j ≤ m → has from j ≡ true → (k : ℕ) → knows (nth empty l j) k ≡ true → knows (joinAll m from l) k ≡ true
   knows-in-all = in-all known-half m from l
 
   pub wills-in-all : (j : ℕ) → 1 ≤ j → j ≤ m → has from j ≡ true → (k : ℕ) → wills (nth empty l j) k ≡ true → wills (joinAll m from l) k ≡ true
   wills-in-all = in-all willing-half m from l
 
-  -- what the join of all knows, some sender's sheet knows
+  -- what the join of all knows, some sender's vote set knows
   pub all-known-by : (k : ℕ) → knows (joinAll m from l) k ≡ true → Found m (λ j. has from j && knows (nth empty l j) k)
   all-known-by = on-all-by known-half m from l
 
   pub all-willed-by : (k : ℕ) → wills (joinAll m from l) k ≡ true → Found m (λ j. has from j && wills (nth empty l j) k)
   all-willed-by = on-all-by willing-half m from l
 
-  -- the join is complete, or unanimous, where one sender's sheet is
+  -- the join is complete, or unanimous, where one sender's vote set is
   pub all-complete : (n j : ℕ) → 1 ≤ j → j ≤ m → has from j ≡ true → complete n (nth empty l j) ≡ true → complete n (joinAll m from l) ≡ true
   all-complete n j a b p e = knows-complete n (joinAll m from l) (λ k x y. knows-in-all j a b p k (complete-knows n (nth empty l j) e k x y))
 
@@ -177,11 +177,11 @@ module _ (m from : ℕ) (l : List VoteSet) where
       (λ k x y. knows-in-all j a b p k (unanimous-known n (nth empty l j) e k x y))
       (λ k x y. wills-in-all j a b p k (unanimous-willing n (nth empty l j) e k x y))
 
-  -- to join a sheet that is among them already changes nothing
+  -- to join a vote set that is among them already changes nothing
   pub all-again : (j : ℕ) → 1 ≤ j → j ≤ m → has from j ≡ true → join (joinAll m from l) (nth empty l j) ≡ joinAll m from l
   all-again j a b p = both (join (joinAll m from l) (nth empty l j)) (joinAll m from l) (again known-half m from l j a b p) (again willing-half m from l j a b p)
 
--- The join depends only on which sheets are joined: not on their order, on who sent them or on how many sent the same.
+-- The join depends only on which vote sets are joined: not on their order, on who sent them or on how many sent the same.
 pub all-same : (m from : ℕ) (l : List VoteSet) (m′ from′ : ℕ) (l′ : List VoteSet)
     → ((s : VoteSet) → Among m from l s → Among m′ from′ l′ s)
     → ((s : VoteSet) → Among m′ from′ l′ s → Among m from l s)
@@ -189,7 +189,7 @@ pub all-same : (m from : ℕ) (l : List VoteSet) (m′ from′ : ℕ) (l′ : Li
 all-same m from l m′ from′ l′ f g =
     both (joinAll m from l) (joinAll m′ from′ l′) (same-sets known-half m from l m′ from′ l′ f g) (same-sets willing-half m from l m′ from′ l′ f g)
 
--- a sender's first sheet joins those that are there
+-- a sender's first vote set joins those that are there
 pub all-new : (m from : ℕ) (l : List VoteSet) (j : ℕ) (s : VoteSet) → 1 ≤ j → j ≤ m → j ≤ width → j ≤ length l → has from j ≡ false
     → joinAll m (insert from j) (put l j s) ≡ join (joinAll m from l) s
 all-new m from l j s a b w y e =
@@ -216,7 +216,7 @@ all-past m n from l h k = let e : m ≡ (m - n) + n = omega arith in ap (λ (x :
 
 -- "willing (within known)" ---------------------------------------------------------------------
 
--- the sheet of one vote has it so
+-- the vote set of one vote has it so
 pub single-within : (i : ℕ) (willing : Bool) → within (single i willing .willing) (single i willing .known) ≡ true
 unfolding single
 single-within i true = has-within (insert 0 i) (insert 0 i) (λ k e. e)
@@ -255,7 +255,7 @@ willing-unanimous n s w =
 
 -- "No bit above n" (of willing it follows by `within-none-above`) ----------------------------------
 
--- the sheet of one vote of 1..n has none
+-- the vote set of one vote of 1..n has none
 pub single-none-above : (n i : ℕ) (willing : Bool) → i ≤ n → noneAbove n (single i willing .known) ≡ true
 unfolding single
 single-none-above n i willing h = insert-none-above n 0 i h (le-none-above n 0 (λ k e. absurd (no-both (has 0 k) e (has-none k))))

@@ -15,20 +15,20 @@ mod tallies;
 pub use tallies::one_pass;
 pub use tallies::tally_all;
 
-// A sheet: the controllers whose vote is known, and those of them known to be willing. Bit k - 1 is controller k.
+// A vote set: the controllers whose vote is known, and those of them known to be willing. Bit k - 1 is controller k.
 pub struct VoteSet {
     pub known: u32,
     pub willing: u32,
 }
 
-// What one pass over sheets gives: their join, whether it is complete, and whether it is unanimous.
+// What one pass over vote sets gives: their join, whether it is complete, and whether it is unanimous.
 pub struct Tally {
     pub votes: VoteSet,
     pub complete: bool,
     pub unanimous: bool,
 }
 
-// The sheet that knows nobody.
+// The vote set that knows nobody.
 pub fn empty_set() -> VoteSet
     ensures { λ r. ⌜ r ≡ empty ⌝ }
 {
@@ -38,7 +38,7 @@ pub fn empty_set() -> VoteSet
     }
 }
 
-// The sheet of one vote.
+// The vote set of one vote.
 pub fn single(k: u8, willing: bool) -> VoteSet
     ensures { λ r. ⌜ r ≡ single k willing ⌝ }
 {
@@ -52,7 +52,7 @@ pub fn single(k: u8, willing: bool) -> VoteSet
     VoteSet { known, willing: 0 }
 }
 
-// What either of two sheets knows.
+// What either of two vote sets knows.
 pub fn join(s: VoteSet, t: VoteSet) -> VoteSet
     ensures { λ r. ⌜ r ≡ join s t ⌝ }
 {
@@ -79,7 +79,7 @@ pub fn unanimous(s: VoteSet, n: u8) -> bool
     false
 }
 
-// The join of the sheets of those senders of 1..m that are in a set. Only as many as the limit have a sheet.
+// The join of the vote sets of those senders of 1..m that are in a set. Only as many as the limit have a vote set.
 pub fn join_all(m: u8, from: u32, sets: [VoteSet; LIMIT]) -> VoteSet
     ensures { λ r. ⌜ r ≡ joinAll m from sets ⌝ }
 {
@@ -105,7 +105,7 @@ fn up_to_limit(m: u8) -> u8
     LIMIT as u8
 }
 
-// The sheet joined with that of sender k, if k is in the set.
+// The vote set joined with that of sender k, if k is in the set.
 fn join_if(joined: VoteSet, s: VoteSet, from: u32, k: u8) -> VoteSet
     ensures { λ r. ⌜ r ≡ cond (has from k) (join joined s) joined ⌝ }
 {

@@ -11,8 +11,8 @@ put-answers-requires c κs = search needs
 put-controllers-requires : tie.Need-put-controllers-requires
 put-controllers-requires c κs = search needs
 
-put-telegrams-requires : tie.Need-put-telegrams-requires
-put-telegrams-requires c κs = search needs
+put-messages-requires : tie.Need-put-messages-requires
+put-messages-requires c κs = search needs
 
 returns : tie.Need-returns
 unfolding reportOf
@@ -20,7 +20,7 @@ returns c =
     let third = c .before .before in
     let second = third .before .before .before .before in
     let first = second .before .before .before .before in
-    put-then (put-then (first .put-answers .ensures) (second .put-controllers .ensures)) (third .put-telegrams .ensures)
+    put-then (put-then (first .put-answers .ensures) (second .put-controllers .ensures)) (third .put-messages .ensures)
 
 same-length : tie.Need-same-length
 same-length c = put-length (returns c)
@@ -31,6 +31,6 @@ put-report-spec =
     (tie.spec
     put-answers-requires
     put-controllers-requires
-    put-telegrams-requires
+    put-messages-requires
     same-length
     returns)

@@ -7,12 +7,12 @@ use Rattle.bench_summary.proofs.summary_of.Tie as tie
 rows-of-requires : tie.Need-rows-of-requires
 rows-of-requires c κs = search needs
 
-telegrams-of-requires : tie.Need-telegrams-of-requires
-telegrams-of-requires c κs = search needs
+message-counts-of-requires : tie.Need-message-counts-of-requires
+message-counts-of-requires c κs = search needs
 
 returns : tie.Need-returns
 unfolding summaryOf
-returns c = simp (c .telegrams-of .ensures, c .before .rows-of .ensures)
+returns c = simp (c .message-counts-of .ensures, c .before .rows-of .ensures)
 
 pub summary-of-spec : {M : Type 1} → statement M
-summary-of-spec = tie.close (tie.spec rows-of-requires telegrams-of-requires returns)
+summary-of-spec = tie.close (tie.spec rows-of-requires message-counts-of-requires returns)

@@ -1,4 +1,4 @@
--- Kinds 1 and 2 together are at most 2fn telegrams in any order: what was sent lies within the routes.
+-- Kinds 1 and 2 together are at most 2fn messages in any order: what was sent lies within the routes.
 use Prim.Native.Nat.{ℕ, zero, suc, _+_, _*_, _-_, _≤_, _<_}
 use mathlib.Core.Path.{_≡_, sym, _∙_}
 use mathlib.Core.Bool.{Bool, true, false, not, _&&_}
@@ -17,7 +17,7 @@ use Rattle.model.specs.Routes.{voteRoute, ackRoute}
 use Rattle.model.specs.declared.Kind.the-variants.{Vote, Ack}
 use Rattle.protocol.specs.declared.Bench.{Bench}
 use Rattle.protocol.specs.Benches.{sentBy}
-use Rattle.protocol.specs.Display.{sumTo, sentCount, telegrams}
+use Rattle.protocol.specs.Display.{sumTo, sentCount, messageCount}
 use Rattle.protocol.proofs.invariant.Invariant.{Inv}
 use Rattle.protocol.proofs.view.Simulation.{view}
 
@@ -114,8 +114,8 @@ module _ (n f : ℕ) where
         let z : sumTo m g ≤ f * n = acks-sum l g h m (omega arith) in omega arith
   ]
 
-pub sent-bound : (b : Bench) → b .shared .f < b .shared .n → Inv (b .shared .n) (b .shared .f) (view b) → telegrams b Vote + telegrams b Ack ≤ 2 * (b .shared .f * b .shared .n)
-unfolding telegrams sentCount view
+pub sent-bound : (b : Bench) → b .shared .f < b .shared .n → Inv (b .shared .n) (b .shared .f) (view b) → messageCount b Vote + messageCount b Ack ≤ 2 * (b .shared .f * b .shared .n)
+unfolding messageCount sentCount view
 sent-bound b l inv =
     let x : sumTo (b .shared .n) (λ i. countTo (b .shared .n) (has ((sentBy b i) .vote .to))) ≤ b .shared .n * b .shared .f = votes-sum (b .shared .n) (b .shared .f) _ (λ i. count-mono (b .shared .n) (has ((sentBy b i) .vote .to)) (voteRoute (b .shared .f) i) (λ j e. inv .lines i .vote-to j e .1)) (b .shared .n) (omega arith) in
     let y : sumTo (b .shared .n) (λ i. countTo (b .shared .n) (has ((sentBy b i) .ack .to))) ≤ b .shared .f * b .shared .n = acks-sum (b .shared .n) (b .shared .f) l _ (λ i. count-mono (b .shared .n) (has ((sentBy b i) .ack .to)) (ackRoute (b .shared .f) i) (λ j e. inv .lines i .ack-to j e .1)) (b .shared .n) l in

@@ -27,7 +27,7 @@ use Rattle.protocol.specs.Benches.{newBench, benchOf, unsentAll, station
 use Rattle.protocol.specs.Events.{subject, source, concernsOne}
 use Rattle.protocol.specs.Questions.{accepted, isAccepted, reply}
 use Rattle.protocol.specs.Steps.{answerTo, perform, step, run, renewed}
-use Rattle.protocol.specs.Display.{WasSent, sumTo, sentCount, telegrams}
+use Rattle.protocol.specs.Display.{WasSent, sumTo, sentCount, messageCount}
 use Rattle.protocol.specs.Claim.{after, opensOrder, opensAny}
 use Rattle.protocol.specs.SentOnce.{receiversOf, sendOf, receiversAt, sendCount, countAccepted, countSends, StaysSent, SentOnce}
 use Rattle.protocol.proofs.view.View.{View, openedV, accepts}
@@ -36,7 +36,7 @@ use Rattle.protocol.proofs.view.Simulation.{view, reply-sim, step-steps
 use Rattle.protocol.proofs.invariant.Arrivals.{count-zero}
 use Rattle.protocol.proofs.claim.Moments.{accepted-is, lock-refused, run-append, or-false-l, or-false-r}
 use Rattle.protocol.proofs.claim.Start.{unlocked, freshes}
-use Rattle.protocol.proofs.claim.Sends.{Stays, New, rule-new, telegramsV, commit-counted, commit-kept}
+use Rattle.protocol.proofs.claim.Sends.{Stays, New, rule-new, messageCountV, commit-counted, commit-kept}
 use Rattle.protocol.proofs.claim.Reach.{Alive, Reached, step-reached, reached}
 
 -- a bench on which nothing was sent
@@ -55,16 +55,16 @@ unsent-kind Helped = refl
 unsent-size : (n : ℕ) (kind : Kind) (l : Sent) → l ≡ unsentAll → countTo n (has ((ofKind kind l) .to)) ≡ 0
 unsent-size n kind l e = ap (λ (x : Sent). countTo n (has ((ofKind kind x) .to))) e ∙ ap (λ (m : ℕ). countTo n (has m)) (unsent-kind kind) ∙ count-zero n
 
-silent : (kind : Kind) (b : Bench) → ((k : ℕ) → sentBy b k ≡ unsentAll) → telegrams b kind ≡ 0
-unfolding telegrams sentCount
+silent : (kind : Kind) (b : Bench) → ((k : ℕ) → sentBy b k ≡ unsentAll) → messageCount b kind ≡ 0
+unfolding messageCount sentCount
 silent kind b h = sum-zero (b .shared .n) _ (λ k. unsent-size (b .shared .n) kind (sentBy b k) (h k))
 
-pub fresh-silent : (kind : Kind) (locked : Bool) (n f : ℕ) → telegrams (benchOf locked n f) kind ≡ 0
+pub fresh-silent : (kind : Kind) (locked : Bool) (n f : ℕ) → messageCount (benchOf locked n f) kind ≡ 0
 fresh-silent kind locked n f = silent kind (benchOf locked n f) (λ k. freshes locked n f k .sent)
 
--- telegrams, of the view
-as-view : (b : Bench) (n f : ℕ) (kind : Kind) → b .shared .n ≡ n → telegrams b kind ≡ telegramsV n f (view b) kind
-unfolding telegrams sentCount view
+-- messages, of the view
+as-view : (b : Bench) (n f : ℕ) (kind : Kind) → b .shared .n ≡ n → messageCount b kind ≡ messageCountV n f (view b) kind
+unfolding messageCount sentCount view
 as-view b n f kind e = ap (λ (m : ℕ). sumTo m (λ i. countTo m (has ((ofKind kind (sentBy b i)) .to)))) e
 
 module _ (b : Bench) (a : Alive b) where
@@ -89,23 +89,23 @@ module _ (b : Bench) (a : Alive b) where
     abbrev sends : Answer → ℕ
     sends x = countTo n (has (receiversOf (sendOf kind (x .sends))))
 
-    after-view : telegrams (step b e) kind ≡ telegramsV n f (performV n f (view b) e) kind
-    after-view = as-view (step b e) n f kind (step-steps b (a .sound) e .same-n) ∙ ap (λ (v : View). telegramsV n f v kind) (step-sim b (a .sound) e ∙ stepped)
+    after-view : messageCount (step b e) kind ≡ messageCountV n f (performV n f (view b) e) kind
+    after-view = as-view (step b e) n f kind (step-steps b (a .sound) e .same-n) ∙ ap (λ (v : View). messageCountV n f v kind) (step-sim b (a .sound) e ∙ stepped)
       where
         stepped : stepV n f (view b) e ≡ performV n f (view b) e
         stepped = unfold stepV in rw q
 
-    by-rule : telegramsV n f (view b) kind + sends (ruleAnswer n f (view b) e) ≡ telegrams b kind + sendCount b e kind
-    by-rule = rw (as-view b n f kind refl) (ap (λ (x : Answer). telegramsV n f (view b) kind + sends x) (sym (rule-sim e q)))
+    by-rule : messageCountV n f (view b) kind + sends (ruleAnswer n f (view b) e) ≡ messageCount b kind + sendCount b e kind
+    by-rule = rw (as-view b n f kind refl) (ap (λ (x : Answer). messageCountV n f (view b) kind + sends x) (sym (rule-sim e q)))
 
-    counted-by : telegramsV n f (performV n f (view b) e) kind ≡ telegramsV n f (view b) kind + sends (ruleAnswer n f (view b) e) → telegrams (step b e) kind ≡ telegrams b kind + sendCount b e kind
+    counted-by : messageCountV n f (performV n f (view b) e) kind ≡ messageCountV n f (view b) kind + sends (ruleAnswer n f (view b) e) → messageCount (step b e) kind ≡ messageCount b kind + sendCount b e kind
     counted-by h = after-view ∙ h ∙ by-rule
 
   committed : (kind : Kind) (e : Event) → concernsOne e ≡ true → accepts n f (view b) e ≡ true
-      → telegramsV n f (commitV (view b) (subject e) (ruleAnswer n f (view b) e)) kind ≡ telegramsV n f (view b) kind + countTo n (has (receiversOf (sendOf kind ((ruleAnswer n f (view b) e) .sends))))
+      → messageCountV n f (commitV (view b) (subject e) (ruleAnswer n f (view b) e)) kind ≡ messageCountV n f (view b) kind + countTo n (has (receiversOf (sendOf kind ((ruleAnswer n f (view b) e) .sends))))
   committed kind e c q = let p : (1 ≤ subject e) × (subject e ≤ n) = place n f (view b) e c q in commit-counted n f (view b) (subject e) (ruleAnswer n f (view b) e) kind (p .0) (p .1) (rule-new n f (view b) (a .inv) e q)
 
-  step-counted : (kind : Kind) (e : Event) → accepts n f (view b) e ≡ true → telegrams (step b e) kind ≡ countAccepted kind b e (telegrams b kind)
+  step-counted : (kind : Kind) (e : Event) → accepts n f (view b) e ≡ true → messageCount (step b e) kind ≡ countAccepted kind b e (messageCount b kind)
   step-counted kind (Lock x y) q = absurd (no-both _ (reply-sim b (a .sound) (Lock x y) ∙ q) (lock-refused b x y (a .sound .locked)))
   step-counted kind (Order o) q = after-view kind (Order o) q ∙ sum-zero n (λ k. countTo n (has ((ofKind kind ((performV n f (view b) (Order o)) .state .sent k)) .to)))
       (λ k. unsent-size n kind ((performV n f (view b) (Order o)) .state .sent k) (unfold performV openedV renewed in refl))
@@ -116,7 +116,7 @@ module _ (b : Bench) (a : Alive b) where
   step-counted kind (Stop i) q = counted-by kind (Stop i) q (unfold performV ruleAnswer in committed kind (Stop i) refl q)
   step-counted kind (Save i) q = counted-by kind (Save i) q (unfold performV savedV ruleAnswer passedOver in saves kind)
     where
-      saves : (kind : Kind) → telegramsV n f (view b) kind ≡ telegramsV n f (view b) kind + countTo n (has (receiversOf (sendOf kind (record { vote = Nothing; ack = Nothing; help = Nothing; helped = Nothing }))))
+      saves : (kind : Kind) → messageCountV n f (view b) kind ≡ messageCountV n f (view b) kind + countTo n (has (receiversOf (sendOf kind (record { vote = Nothing; ack = Nothing; help = Nothing; helped = Nothing }))))
       saves Vote = let z : countTo n (has 0) ≡ 0 = count-zero n in omega arith
       saves Ack = let z : countTo n (has 0) ≡ 0 = count-zero n in omega arith
       saves Help = let z : countTo n (has 0) ≡ 0 = count-zero n in omega arith
@@ -144,8 +144,8 @@ module _ (b : Bench) (a : Alive b) where
       stepped = unfold stepV in rw q
 
 -- from the new bench the lock alone is accepted, and nothing is sent
-new-counted : (kind : Kind) (e : Event) → isAccepted (reply newBench e) ≡ true → telegrams (step newBench e) kind ≡ countAccepted kind newBench e (telegrams newBench kind)
-new-counted kind (Lock n f) q = ap (λ (b : Bench). telegrams b kind) locks ∙ fresh-silent kind true n f
+new-counted : (kind : Kind) (e : Event) → isAccepted (reply newBench e) ≡ true → messageCount (step newBench e) kind ≡ countAccepted kind newBench e (messageCount newBench kind)
+new-counted kind (Lock n f) q = ap (λ (b : Bench). messageCount b kind) locks ∙ fresh-silent kind true n f
   where
     locks : step newBench (Lock n f) ≡ benchOf true n f
     locks = unfold step perform in rw q
@@ -158,22 +158,22 @@ new-counted kind (Stop i) q = absurd (no-both _ q (unlocked (Stop i) tt))
 new-counted kind (Save i) q = absurd (no-both _ q (unlocked (Save i) tt))
 new-counted kind (Restore i) q = absurd (no-both _ q (unlocked (Restore i) tt))
 
-accepted-counted : (kind : Kind) (b : Bench) (e : Event) → Reached b → isAccepted (reply b e) ≡ true → telegrams (step b e) kind ≡ countAccepted kind b e (telegrams b kind)
-accepted-counted kind b e (inl z) q = subst (λ (x : Bench). telegrams (step x e) kind ≡ countAccepted kind x e (telegrams x kind)) (sym z) (new-counted kind e (ap (λ (x : Bench). isAccepted (reply x e)) (sym z) ∙ q))
+accepted-counted : (kind : Kind) (b : Bench) (e : Event) → Reached b → isAccepted (reply b e) ≡ true → messageCount (step b e) kind ≡ countAccepted kind b e (messageCount b kind)
+accepted-counted kind b e (inl z) q = subst (λ (x : Bench). messageCount (step x e) kind ≡ countAccepted kind x e (messageCount x kind)) (sym z) (new-counted kind e (ap (λ (x : Bench). isAccepted (reply x e)) (sym z) ∙ q))
 accepted-counted kind b e (inr a) q = step-counted b a kind e (sym (reply-sim b (a .sound) e) ∙ q)
 
 refused-step : (b : Bench) (e : Event) → isAccepted (reply b e) ≡ false → step b e ≡ b
 refused-step b e q = unfold step in rw q
 
-run-counted : (kind : Kind) (es : List Event) (b : Bench) → Reached b → telegrams (run b es) kind ≡ countSends kind b es (telegrams b kind)
+run-counted : (kind : Kind) (es : List Event) (b : Bench) → Reached b → messageCount (run b es) kind ≡ countSends kind b es (messageCount b kind)
 unfolding run countSends
 run-counted kind [] b r = refl
 run-counted kind (e ∷ es) b r = run-counted kind es (step b e) (step-reached b e r) ∙ ap (countSends kind (step b e) es) now
   where
-    now : telegrams (step b e) kind ≡ cond (isAccepted (reply b e)) (countAccepted kind b e (telegrams b kind)) (telegrams b kind)
+    now : messageCount (step b e) kind ≡ cond (isAccepted (reply b e)) (countAccepted kind b e (messageCount b kind)) (messageCount b kind)
     now = elim (split (isAccepted (reply b e))) [
       | inl q ↦ rw q (accepted-counted kind b e r q)
-      | inr q ↦ rw q (ap (λ (x : Bench). telegrams x kind) (refused-step b e q))
+      | inr q ↦ rw q (ap (λ (x : Bench). messageCount x kind) (refused-step b e q))
     ]
 
 once-at : (b : Bench) (e : Event) (kind : Kind) (j : ℕ) → Reached b → reply b e ≡ accepted → has (receiversAt b e kind) j ≡ true → has ((ofKind kind (sentBy b (subject e))) .to) j ≡ false

@@ -19,9 +19,9 @@ use Rattle.model.specs.declared.Kind.the-variants.{Vote, Ack, Help, Helped}
 use Rattle.model.specs.declared.Event.{Event}
 use Rattle.protocol.specs.declared.Bench.{Bench}
 use Rattle.protocol.specs.Benches.{benchOf, sentBy}
-use Rattle.protocol.specs.Display.{sumTo, sentCount, telegrams}
+use Rattle.protocol.specs.Display.{sumTo, sentCount, messageCount}
 use Rattle.protocol.specs.Claim.{after, Clean, HoldsSome}
-use Rattle.protocol.specs.CleanTelegrams.{CleanEnd, fn, CleanTelegrams}
+use Rattle.protocol.specs.CleanMessages.{CleanEnd, fn, CleanMessages}
 use Rattle.protocol.proofs.view.View.{View, savedOutcome}
 use Rattle.protocol.proofs.view.Simulation.{view}
 use Rattle.protocol.proofs.invariant.Words.{none-word}
@@ -130,21 +130,21 @@ module _ (b : Bench) (f<n : b .shared .f < b .shared .n) (log : List Event) (q :
   unfolding sentCount view
   ack-sends d i lo hi = count-more n (ackRoute f i) (has ((sentBy b i) .ack .to)) (λ j a b r. q .sent i j Ack (d .acks .sent i j lo hi a b r))
 
-  votes-least-sent : Delivered n f log → f * n ≤ telegrams b Vote
-  unfolding telegrams
+  votes-least-sent : Delivered n f log → f * n ≤ messageCount b Vote
+  unfolding messageCount
   votes-least-sent d = let x : n * f ≤ sumTo n (sentCount b Vote) = votes-sum-least n f f<n (sentCount b Vote) (vote-sends d) n (omega arith) in
       let z : n * f ≡ f * n = mul-comm n f in omega arith
 
-  acks-least-sent : Delivered n f log → f * n ≤ telegrams b Ack
-  unfolding telegrams
+  acks-least-sent : Delivered n f log → f * n ≤ messageCount b Ack
+  unfolding messageCount
   acks-least-sent d = acks-all-least n f f<n (sentCount b Ack) (ack-sends d)
 
-  help-unsent : telegrams b Help ≡ 0
-  unfolding telegrams sentCount view
+  help-unsent : messageCount b Help ≡ 0
+  unfolding messageCount sentCount view
   help-unsent = sum-zero n _ (λ i. none-count n _ (λ j lo hi. q .no-help i j))
 
-  helped-unsent : telegrams b Helped ≡ 0
-  unfolding telegrams sentCount view
+  helped-unsent : messageCount b Helped ≡ 0
+  unfolding messageCount sentCount view
   helped-unsent = sum-zero n _ (λ i. none-count n _ (λ j lo hi. q .no-helped i j))
 
 -- a moment of a clean order, of a list in which a lock was accepted
@@ -181,10 +181,10 @@ module _ (es : List Event) (o : Opened es) (c : Clean ((after es) .shared .n) ((
   delivered h = let w : Word (h .outcome) = word-of (h .outcome) (h .holds .some) in quiet .held 1 (w .move) (h .holds .shows ∙ w .is)
 
 record Figures (b : Bench) : Type 0 where
-  votes : telegrams b Vote ≡ b .shared .f * b .shared .n
-  acks : telegrams b Ack ≡ b .shared .f * b .shared .n
-  no-help : telegrams b Help ≡ 0
-  no-helped : telegrams b Helped ≡ 0
+  votes : messageCount b Vote ≡ b .shared .f * b .shared .n
+  acks : messageCount b Ack ≡ b .shared .f * b .shared .n
+  no-help : messageCount b Help ≡ 0
+  no-helped : messageCount b Helped ≡ 0
 
 figures : (es : List Event) → CleanEnd es → Figures (after es)
 figures es e = elim (start es) [
@@ -193,9 +193,9 @@ figures es e = elim (start es) [
       let q : Quiet ((after es) .shared .n) ((after es) .shared .f) (view (after es)) (vlog es o (e .clean)) = quiet es o (e .clean) in
       let l : (after es) .shared .f < (after es) .shared .n = below es o (e .clean) in
       let d : Delivered ((after es) .shared .n) ((after es) .shared .f) (vlog es o (e .clean)) = delivered es o (e .clean) (e .ended 1 (omega arith) (omega arith)) in
-      let x : fn es ≤ telegrams (after es) Vote = votes-least-sent (after es) l _ q d in
-      let y : fn es ≤ telegrams (after es) Ack = acks-least-sent (after es) l _ q d in
-      let z : telegrams (after es) Vote + telegrams (after es) Ack ≤ 2 * fn es = demand-3 .at-most-2fn es in
+      let x : fn es ≤ messageCount (after es) Vote = votes-least-sent (after es) l _ q d in
+      let y : fn es ≤ messageCount (after es) Ack = acks-least-sent (after es) l _ q d in
+      let z : messageCount (after es) Vote + messageCount (after es) Ack ≤ 2 * fn es = demand-3 .at-most-2fn es in
       record { votes = omega arith; acks = omega arith; no-help = help-unsent (after es) l _ q; no-helped = helped-unsent (after es) l _ q }
 ]
   where
@@ -207,9 +207,9 @@ figures es e = elim (start es) [
       no-helped = fresh-silent Helped false 0 0;
     }
 
-pub clean-telegrams : CleanTelegrams
-clean-telegrams = record {
-  exactly-2fn = λ es e. let x : Figures (after es) = figures es e in let y : telegrams (after es) Vote ≡ fn es = x .votes in let z : telegrams (after es) Ack ≡ fn es = x .acks in omega arith;
+pub clean-messages : CleanMessages
+clean-messages = record {
+  exactly-2fn = λ es e. let x : Figures (after es) = figures es e in let y : messageCount (after es) Vote ≡ fn es = x .votes in let z : messageCount (after es) Ack ≡ fn es = x .acks in omega arith;
   votes = λ es e. figures es e .votes;
   acks = λ es e. figures es e .acks;
   no-help = λ es e. figures es e .no-help;

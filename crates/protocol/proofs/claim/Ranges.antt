@@ -1,4 +1,4 @@
--- What stays in range, station by station: the phase, the gate, the help sheet; to whom a kind was sent and by whom a vote was cast; what is
+-- What stays in range, station by station: the phase, the gate, the help vote set; to whom a kind was sent and by whom a vote was cast; what is
 -- saved. Each rule's answer keeps it, and so does every accepted event. What "in range" is for positions and order numbers is a parameter.
 use Prim.Native.Nat.{ℕ, suc, _≤_}
 use mathlib.Core.Path.{_≡_, refl, sym, _∙_, subst}
@@ -162,7 +162,7 @@ module _ (G H : ℕ → Type 0) (g0 : G 0) where
     arrives-keeps Help j s c h = help-cases Keeps j c (λ p. unfold keepsCall in becomes-keeps _ (caller-in c j h)) (λ p q. unfold answersCall in record { keeps = caller-in c j h }) (λ q. passed-keeps c h)
     arrives-keeps Helped j s c h = helped-cases Keeps n f j s c (λ p q. puts-keeps n f _ (becomes-keeps _ (helped-in c j s h))) (λ q. passed-keeps c h)
 
-    -- what was sent in an order o: a vote by a controller of the lock; help calls with no sheet; a kind only where it may travel
+    -- what was sent in an order o: a vote by a controller of the lock; help calls with no vote set; a kind only where it may travel
     pub record SentIn (o k : ℕ) (l : Sent) : Type 0 where
       pub caster : votedBy k l ≡ true → k ≤ n
       pub call : l .help .votes ≡ empty
@@ -246,7 +246,7 @@ module _ (G H : ℕ → Type 0) (g0 : G 0) where
           turned : not (eqb j k) ≡ true → not (eqb k j) ≡ true
           turned q = rw (ne-eqb k j (λ z. eqb-false j k (not-true (eqb j k) q) (sym z)))
 
-      -- the help sheet at the second timeout: to those whose calls were kept, over the ways that their calls came
+      -- the help vote set at the second timeout: to those whose calls were kept, over the ways that their calls came
       ready-ok : (k : ℕ) (s : VoteSet) (next : Controller) → CallersIn k next → Sends-ok k (ready s next)
       ready-ok k s next o = record { calls = λ l e. unfold ready sentAfter in e; to = to }
         where

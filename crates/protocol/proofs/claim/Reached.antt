@@ -164,7 +164,7 @@ all-read (e ∷ es) r = (as-read e (r .0), all-read es (r .1))
 all-short : (es : List Event) → AllRead es → In Short Short short-0 short-0 (after es)
 all-short es r = given-in Short Short short-0 short-0 es (all-read es r)
 
--- sheets
+-- vote sets
 within-of : (s : VoteSet) → WithinSet s → Within s
 within-of s h = has-within (s .willing) (s .known) h
 
@@ -198,7 +198,7 @@ members : (n k : ℕ) → 1 ≤ k → k ≤ n → isController n k ≡ true
 unfolding isController
 members n k lo hi = and-i (leb 1 k) (leb k n) (le-leb 1 k lo) (le-leb k n hi)
 
--- what the questions about a telegram need, of the sender i with what it has sent
+-- what the questions about a message need, of the sender i with what it has sent
 module _ (b : Bench) (a : Alive b) (h : Ranged b) (i : ℕ) where
   abbrev n : ℕ
   n = b .shared .n
@@ -218,7 +218,7 @@ module _ (b : Bench) (a : Alive b) (h : Ranged b) (i : ℕ) where
   few : n ≤ limit
   few = ranges n f (a .sound .sized) .small
 
-  -- a sheet that tells the votes as they were cast has no bit above n
+  -- a vote set that tells the votes as they were cast has no bit above n
   abbrev clean : VoteSet → Bool
   clean s = noneAbove n (s .known) && noneAbove n (s .willing) && within (s .willing) (s .known)
 

@@ -236,11 +236,11 @@ module _ (n f : ℕ) where
   more-sized l a kind h = count-union n (has ((ofKind kind l) .to)) (has (receiversOf (sendOf kind (a .sends)))) (has ((ofKind kind (sentAfter l (a .sends))) .to)) (sent-more l (a .sends) kind) (λ j e. h .fresh kind j e)
 
   -- all senders together
-  abbrev pub telegramsV : View → Kind → ℕ
-  telegramsV v kind = sumTo n (λ i. sizeOf kind (v .state .sent i))
+  abbrev pub messageCountV : View → Kind → ℕ
+  messageCountV v kind = sumTo n (λ i. sizeOf kind (v .state .sent i))
 
   pub commit-counted : (b : View) (i : ℕ) (a : Answer) (kind : Kind) → 1 ≤ i → i ≤ n → New (b .state .sent i) a
-      → telegramsV (commitV b i a) kind ≡ telegramsV b kind + countTo n (has (receiversOf (sendOf kind (a .sends))))
+      → messageCountV (commitV b i a) kind ≡ messageCountV b kind + countTo n (has (receiversOf (sendOf kind (a .sends))))
   unfolding commitV
   commit-counted b i a kind lo hi h = ap (sumTo n) (part (sizeOf kind) (b .state .sent) i (sentAfter (b .state .sent i) (a .sends)))
       ∙ sum-upd n (λ k. sizeOf kind (b .state .sent k)) i _ _ lo hi (more-sized (b .state .sent i) a kind h)

@@ -19,7 +19,7 @@ use Rattle.protocol.specs.Controllers.{outcome}
 use Rattle.protocol.specs.Benches.{benchOf, newBench}
 use Rattle.protocol.specs.Questions.{accepted, isAccepted, unless, firstNo, reply}
 use Rattle.protocol.specs.Steps.{step, run}
-use Rattle.protocol.specs.Display.{shownOutcome, shownPosition, sumTo, telegrams}
+use Rattle.protocol.specs.Display.{shownOutcome, shownPosition, sumTo, messageCount}
 use Rattle.protocol.specs.Claim.{after, Accepted, opensAny, SameOrder, InOrder, Holds, Moves, IsSecondTimeout, Clean, AllWilling, OneUnwilling, WillingVote, Demand3}
 use Rattle.protocol.proofs.view.View.{View, accepts, ask-l, ask-r}
 use Rattle.protocol.proofs.view.Performed.{stepV, runV}
@@ -198,7 +198,7 @@ module _ (es : List Event) (o : Opened es) where
   locked₁ : (after es) .shared .locked ≡ true
   locked₁ = here .sound .locked
 
-  bound₁ : telegrams (after es) Vote + telegrams (after es) Ack ≤ 2 * ((after es) .shared .f * (after es) .shared .n)
+  bound₁ : messageCount (after es) Vote + messageCount (after es) Ack ≤ 2 * ((after es) .shared .f * (after es) .shared .n)
   bound₁ = sent-bound (after es) (let x : (after es) .shared .n ≡ n = here .is-n in let y : (after es) .shared .f ≡ f = here .is-f in let z : f < n = range .high in omega arith)
       (subst (λ (x : ℕ). Inv x ((after es) .shared .f) (view (after es))) (sym (here .is-n)) (subst (λ (x : ℕ). Inv n x (view (after es))) (sym (here .is-f)) inv))
 
@@ -222,7 +222,7 @@ module _ (es : List Event) (o : Opened es) (i : ℕ) (a : Accepted es (Timeout i
   unfolding vlog
   is-log = o .silent ∙ log-sim (o .n) (o .f) (o .post) (benchOf true (o .n) (o .f)) (sound₀ es o) (n₀ es o) (f₀ es o) []
 
-  -- the log right after the bell
+  -- the log right after the timeout
   timeout-log : logAt (es ++ (Timeout i ∷ [])) ≡ (Timeout i ∷ logAt es)
   unfolding logOf push entered
   timeout-log = log-append es (Timeout i ∷ []) newBench [] ∙ rw (accepted-is _ a)
@@ -234,16 +234,16 @@ module _ (es : List Event) (o : Opened es) (i : ℕ) (a : Accepted es (Timeout i
         cl = clean-by-steps ((after es) .shared .n) ((after es) .shared .f) (Timeout i ∷ logAt es) (subst (CleanOrder ((after es) .shared .n) ((after es) .shared .f)) timeout-log (clean-log ((after es) .shared .n) ((after es) .shared .f) (es ++ (Timeout i ∷ [])) cl₀));
       })))
 
-  rings : accepts (o .n) (o .f) vb (Timeout i) ≡ true
+  timeout-passes : accepts (o .n) (o .f) vb (Timeout i) ≡ true
   unfolding vb
-  rings = sym (reply-sim (after es) (here es o .sound) (Timeout i)
+  timeout-passes = sym (reply-sim (after es) (here es o .sound) (Timeout i)
       ∙ ap (λ (x : ℕ). accepts x ((after es) .shared .f) (view (after es)) (Timeout i)) (here es o .is-n)
       ∙ ap (λ (x : ℕ). accepts (o .n) x (view (after es)) (Timeout i)) (here es o .is-f)
       ∙ ap (λ (x : View). accepts (o .n) (o .f) x (Timeout i)) (here es o .shows)) ∙ accepted-is _ a
 
   decides : Decides (o .n) (o .f) (range es o .high) (range es o .low) (range es o .small) vb vlog i
   unfolding vb vlog
-  decides = clean-decides (o .n) (o .f) (range es o .high) (range es o .low) (range es o .small) (view (benchOf true (o .n) (o .f))) (lock-inv (o .n) (o .f) (o .sized)) (lock-good (o .n) (o .f) (o .sized) (range es o .high)) (o .post) i rings (prem .sec) (prem .cl)
+  decides = clean-decides (o .n) (o .f) (range es o .high) (range es o .low) (range es o .small) (view (benchOf true (o .n) (o .f))) (lock-inv (o .n) (o .f) (o .sized)) (lock-good (o .n) (o .f) (o .sized) (range es o .high)) (o .post) i timeout-passes (prem .sec) (prem .cl)
 
   timeout-view : view (step (after es) (Timeout i)) ≡ stepV (o .n) (o .f) vb (Timeout i)
   unfolding vb
@@ -291,8 +291,8 @@ some-more es e es′ = run-append es (e ∷ es′) newBench ∙ run-cons e es′
 still-at : (es : List Event) (e : Event) (k : ℕ) → after es ≡ newBench → shownPosition (step (after es) e) k ≡ shownPosition (after es) k
 still-at es e k p = ap (λ (b : Bench). shownPosition (step b e) k) p ∙ new-still e k ∙ sym (ap (λ (b : Bench). shownPosition b k) p)
 
-new-bound : telegrams newBench Vote + telegrams newBench Ack ≤ 2 * (newBench .shared .f * newBench .shared .n)
-unfolding telegrams sumTo benchOf
+new-bound : messageCount newBench Vote + messageCount newBench Ack ≤ 2 * (newBench .shared .f * newBench .shared .n)
+unfolding messageCount sumTo benchOf
 new-bound = omega arith
 
 agreement₀ : (es more : List Event) (i j : ℕ) (x y : Outcome) → SameOrder es more → Holds es i x → Holds (es ++ more) j y → x ≡ y
@@ -338,5 +338,5 @@ demand-3 = record {
     ];
     some = refl;
   };
-  at-most-2fn = λ es. elim (start es) [ inl z ↦ subst (λ (b : Bench). telegrams b Vote + telegrams b Ack ≤ 2 * (b .shared .f * b .shared .n)) (sym z) new-bound | inr o ↦ bound₁ es o ];
+  at-most-2fn = λ es. elim (start es) [ inl z ↦ subst (λ (b : Bench). messageCount b Vote + messageCount b Ack ≤ 2 * (b .shared .f * b .shared .n)) (sym z) new-bound | inr o ↦ bound₁ es o ];
 }

@@ -86,12 +86,12 @@ module _ (n f : ℕ) where
   pub record Reaches (s : ℕ) (a : Answer) : Type 0 where
     pub is : phase (a .controller) ≡ s
 
-  settle-rings : (s : ℕ) (a : Answer) → Reaches s a → Reaches s (proposeIfSufficient n f a)
+  settle-reaches : (s : ℕ) (a : Answer) → Reaches s a → Reaches s (proposeIfSufficient n f a)
   unfolding proposing propose
-  settle-rings s a h = sufficient-cases (Reaches s) n f a (λ q. record { is = h .is }) (λ q. h)
+  settle-reaches s a h = sufficient-cases (Reaches s) n f a (λ q. record { is = h .is }) (λ q. h)
 
-  pub second-rings : (j : ℕ) (c : Controller) → Reaches 3 (secondTimeout n f j c)
-  second-rings j c = second-cases (Reaches 3) n f j c (λ d. direct) (λ e. put) (λ e. settle-rings 3 _ waits)
+  pub second-reaches : (j : ℕ) (c : Controller) → Reaches 3 (secondTimeout n f j c)
+  second-reaches j c = second-cases (Reaches 3) n f j c (λ d. direct) (λ e. put) (λ e. settle-reaches 3 _ waits)
     where
       direct : Reaches 3 (ready (helpVotes n c) (conclude (frozen n c) (verdict n (ackJoin n c))))
       direct = unfold ready conclude frozen freeze advance in record { is = refl }
@@ -102,13 +102,13 @@ module _ (n f : ℕ) where
       waits : Reaches 3 (callsHelp n f j (helpVotes n c) (frozen n c))
       waits = unfold callsHelp keepHelped await frozen freeze advance in record { is = refl }
 
-  first-rings : (j : ℕ) (c : Controller) → Reaches 2 (firstTimeout n f j c)
+  first-reaches : (j : ℕ) (c : Controller) → Reaches 2 (firstTimeout n f j c)
   unfolding firstTimeout advance
-  first-rings j c = record { is = refl }
+  first-reaches j c = record { is = refl }
 
-  pub rung-after : (b : View) (i : ℕ) (a : Answer) (s : ℕ) → Reaches s a → phase ((commitV b i a) .ctl i) ≡ s
+  pub reached-after : (b : View) (i : ℕ) (a : Answer) (s : ℕ) → Reaches s a → phase ((commitV b i a) .ctl i) ≡ s
   unfolding commitV
-  rung-after b i a s h = rw (upd-same (b .ctl) i (a .controller)) (h .is)
+  reached-after b i a s h = rw (upd-same (b .ctl) i (a .controller)) (h .is)
 
   pub record InRange (i : ℕ) : Type 0 where
     pub lo : 1 ≤ i
@@ -170,8 +170,8 @@ module _ (n f : ℕ) where
     at = record { lo = leb-true _ _ (search (ask-l, ask-r, and-l, and-r) depth 14); hi = leb-true _ _ (search (ask-l, ask-r, and-l, and-r) depth 14) };
     at-phase = elim (or-e (eqb (phase (b .ctl i)) 1) (eqb (phase (b .ctl i)) 2) (search (ask-l, ask-r, and-l, and-r) depth 14)) [ inl e ↦ inl (eqb-true _ _ e) | inr e ↦ inr (eqb-true _ _ e) ];
     after = elim (split (eqb (phase (b .ctl i)) 1)) [
-      | inl e ↦ rw e (omega (arith, rung-after b i _ 2 (first-rings i (b .ctl i))))
-      | inr e ↦ rw e (omega (arith, rung-after b i _ 3 (second-rings i (b .ctl i))))
+      | inl e ↦ rw e (omega (arith, reached-after b i _ 2 (first-reaches i (b .ctl i))))
+      | inr e ↦ rw e (omega (arith, reached-after b i _ 3 (second-reaches i (b .ctl i))))
     ];
   }
   perform-new s b (Decide i w) inv q = tt

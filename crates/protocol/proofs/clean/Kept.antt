@@ -49,7 +49,7 @@ module _ (n f : ℕ) where
   -- how the phase of controller j goes on
   pub data PhaseMove (e : Event) (j s s′ : ℕ) : Type 0 where
     stays : s′ ≡ s → PhaseMove e j s s′
-    rung : e ≡ Timeout j → s′ ≡ suc s → PhaseMove e j s s′
+    times-out : e ≡ Timeout j → s′ ≡ suc s → PhaseMove e j s s′
     voted : (w : Bool) (t : ℕ) → e ≡ Cast j w t → s ≡ 0 → s′ ≡ cond (leb j (suc f)) 1 2 → PhaseMove e j s s′
 
   pub record Kept (e : Event) (j : ℕ) (c c′ : Controller) (l l′ : Sent) : Type 0 where
@@ -79,7 +79,7 @@ module _ (n f : ℕ) where
       (λ q. record { live = record { running = h .live .running; votes = h .live .votes; acks = h .live .acks; phase = h .live .phase; acked = h .live .acked } }) (λ q. h)
 
   module _ (small : n ≤ limit) where
-    -- an acknowledgement kept: the condition and the own sheet stay
+    -- an acknowledgement kept: the condition and the own vote set stay
     keep-live : (e : Event) (i j : ℕ) (s : VoteSet) (c : Controller) (l : Sent) → 1 ≤ i → i ≤ n → Kept e j c (keepAck c i s) l l
     unfolding keepAck
     keep-live e i j s c l a b = record { running = refl; votes = λ r k h. h; acks = λ r k h. insert-keeps (c .acks .from) i k h; phase = λ r. stays refl; acked = λ h. inl (h, refl) }
@@ -107,7 +107,7 @@ module _ (n f : ℕ) where
 
     first-live : (j : ℕ) (c : Controller) (l : Sent) → 1 ≤ j → j ≤ n → runs c ≡ true → phase c ≡ 1 → KeptBy (Timeout j) j c l (firstTimeout n f j c)
     unfolding firstTimeout advance sentAfter
-    first-live j c l a b r₀ st = record { live = record { running = sym r₀; votes = λ r k h. kept k h; acks = λ r k h. grow k h; phase = λ r. rung refl (rw st); acked = λ h. inr (refl, refl) } }
+    first-live j c l a b r₀ st = record { live = record { running = sym r₀; votes = λ r k h. kept k h; acks = λ r k h. grow k h; phase = λ r. times-out refl (rw st); acked = λ h. inr (refl, refl) } }
       where
         kept : (k : ℕ) → knows (c .votes) k ≡ true → knows ((countOwn f j c) .votes) k ≡ true
         kept k h = unfold countOwn keepAck in by-cond (λ (x : Controller). knows (x .votes) k ≡ true) (isBackup f j && not (hasAck c j)) (keepAck c j (c .votes)) c (λ e. h) (λ e. h)
@@ -127,13 +127,13 @@ module _ (n f : ℕ) where
   second-live j c l r₀ st = second-cases (KeptBy (Timeout j) j c l) n f j c (λ d. direct) (λ e. put) (λ e. settle-live (Timeout j) j c l _ waits)
     where
       direct : KeptBy (Timeout j) j c l (ready (helpVotes n c) (conclude (frozen n c) (verdict n (ackJoin n c))))
-      direct = unfold ready sentAfter conclude frozen freeze advance in record { live = record { running = sym r₀; votes = λ r k h. h; acks = λ r k h. h; phase = λ r. rung refl (rw st); acked = λ h. inl (h, refl) } }
+      direct = unfold ready sentAfter conclude frozen freeze advance in record { live = record { running = sym r₀; votes = λ r k h. h; acks = λ r k h. h; phase = λ r. times-out refl (rw st); acked = λ h. inl (h, refl) } }
 
       put : KeptBy (Timeout j) j c l (proposing (ready (helpVotes n c) (frozen n c)) (verdict n (ackJoin n c)))
-      put = unfold proposing ready propose sentAfter frozen freeze advance in record { live = record { running = sym r₀; votes = λ r k h. h; acks = λ r k h. h; phase = λ r. rung refl (rw st); acked = λ h. inl (h, refl) } }
+      put = unfold proposing ready propose sentAfter frozen freeze advance in record { live = record { running = sym r₀; votes = λ r k h. h; acks = λ r k h. h; phase = λ r. times-out refl (rw st); acked = λ h. inl (h, refl) } }
 
       waits : KeptBy (Timeout j) j c l (callsHelp n f j (helpVotes n c) (frozen n c))
-      waits = unfold callsHelp keepHelped await sentAfter frozen freeze advance in record { live = record { running = sym r₀; votes = λ r k h. h; acks = λ r k h. h; phase = λ r. rung refl (rw st); acked = λ h. inl (h, refl) } }
+      waits = unfold callsHelp keepHelped await sentAfter frozen freeze advance in record { live = record { running = sym r₀; votes = λ r k h. h; acks = λ r k h. h; phase = λ r. times-out refl (rw st); acked = λ h. inl (h, refl) } }
 
   restore-live : (e : Event) (j : ℕ) (o : Outcome) (c : Controller) (l : Sent) → runs c ≡ false → KeptBy e j c l (becomes (cleared (Standby o) c))
   unfolding becomes sentAfter cleared

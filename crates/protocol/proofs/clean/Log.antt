@@ -67,7 +67,7 @@ module _ (n f : ℕ) where
     pub target : ℕ
     pub entry : In (Cast k willing target) log
 
-  -- every vote accepted, and every vote telegram delivered; every acknowledgement delivered
+  -- every vote accepted, and every vote message delivered; every acknowledgement delivered
   pub record VotesIn (log : List Event) : Type 0 where
     pub votes : (k : ℕ) → 1 ≤ k → k ≤ n → Voted log k
     pub sent : (i j : ℕ) → 1 ≤ i → i ≤ n → 1 ≤ j → j ≤ n → voteRoute f i j ≡ true → In (Deliver i j Vote) log

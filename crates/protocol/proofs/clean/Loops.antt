@@ -37,30 +37,30 @@ cast-calm w zero k e = e
 cast-calm w (suc m) k (inl q) = let z : _≡_ {A = ℕ} 0 1 = cc in differ z
 cast-calm w (suc m) k (inr e) = cast-calm w m k e
 
-pub ring-in : (m k : ℕ) (log : List Event) → 1 ≤ k → k ≤ m → In (Timeout k) (timeouts m log)
+pub timeouts-in : (m k : ℕ) (log : List Event) → 1 ≤ k → k ≤ m → In (Timeout k) (timeouts m log)
 unfolding timeouts
-ring-in zero k log a b = absurd (omega arith)
-ring-in (suc m) k log a b = elim (ℕ-discrete k (suc m)) [
+timeouts-in zero k log a b = absurd (omega arith)
+timeouts-in (suc m) k log a b = elim (ℕ-discrete k (suc m)) [
   | yes q ↦ inl (ap Timeout q)
-  | no q ↦ inr (ring-in m k log a (omega arith))
+  | no q ↦ inr (timeouts-in m k log a (omega arith))
 ]
 
-pub ring-keep : (e : Event) (m : ℕ) (log : List Event) → In e log → In e (timeouts m log)
+pub timeouts-keep : (e : Event) (m : ℕ) (log : List Event) → In e log → In e (timeouts m log)
 unfolding timeouts
-ring-keep e zero log h = h
-ring-keep e (suc m) log h = inr (ring-keep e m log h)
+timeouts-keep e zero log h = h
+timeouts-keep e (suc m) log h = inr (timeouts-keep e m log h)
 
-pub ring-back : (e : Event) (m : ℕ) → ((i : ℕ) → e ≡ Timeout i → ⊥) → (log : List Event) → In e (timeouts m log) → In e log
+pub timeouts-back : (e : Event) (m : ℕ) → ((i : ℕ) → e ≡ Timeout i → ⊥) → (log : List Event) → In e (timeouts m log) → In e log
 unfolding timeouts
-ring-back e zero other log h = h
-ring-back e (suc m) other log (inl q) = absurd (other (suc m) q)
-ring-back e (suc m) other log (inr h) = ring-back e m other log h
+timeouts-back e zero other log h = h
+timeouts-back e (suc m) other log (inl q) = absurd (other (suc m) q)
+timeouts-back e (suc m) other log (inr h) = timeouts-back e m other log h
 
-pub ring-low : (m k : ℕ) (log : List Event) → (In (Timeout k) log → ⊥) → In (Timeout k) (timeouts m log) → k ≤ m
+pub timeouts-low : (m k : ℕ) (log : List Event) → (In (Timeout k) log → ⊥) → In (Timeout k) (timeouts m log) → k ≤ m
 unfolding timeouts
-ring-low zero k log none e = absurd (none e)
-ring-low (suc m) k log none (inl q) = let z : k ≡ suc m = cc in omega arith
-ring-low (suc m) k log none (inr e) = let h : k ≤ m = ring-low m k log none e in omega arith
+timeouts-low zero k log none e = absurd (none e)
+timeouts-low (suc m) k log none (inl q) = let z : k ≡ suc m = cc in omega arith
+timeouts-low (suc m) k log none (inr e) = let h : k ≤ m = timeouts-low m k log none e in omega arith
 
 module _ (n f : ℕ) where
   -- what each such delivery keeps, all of them keep

@@ -29,7 +29,7 @@ use Rattle.protocol.proofs.invariant.Invariant.{votedBy, willBy, ackOn,
 use Rattle.protocol.proofs.invariant.Decisions.{Blank, renew-blank}
 use Rattle.protocol.proofs.invariant.Orders.{step-next, perform-next, next-inv, run-inv}
 use Rattle.protocol.proofs.clean.Log.{NotTimeout, In, Voted, VotesIn, AcksIn, Second, CleanStep, Clean, entered, pushV, logV, is-direct, decides-move, decides-stay}
-use Rattle.protocol.proofs.clean.Kept.{PhaseMove, stays, rung, voted, KeptAll, Goes, perform-tame}
+use Rattle.protocol.proofs.clean.Kept.{PhaseMove, stays, times-out, voted, KeptAll, Goes, perform-tame}
 use Rattle.protocol.proofs.clean.Added.{NewVote, NewVoteTo, NewAckTo, NewTimeout, New, perform-new}
 
 module _ (n f : ℕ) where
@@ -70,7 +70,7 @@ module _ (n f : ℕ) where
   -- stages after an event
   phase-up : (e : Event) (j s s′ m : ℕ) → PhaseMove n f e j s s′ → 1 ≤ m → m ≤ s → m ≤ s′
   phase-up e j s s′ m (stays p) a h = omega arith
-  phase-up e j s s′ m (rung q p) a h = omega arith
+  phase-up e j s s′ m (times-out q p) a h = omega arith
   phase-up e j s s′ m (voted w t q z p) a h = absurd (omega arith)
 
   cond-bounds : (x : Bool) → (1 ≤ cond x 1 2) × (cond x 1 2 ≤ 2)
@@ -79,7 +79,7 @@ module _ (n f : ℕ) where
 
   A-phase : (e : Event) (j s s′ : ℕ) → NotTimeout e → PhaseMove n f e j s s′ → (s ≤ 2 → s′ ≤ 2) × (j ≤ suc f → s ≤ 1 → s′ ≤ 1) × (suc f < j → (1 ≤ s → 2 ≤ s) → 1 ≤ s′ → 2 ≤ s′)
   A-phase e j s s′ nb (stays p) = (λ h. omega arith, λ h k. omega arith, λ h k l. let x : 2 ≤ s = k (omega arith) in omega arith)
-  A-phase e j s s′ nb (rung q p) = absurd (subst NotTimeout q nb)
+  A-phase e j s s′ nb (times-out q p) = absurd (subst NotTimeout q nb)
   A-phase e j s s′ nb (voted w t q z p) = (
     λ h. omega (arith, cond-bounds (leb j (suc f))),
     λ h k. let p′ : s′ ≡ 1 = (rw (le-leb j (suc f) h) at p) in omega arith,
@@ -120,7 +120,7 @@ module _ (n f : ℕ) where
     acks : (j k : ℕ) → 1 ≤ j → j ≤ f → 1 ≤ k → k ≤ n → ackedBy j (b .state .sent j) ≡ true → knows (ackOn (b .state .sent j)) k ≡ true
     ack₂ : (k : ℕ) → 1 ≤ k → k ≤ f → ackedBy (suc f) (b .state .sent (suc f)) ≡ true → knows (ackOn (b .state .sent (suc f))) k ≡ true
     timed-out : (j : ℕ) → 1 ≤ j → j ≤ suc f → 2 ≤ phase (b .ctl j) → In (Timeout j) log
-    rungs : (j : ℕ) → 1 ≤ j → j ≤ n → In (Timeout j) log → 2 ≤ phase (b .ctl j)
+    after-timeout : (j : ℕ) → 1 ≤ j → j ≤ n → In (Timeout j) log → 2 ≤ phase (b .ctl j)
 
   module _ (f<n : f < n) where
     base-step : (b b′ : View) (e : Event) (log : List Event) → Base b log → KeptAll n f e b b′ → New n f e b b′ → Base b′ (e ∷ log)
@@ -132,14 +132,14 @@ module _ (n f : ℕ) where
       full₂ = λ k x y. t (suc f) .votes (a .runs (suc f) (omega arith) f<n) k (a .full₂ k x y);
       acks = λ j k x y u v h. elim (t j .acked h) [ inl p ↦ rw (p .1) (a .acks j k x y u v (p .0)) | inr p ↦ rw (p .1) (a .full j k x y u v) ];
       ack₂ = λ k x y h. elim (t (suc f) .acked h) [ inl p ↦ rw (p .1) (a .ack₂ k x y (p .0)) | inr p ↦ rw (p .1) (a .full₂ k x y) ];
-      timed-out = λ j x y h. ring j x y (t j .phase (a .runs j x (omega arith))) h;
-      rungs = λ j x y h. elim h [ inl q ↦ let v : NewTimeout n f b b′ j = subst (λ z. New n f z b b′) (sym q) nw in v .after | inr m ↦ phase-up e j _ _ 2 (t j .phase (a .runs j x y)) (omega arith) (a .rungs j x y m) ];
+      timed-out = λ j x y h. timed-out-by j x y (t j .phase (a .runs j x (omega arith))) h;
+      after-timeout = λ j x y h. elim h [ inl q ↦ let v : NewTimeout n f b b′ j = subst (λ z. New n f z b b′) (sym q) nw in v .after | inr m ↦ phase-up e j _ _ 2 (t j .phase (a .runs j x y)) (omega arith) (a .after-timeout j x y m) ];
     }
       where
-        ring : (j : ℕ) → 1 ≤ j → j ≤ suc f → PhaseMove n f e j (phase (b .ctl j)) (phase (b′ .ctl j)) → 2 ≤ phase (b′ .ctl j) → In (Timeout j) (e ∷ log)
-        ring j x y (stays p) h = inr (a .timed-out j x y (omega arith))
-        ring j x y (rung q p) h = inl (sym q)
-        ring j x y (voted w u q z p) h = let s : 1 ≤ phase (b .ctl j) = a .begun j x (omega arith) in absurd (omega arith)
+        timed-out-by : (j : ℕ) → 1 ≤ j → j ≤ suc f → PhaseMove n f e j (phase (b .ctl j)) (phase (b′ .ctl j)) → 2 ≤ phase (b′ .ctl j) → In (Timeout j) (e ∷ log)
+        timed-out-by j x y (stays p) h = inr (a .timed-out j x y (omega arith))
+        timed-out-by j x y (times-out q p) h = inl (sym q)
+        timed-out-by j x y (voted w u q z p) h = let s : 1 ≤ phase (b .ctl j) = a .begun j x (omega arith) in absurd (omega arith)
 
     -- the first timeout comes: all votes are in
     base-new : (b : View) (log : List Event) → Inv n f b → BeforeTimeouts b log → VotesIn n f log → Base b log
@@ -155,7 +155,7 @@ module _ (n f : ℕ) where
       acks = λ j k x y u w h. absurd (no-both _ h (a .blank j));
       ack₂ = λ k x y h. absurd (no-both _ h (a .blank (suc f)));
       timed-out = λ j x y h. let l : phase (b .ctl j) ≤ 1 = a .low₁ j (vote-of j x (omega arith) .0) y in absurd (omega arith);
-      rungs = λ j x y h. absurd (a .no-timeouts j h);
+      after-timeout = λ j x y h. absurd (a .no-timeouts j h);
     }
       where
         vote-of : (k : ℕ) → 1 ≤ k → k ≤ n → (runs (b .ctl k) ≡ true) × (1 ≤ phase (b .ctl k))
@@ -191,7 +191,7 @@ module _ (n f : ℕ) where
       where
         up : (j : ℕ) → 1 ≤ j → j ≤ n → PhaseMove n f e j (phase (b .ctl j)) (phase (b′ .ctl j)) → phase (b′ .ctl j) ≤ 2
         up j x y (stays q) = let h : phase (b .ctl j) ≤ 2 = p .low j x y in omega arith
-        up j x y (rung q s) = let h : phase (b .ctl j) ≡ 1 = one j q in omega arith
+        up j x y (times-out q s) = let h : phase (b .ctl j) ≡ 1 = one j q in omega arith
         up j x y (voted w u q z s) = let h : 1 ≤ phase (b .ctl j) = p .base .begun j x y in absurd (omega arith)
 
     C-step : (b b′ : View) (e : Event) (log : List Event) → PhaseC b log → KeptAll n f e b b′ → New n f e b b′ → PhaseC b′ (e ∷ log)
@@ -334,7 +334,7 @@ module _ (n f : ℕ) where
           | inr s ↦ s
           | inl s ↦ elim sec [
             | inl h ↦ let x : 2 ≤ phase (b .ctl i) = last .base .far i h (nw .at .hi) in absurd (omega arith)
-            | inr m ↦ let x : 2 ≤ phase (b .ctl i) = last .base .rungs i (nw .at .lo) (nw .at .hi) m in absurd (omega arith)
+            | inr m ↦ let x : 2 ≤ phase (b .ctl i) = last .base .after-timeout i (nw .at .lo) (nw .at .hi) m in absurd (omega arith)
           ]
         ]
 

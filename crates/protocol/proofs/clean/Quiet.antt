@@ -85,7 +85,7 @@ module _ (n f : ℕ) where
     waits : a .controller .help .waiting ≡ false
     held : (v : Bool) → outcome (a .controller) ≡ wordOf v → Delivered log
 
-  -- the telegram that is delivered, if one is, was sent
+  -- the message that is delivered, if one is, was sent
   abbrev WasSent : View → Event → Type 0
   WasSent b (Lock a c) = Unit {0}
   WasSent b (Order o) = Unit {0}
@@ -149,7 +149,7 @@ module _ (n f : ℕ) where
       own : QuietNow log (countOwn f i c)
       own = unfold countOwn keepAck in by-cond (QuietNow log) (isBackup f i && not (hasAck c i)) (keepAck c i (c .votes)) c (λ e. record { waits = h .waits; held = h .held }) (λ e. h)
 
-  -- the second timeout decides: it calls nobody, and nobody's call was kept, so its help sheet is sent to nobody
+  -- the second timeout decides: it calls nobody, and nobody's call was kept, so its help vote set is sent to nobody
   second-quiet : (log : List Event) (i : ℕ) (c : Controller) → decides n f i c ≡ true → ((j : ℕ) → hasCalled c j ≡ false) → Delivered log → QuietBy log (secondTimeout n f i c)
   unfolding secondTimeout
   second-quiet log i c d k g = by-cond (QuietBy log) (decides n f i c) _ _ (λ e. direct) (λ e. absurd (no-both _ d e))

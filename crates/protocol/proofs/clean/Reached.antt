@@ -81,8 +81,8 @@ module _ (n f : ℕ) (sized : sizesInRange n f ≡ true) where
     pub cast-next : (p′ : ℕ → ℕ) (k : ℕ) (w : Bool) → 1 ≤ k → k ≤ n → p k ≡ 0 → p′ k ≡ begun f k → ElseSame k p p′ → Reached (Cast k w 0 ∷ log) p′
     cast-next p′ k w lo hi e e′ same = extend p′ (Cast k w 0) tt (vote-accepted n f v p (r .going) k w lo hi e) (vote-going n f v p (r .going) (range .small) p′ k w e′ same)
 
-    pub ring-next : (p′ : ℕ → ℕ) (k : ℕ) → 1 ≤ k → k ≤ n → p k ≡ 1 → p′ k ≡ 2 → ElseSame k p p′ → Reached (Timeout k ∷ log) p′
-    ring-next p′ k lo hi e e′ same = extend p′ (Timeout k) tt (timeout-accepted n f v p (r .going) k lo hi (rw e)) (first-going n f v p (r .going) (range .small) p′ k lo hi e e′ same)
+    pub timeout-next : (p′ : ℕ → ℕ) (k : ℕ) → 1 ≤ k → k ≤ n → p k ≡ 1 → p′ k ≡ 2 → ElseSame k p p′ → Reached (Timeout k ∷ log) p′
+    timeout-next p′ k lo hi e e′ same = extend p′ (Timeout k) tt (timeout-accepted n f v p (r .going) k lo hi (rw e)) (first-going n f v p (r .going) (range .small) p′ k lo hi e e′ same)
 
     pub end-next : (p′ : ℕ → ℕ) (k : ℕ) → 1 ≤ k → k ≤ n → p k ≡ 2 → p′ k ≡ 3 → ElseSame k p p′ → Reached (Timeout k ∷ log) p′
     end-next p′ k lo hi e e′ same = extend p′ (Timeout k) tt (timeout-accepted n f v p (r .going) k lo hi (rw e)) (second-going n f v p (r .going) p′ k lo hi e e′ same)
@@ -91,7 +91,7 @@ module _ (n f : ℕ) (sized : sizesInRange n f ≡ true) where
     pub renamed : (p′ : ℕ → ℕ) → ((k : ℕ) → 1 ≤ k → k ≤ n → p′ k ≡ p k) → Reached log p′
     renamed p′ same = record { sound = r .sound; is-n = r .is-n; is-f = r .is-f; is-log = r .is-log; going = record { opened = r .going .opened; able = λ k lo hi. rw (same k lo hi) (r .going .able k lo hi) } }
 
-  -- all telegrams of a kind
+  -- all messages of a kind
   pub deliver-all : (kind : Kind) (log : List Event) (p : ℕ → ℕ) → ((i : ℕ) → 1 ≤ i → i ≤ n → due kind (p i) ≡ true) → Reached log p → Reached (deliveries n f kind n log) p
   deliver-all kind log p sent = rows-all n f (λ l. Reached l p) kind (λ i j a b c d e l r.
       extend r p (Deliver i j kind) tt (deliver-accepted n f _ p (r .going) kind i j a b c d (sent i a b) e) (deliver-going n f _ p (r .going) kind i j c d (sent i a b))) n (omega arith) log

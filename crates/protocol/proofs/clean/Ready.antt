@@ -33,9 +33,9 @@ use Rattle.protocol.specs.Questions.{unless, firstNo}
 use Rattle.protocol.proofs.view.View.{View, accepts}
 use Rattle.protocol.proofs.view.Performed.{commitV, timeoutRule, performV}
 use Rattle.protocol.proofs.claim.Sends.{sent-more}
-use Rattle.protocol.proofs.clean.Added.{second-rings}
+use Rattle.protocol.proofs.clean.Added.{second-reaches}
 
--- which telegrams a controller has sent by its phase; its phase after its vote
+-- which messages a controller has sent by its phase; its phase after its vote
 abbrev pub due : Kind → ℕ → Bool
 due Vote s = leb 1 s
 due Ack s = leb 2 s
@@ -80,7 +80,7 @@ module _ (n f : ℕ) where
     pub at : phase c ≡ s
     pub sent : (kind : Kind) (j : ℕ) → 1 ≤ j → j ≤ n → due kind s ≡ true → route f kind k j ≡ true → has ((ofKind kind l) .to) j ≡ true
 
-  -- whom a telegram was just sent to
+  -- whom a message was just sent to
   pub posted-to : n ≤ limit → (kind : Kind) (k old j : ℕ) → 1 ≤ j → j ≤ n → route f kind k j ≡ true → has (bitOr old (recipients n f kind k)) j ≡ true
   unfolding recipients
   posted-to small kind k old j a b r = has-or old _ j ∙ or-r (has old j) _ (collect-at n (route f kind k) j (omega arith) a b ∙ r)
@@ -111,8 +111,8 @@ module _ (n f : ℕ) where
   -- whatever comes of a second timeout, what was sent stays sent
   second-able : (k : ℕ) (c : Controller) (l : Sent) → ReadyAt k 2 c l → ReadyAt k 3 ((secondTimeout n f k c) .controller) (sentAfter l ((secondTimeout n f k c) .sends))
   second-able k c l h = record {
-    running = in-phase-3 ((secondTimeout n f k c) .controller .condition) (second-rings n f k c .is);
-    at = second-rings n f k c .is;
+    running = in-phase-3 ((secondTimeout n f k c) .controller .condition) (second-reaches n f k c .is);
+    at = second-reaches n f k c .is;
     sent = λ kind j a b d r. sent-more n f l _ kind j ∙ or-l _ _ (h .sent kind j a b (as-before kind d) r);
   }
     where

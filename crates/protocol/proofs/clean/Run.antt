@@ -14,7 +14,7 @@ use Rattle.protocol.specs.CleanOrders.{casts, timeouts, allVoted, allAck
 use Rattle.protocol.proofs.view.View.{accepts}
 use Rattle.protocol.proofs.view.Simulation.{view, ranges}
 use Rattle.protocol.proofs.clean.Ready.{begun, timeout-accepted}
-use Rattle.protocol.proofs.clean.Reached.{Reached, cast-next, ring-next, end-next, renamed, deliver-all, start}
+use Rattle.protocol.proofs.clean.Reached.{Reached, cast-next, timeout-next, end-next, renamed, deliver-all, start}
 
 -- x up to m, y beyond
 abbrev upTo : ℕ → (ℕ → ℕ) → (ℕ → ℕ) → ℕ → ℕ
@@ -33,8 +33,8 @@ module _ (n f : ℕ) (sized : sizesInRange n f ≡ true) where
   abbrev casting : ℕ → ℕ → ℕ
   casting m = upTo m (begun f) (λ k. 0)
 
-  abbrev ringing : ℕ → ℕ → ℕ
-  ringing m = upTo m (λ k. 2) (begun f)
+  abbrev timeoutPhase : ℕ → ℕ → ℕ
+  timeoutPhase m = upTo m (λ k. 2) (begun f)
 
   cast-all : (w : ℕ → Bool) (m : ℕ) → m ≤ n → Reached n f sized (casts w m) (casting m)
   unfolding casts
@@ -45,23 +45,23 @@ module _ (n f : ℕ) (sized : sizesInRange n f ≡ true) where
   begun-one : (k : ℕ) → k ≤ suc f → begun f k ≡ 1
   begun-one k h = rw (le-leb k (suc f) h)
 
-  vote-all : (w : ℕ → Bool) → Reached n f sized (allVoted n f w) (ringing 0)
+  vote-all : (w : ℕ → Bool) → Reached n f sized (allVoted n f w) (timeoutPhase 0)
   unfolding allVoted
-  vote-all w = renamed n f sized (deliver-all n f sized Vote (casts w n) (casting n) (λ i lo hi. rw (le-leb i n hi) (sent (leb i (suc f)))) (cast-all w n (omega arith))) (ringing 0)
+  vote-all w = renamed n f sized (deliver-all n f sized Vote (casts w n) (casting n) (λ i lo hi. rw (le-leb i n hi) (sent (leb i (suc f)))) (cast-all w n (omega arith))) (timeoutPhase 0)
       (λ k lo hi. high-is 0 k (λ x. 2) (begun f) lo ∙ sym (low-is n k (begun f) (λ x. 0) hi))
     where
       sent : (t : Bool) → leb 1 (cond t 1 2) ≡ true
       sent true = refl
       sent false = refl
 
-  ring-all : (w : ℕ → Bool) (m : ℕ) → m ≤ suc f → Reached n f sized (timeouts m (allVoted n f w)) (ringing m)
+  timeouts-all : (w : ℕ → Bool) (m : ℕ) → m ≤ suc f → Reached n f sized (timeouts m (allVoted n f w)) (timeoutPhase m)
   unfolding timeouts
-  ring-all w zero h = vote-all w
-  ring-all w (suc m) h = ring-next n f sized (ring-all w m (omega arith)) (ringing (suc m)) (suc m) (omega arith) (let z : f < n = ranges n f sized .high in omega arith)
+  timeouts-all w zero h = vote-all w
+  timeouts-all w (suc m) h = timeout-next n f sized (timeouts-all w m (omega arith)) (timeoutPhase (suc m)) (suc m) (omega arith) (let z : f < n = ranges n f sized .high in omega arith)
       (high-is m (suc m) (λ x. 2) (begun f) (omega arith) ∙ begun-one (suc m) h) (low-is (suc m) (suc m) (λ x. 2) (begun f) (omega arith)) (λ k d. one-up m k (λ x. 2) (begun f) d)
 
   -- all are in phase 2 then
-  both-two : (k : ℕ) → _≡_ {A = ℕ} 2 (ringing (suc f) k)
+  both-two : (k : ℕ) → _≡_ {A = ℕ} 2 (timeoutPhase (suc f) k)
   both-two k = same (leb k (suc f))
     where
       same : (t : Bool) → _≡_ {A = ℕ} 2 (cond t 2 (cond t 1 2))
@@ -70,7 +70,7 @@ module _ (n f : ℕ) (sized : sizesInRange n f ≡ true) where
 
   ack-all : (w : ℕ → Bool) → Reached n f sized (allAcked n f w) (λ k. 2)
   unfolding allAcked
-  ack-all w = deliver-all n f sized Ack _ (λ k. 2) (λ i lo hi. refl) (renamed n f sized (ring-all w (suc f) (omega arith)) (λ k. 2) (λ k lo hi. both-two k))
+  ack-all w = deliver-all n f sized Ack _ (λ k. 2) (λ i lo hi. refl) (renamed n f sized (timeouts-all w (suc f) (omega arith)) (λ k. 2) (λ k lo hi. both-two k))
 
   -- 1 to m have had their second timeout
   abbrev pub endPhase : ℕ → ℕ → ℕ

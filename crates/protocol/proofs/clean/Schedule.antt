@@ -1,4 +1,4 @@
--- A clean order, as the log of its accepted events, newest first: all vote, every vote telegram is delivered, 1 to f + 1 have their first
+-- A clean order, as the log of its accepted events, newest first: all vote, every vote message is delivered, 1 to f + 1 have their first
 -- timeout, every acknowledgement is delivered. Then the timeout of any controller is a second one, and the log with it is clean; so it stays while
 -- 1 to m have theirs.
 use Prim.Native.Nat.{ℕ, zero, suc, _≤_}
@@ -16,7 +16,7 @@ use Rattle.model.specs.declared.Event.the-variants.{Cast, Deliver, Timeout}
 use Rattle.protocol.specs.CleanOrders.{casts, timeouts, deliveries, allVoted, allAcked}
 use Rattle.protocol.proofs.clean.Log.{In, VotesIn, AcksIn, Second, Clean}
 use Rattle.protocol.proofs.clean.Steps.{votes-more, acks-more}
-use Rattle.protocol.proofs.clean.Loops.{differ, cast-in, cast-as, cast-calm, ring-in, ring-keep, ring-back, ring-low, rows-all, rows-keep, rows-back, rows-in}
+use Rattle.protocol.proofs.clean.Loops.{differ, cast-in, cast-as, cast-calm, timeouts-in, timeouts-keep, timeouts-back, timeouts-low, rows-all, rows-keep, rows-back, rows-in}
 
 module _ (n f : ℕ) where
   one-more : (log : List Event) (e : Event) → VotesIn n f log → VotesIn n f (e ∷ log)
@@ -37,10 +37,10 @@ module _ (n f : ℕ) where
         away : (i j : ℕ) → Timeout k ≡ Deliver i j Vote → ⊥
         away i j q = let z : _≡_ {A = ℕ} 0 1 = cc in differ z
 
-    ring-votes : (m : ℕ) → VotesIn n f (timeouts m (allVoted n f w))
+    timeouts-votes : (m : ℕ) → VotesIn n f (timeouts m (allVoted n f w))
     unfolding timeouts
-    ring-votes zero = voted-votes
-    ring-votes (suc m) = one-more _ _ (ring-votes m)
+    timeouts-votes zero = voted-votes
+    timeouts-votes (suc m) = one-more _ _ (timeouts-votes m)
 
     cast-clean : (m : ℕ) → Clean n f (casts w m)
     unfolding casts
@@ -51,14 +51,14 @@ module _ (n f : ℕ) where
     rows-clean : (kind : Kind) (log : List Event) → Clean n f log → Clean n f (deliveries n f kind n log)
     rows-clean kind = rows-all n f (Clean n f) kind (λ i j a b c d r l h. (h, tt)) n (omega arith)
 
-    ring-clean : (m : ℕ) → m ≤ suc f → Clean n f (timeouts m (allVoted n f w))
+    timeouts-clean : (m : ℕ) → m ≤ suc f → Clean n f (timeouts m (allVoted n f w))
     unfolding timeouts
-    ring-clean zero h = unfold allVoted in rows-clean Vote (casts w n) (cast-clean n)
-    ring-clean (suc m) h = (ring-clean m (omega arith), (ring-votes m, λ s. absurd (first s)))
+    timeouts-clean zero h = unfold allVoted in rows-clean Vote (casts w n) (cast-clean n)
+    timeouts-clean (suc m) h = (timeouts-clean m (omega arith), (timeouts-votes m, λ s. absurd (first s)))
       where
         first : Second n f (suc m) (timeouts m (allVoted n f w)) → ⊥
         first (inl x) = omega arith
-        first (inr e) = let z : suc m ≤ m = ring-low m (suc m) (allVoted n f w) (voted-calm (suc m)) e in omega arith
+        first (inr e) = let z : suc m ≤ m = timeouts-low m (suc m) (allVoted n f w) (voted-calm (suc m)) e in omega arith
 
     -- the acknowledgements are in
     acked-acks : AcksIn n f (allAcked n f w)
@@ -67,7 +67,7 @@ module _ (n f : ℕ) where
 
     acked-votes : VotesIn n f (allAcked n f w)
     unfolding allAcked
-    acked-votes = rows-all n f (VotesIn n f) Ack (λ i j a b c d r l. one-more l _) n (omega arith) _ (ring-votes (suc f))
+    acked-votes = rows-all n f (VotesIn n f) Ack (λ i j a b c d r l. one-more l _) n (omega arith) _ (timeouts-votes (suc f))
 
     -- 1 to m have had their second timeout
     abbrev pub ending : ℕ → List Event
@@ -86,13 +86,13 @@ module _ (n f : ℕ) where
     -- the timeout of any controller is now a second one, and the log is clean with it
     pub ending-second : (m i : ℕ) → 1 ≤ i → Second n f i (ending m)
     ending-second m i a = elim (decLe i (suc f)) [
-      | yes h ↦ inr (ring-keep (Timeout i) m _ (unfold allAcked in rows-keep n f (Timeout i) Ack _ (ring-in (suc f) i (allVoted n f w) a h)))
+      | yes h ↦ inr (timeouts-keep (Timeout i) m _ (unfold allAcked in rows-keep n f (Timeout i) Ack _ (timeouts-in (suc f) i (allVoted n f w) a h)))
       | no h ↦ inl (omega arith)
     ]
 
     pub ending-clean : (m : ℕ) → Clean n f (ending m)
     unfolding timeouts
-    ending-clean zero = unfold allAcked in rows-clean Ack _ (ring-clean (suc f) (omega arith))
+    ending-clean zero = unfold allAcked in rows-clean Ack _ (timeouts-clean (suc f) (omega arith))
     ending-clean (suc m) = (ending-clean m, (ending-votes m, λ s. ending-acks m))
 
     pub next-clean : (m i : ℕ) → Clean n f (Timeout i ∷ ending m)
@@ -101,14 +101,14 @@ module _ (n f : ℕ) where
     -- the votes in it are those of w
     pub ending-cast : (m k : ℕ) → 1 ≤ k → k ≤ n → In (Cast k (w k) 0) (ending m)
     unfolding allAcked allVoted
-    ending-cast m k a b = ring-keep _ m _ (rows-keep n f _ Ack _ (ring-keep _ (suc f) _ (rows-keep n f _ Vote _ (cast-in w n k a b))))
+    ending-cast m k a b = timeouts-keep _ m _ (rows-keep n f _ Ack _ (timeouts-keep _ (suc f) _ (rows-keep n f _ Vote _ (cast-in w n k a b))))
 
     pub ending-as : (m k : ℕ) (x : Bool) (t : ℕ) → In (Cast k x t) (ending m) → x ≡ w k
     unfolding allAcked allVoted
-    ending-as m k x t e = cast-as w n k x t (rows-back n f _ Vote (away Vote) _ (ring-back _ (suc f) rung _ (rows-back n f _ Ack (away Ack) _ (ring-back _ m rung _ e))))
+    ending-as m k x t e = cast-as w n k x t (rows-back n f _ Vote (away Vote) _ (timeouts-back _ (suc f) times-out _ (rows-back n f _ Ack (away Ack) _ (timeouts-back _ m times-out _ e))))
       where
         away : (kind : Kind) (i j : ℕ) → Cast k x t ≡ Deliver i j kind → ⊥
         away kind i j q = let z : _≡_ {A = ℕ} 0 1 = cc in differ z
 
-        rung : (i : ℕ) → Cast k x t ≡ Timeout i → ⊥
-        rung i q = let z : _≡_ {A = ℕ} 0 1 = cc in differ z
+        times-out : (i : ℕ) → Cast k x t ≡ Timeout i → ⊥
+        times-out i q = let z : _≡_ {A = ℕ} 0 1 = cc in differ z

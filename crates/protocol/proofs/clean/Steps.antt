@@ -101,7 +101,7 @@ module _ (n f : ℕ) where
       | inl q ↦ inl (λ i earlier later p s. calm q ns i earlier later p s)
       | inr b ↦ elim (second-dec (b .at) l) [
         | inl s ↦ inr (record { at = b .at; earlier = l; later = []; parts = ap (λ (x : Event). x ∷ l) (b .is); sec = s; none-before = ns })
-        | inr no-s ↦ inl (λ i earlier later p s. rung b no-s ns i earlier later p s)
+        | inr no-s ↦ inl (λ i earlier later p s. times-out b no-s ns i earlier later p s)
       ]
     ]
   ]
@@ -110,12 +110,12 @@ module _ (n f : ℕ) where
       calm q ns i earlier [] p s = subst NotTimeout (same-head e (Timeout i) l earlier p) q
       calm q ns i earlier (y ∷ later) p s = ns i earlier later (same-tail e y l _ p) s
 
-      rung : (b : IsTimeout e) → (Second n f (b .at) l → ⊥) → NoSecond l → (i : ℕ) (earlier later : List Event) → (e ∷ l) ≡ later ++ (Timeout i ∷ earlier) → Second n f i earlier → ⊥
-      rung b no-s ns i earlier [] p s =
+      times-out : (b : IsTimeout e) → (Second n f (b .at) l → ⊥) → NoSecond l → (i : ℕ) (earlier later : List Event) → (e ∷ l) ≡ later ++ (Timeout i ∷ earlier) → Second n f i earlier → ⊥
+      times-out b no-s ns i earlier [] p s =
           let z : Timeout i ≡ Timeout (b .at) = sym (same-head e (Timeout i) l earlier p) ∙ b .is in
           let k : i ≡ b .at = inject i (b .at) z in
           no-s (subst (λ (x : ℕ). Second n f x l) k (subst (Second n f i) (sym (same-tail e (Timeout i) l earlier p)) s))
-      rung b no-s ns i earlier (y ∷ later) p s = ns i earlier later (same-tail e y l _ p) s
+      times-out b no-s ns i earlier (y ∷ later) p s = ns i earlier later (same-tail e y l _ p) s
 
   pub votes-more : (l earlier later : List Event) (e : Event) → l ≡ later ++ (e ∷ earlier) → VotesIn n f earlier → VotesIn n f l
   votes-more l earlier later e p v = subst (VotesIn n f) (sym p) (record {

@@ -33,7 +33,7 @@ use Rattle.protocol.proofs.view.Simulation.{view, Sound, Steps, step-st
 use Rattle.protocol.proofs.invariant.Invariant.{Inv}
 use Rattle.protocol.proofs.invariant.Orders.{perform-next, next-inv}
 use Rattle.protocol.proofs.clean.Log.{In}
-use Rattle.protocol.proofs.clean.Kept.{PhaseMove, stays, rung, voted, KeptAll, Goes, perform-tame}
+use Rattle.protocol.proofs.clean.Kept.{PhaseMove, stays, times-out, voted, KeptAll, Goes, perform-tame}
 use Rattle.protocol.proofs.clean.Parts.{perform-order}
 use Rattle.protocol.proofs.clean.Reached.{log-one}
 use Rattle.protocol.proofs.claim.Moments.{is-accepted, logAt, Enters, entry-of, append-assoc, run-append, run-one}
@@ -50,7 +50,7 @@ running-up (Standby o) e = refl
 
 phases-up : (n f : ℕ) (e : Event) (j s s′ : ℕ) → PhaseMove n f e j s s′ → s ≤ s′
 phases-up n f e j s s′ (stays p) = omega arith
-phases-up n f e j s s′ (rung q p) = omega arith
+phases-up n f e j s s′ (times-out q p) = omega arith
 phases-up n f e j s s′ (voted w t q z p) = omega arith
 
 -- an event of a running controller

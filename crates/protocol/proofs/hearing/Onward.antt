@@ -1,4 +1,4 @@
--- From every moment of an open order the premises can be met: each running controller is brought to stage 3, each kind of telegram is delivered in
+-- From every moment of an open order the premises can be met: each running controller is brought to stage 3, each kind of message is delivered in
 -- turn, answers last, and the arbiter answers each that put a word.
 use Prim.Native.Nat.{ℕ, zero, suc, _≤_, _<_}
 use mathlib.Core.Path.{_≡_, refl, sym, _∙_, ap, subst}
@@ -49,7 +49,7 @@ use Rattle.protocol.proofs.view.RuleCases.{vote-cases, ack-cases, helpe
 use Rattle.protocol.proofs.view.Simulation.{view, Ranges, ranges}
 use Rattle.protocol.proofs.invariant.Orders.{not-both}
 use Rattle.protocol.proofs.clean.Log.{In}
-use Rattle.protocol.proofs.clean.Added.{NewVote, NewTimeout, perform-new, second-rings, rung-after}
+use Rattle.protocol.proofs.clean.Added.{NewVote, NewTimeout, perform-new, second-reaches, reached-after}
 use Rattle.protocol.proofs.claim.Moments.{logAt, run-append, in-order}
 use Rattle.protocol.proofs.claim.OrderNumbers.{number-same}
 use Rattle.protocol.proofs.claim.Start.{start}
@@ -132,9 +132,9 @@ module _ (n f o : ℕ) (f<n : f < n) (1≤f : 1 ≤ f) (small : n ≤ limit) (op
   unmoved es m e u q j d = rw (performs n f o f<n 1≤f small es m e q) (other n f o f<n 1≤f small (viewAt es) e u j d)
 
   module _ (k : ℕ) (lo : 1 ≤ k) (hi : k ≤ n) where
-    ring-accepted : (es : List Event) → At es → runs ((viewAt es) .ctl k) ≡ true → (eqb (phase ((viewAt es) .ctl k)) 1 || eqb (phase ((viewAt es) .ctl k)) 2) ≡ true → accepts n f (viewAt es) (Timeout k) ≡ true
+    timeout-taken : (es : List Event) → At es → runs ((viewAt es) .ctl k) ≡ true → (eqb (phase ((viewAt es) .ctl k)) 1 || eqb (phase ((viewAt es) .ctl k)) 2) ≡ true → accepts n f (viewAt es) (Timeout k) ≡ true
     unfolding accepts firstNo unless isController
-    ring-accepted es m r p = rw (le-leb 1 k lo, le-leb k n hi, open-at es m, r, p)
+    timeout-taken es m r p = rw (le-leb 1 k lo, le-leb k n hi, open-at es m, r, p)
 
     cast-accepted : (es : List Event) → At es → runs ((viewAt es) .ctl k) ≡ true → phase ((viewAt es) .ctl k) ≡ 0 → accepts n f (viewAt es) (Cast k true 0) ≡ true
     unfolding accepts firstNo unless isController positionInRange
@@ -146,15 +146,15 @@ module _ (n f o : ℕ) (f<n : f < n) (1≤f : 1 ≤ f) (small : n ≤ limit) (op
         let w : NewVote n f (viewAt es) (performV n f (viewAt es) (Cast k true 0)) k true = perform-new n f small (viewAt es) (Cast k true 0) (m .inv) q in
         record { to = es ++ (Cast k true 0 ∷ []); later = later-one n f o f<n 1≤f small es m (Cast k true 0) tt q r; holds = record { stage = rw (performs n f o f<n 1≤f small es m (Cast k true 0) q) (w .begun); others = unmoved es m (Cast k true 0) tt q } }
     raised es m r (suc zero) h p =
-        let q : accepts n f (viewAt es) (Timeout k) ≡ true = ring-accepted es m r (rw p) in
+        let q : accepts n f (viewAt es) (Timeout k) ≡ true = timeout-taken es m r (rw p) in
         let w : NewTimeout n f (viewAt es) (performV n f (viewAt es) (Timeout k)) k = perform-new n f small (viewAt es) (Timeout k) (m .inv) q in
         record { to = es ++ (Timeout k ∷ []); later = later-one n f o f<n 1≤f small es m (Timeout k) tt q r; holds = record { stage = rw (performs n f o f<n 1≤f small es m (Timeout k) q) (w .after); others = unmoved es m (Timeout k) tt q } }
     raised es m r (suc (suc zero)) h p =
-        let q : accepts n f (viewAt es) (Timeout k) ≡ true = ring-accepted es m r (rw p) in
-        record { to = es ++ (Timeout k ∷ []); later = later-one n f o f<n 1≤f small es m (Timeout k) tt q r; holds = record { stage = rw (performs n f o f<n 1≤f small es m (Timeout k) q) rung; others = unmoved es m (Timeout k) tt q } }
+        let q : accepts n f (viewAt es) (Timeout k) ≡ true = timeout-taken es m r (rw p) in
+        record { to = es ++ (Timeout k ∷ []); later = later-one n f o f<n 1≤f small es m (Timeout k) tt q r; holds = record { stage = rw (performs n f o f<n 1≤f small es m (Timeout k) q) times-out; others = unmoved es m (Timeout k) tt q } }
       where
-        rung : 3 ≤ phase ((performV n f (viewAt es) (Timeout k)) .ctl k)
-        rung = unfold performV timeoutRule in rw p (omega (arith, rung-after n f (viewAt es) k (secondTimeout n f k ((viewAt es) .ctl k)) 3 (second-rings n f k ((viewAt es) .ctl k))))
+        times-out : 3 ≤ phase ((performV n f (viewAt es) (Timeout k)) .ctl k)
+        times-out = unfold performV timeoutRule in rw p (omega (arith, reached-after n f (viewAt es) k (secondTimeout n f k ((viewAt es) .ctl k)) 3 (second-reaches n f k ((viewAt es) .ctl k))))
     raised es m r (suc (suc (suc s))) h p = absurd (omega arith)
 
     pub to-stage : (s : ℕ) → s ≤ 3 → (es : List Event) → At es → runs ((viewAt es) .ctl k) ≡ true → Brought es (Raised k s es)
@@ -229,7 +229,7 @@ module _ (n f o : ℕ) (f<n : f < n) (1≤f : 1 ≤ f) (small : n ≤ limit) (op
   delivered-on : (S : Kind → Bool) (kind : Kind) → S kind ≡ true → (es : List Event) (P : List Event → Type 0) (b : Onto S es P) (i j : ℕ) → Delivered kind i j es → Delivered kind i j (b .to)
   delivered-on S kind s es P b i j h e r = b .later .log (Deliver i j kind) (h (sym (b .calm kind s i j) ∙ e) (sym (b .later .running j) ∙ r))
 
-  -- a telegram sent travels as it may
+  -- a message sent travels as it may
   module _ (es : List Event) (m : At es) (kind : Kind) (i j : ℕ) (e : sentTo kind i j es ≡ true) where
     asked : AllYes (aboutMessage (messageAt (after es) kind i j))
     asked = all-yes (aboutMessage (messageAt (after es) kind i j)) (reach .messages-pass es kind i j (unfold view in e))

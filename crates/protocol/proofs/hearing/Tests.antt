@@ -144,7 +144,7 @@ passes delivered b log = allTo (b .shared .n) (λ i. allTo (b .shared .n) (λ j.
     (allKinds (λ kind. implies (has ((ofKind kind (sentBy b i)) .to) j) (anyIn (isDelivery i j kind) log)))))
 passes answered b log = allTo (b .shared .n) (λ i. implies (runs (controller b i)) (implies (not (isNone ((controller b i) .proposal))) (anyIn (isAnswer i) log)))
 
--- a telegram sent has a sender among the controllers
+-- a message sent has a sender among the controllers
 sender : (es : List Event) (kind : Kind) (i j : ℕ) → WasSent (after es) kind i j → isController ((after es) .shared .n) i ≡ true
 unfolding aboutMessage
 sender es kind i j e = and-l _ _ (and-l _ _ (asked .1 .0))

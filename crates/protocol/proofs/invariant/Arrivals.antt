@@ -108,7 +108,7 @@ module _ (n f : ℕ) (small : n ≤ limit) (b : View) (inv : Inv n f b) (i : ℕ
   pub stop-fits : Fits n f b i (becomes (cleared Stopped c))
   stop-fits = becomes-fits n f b inv i _ (own-cleared n f i Stopped c l refl refl (inv .owns i .counted .room)) (ctl-cleared n f L (b .state .consensus .decision) i Stopped c (λ v e. none-word v e))
 
-  -- a restore: an outcome comes from a card of this order alone
+  -- a restore: an outcome comes from a checkpoint of this order alone
   restored-fits : (o : Outcome) → ((v : Bool) → o ≡ wordOf v → OutcomeGrounds n f L (b .state .consensus .decision) v) → Fits n f b i (becomes (cleared (Standby o) c))
   restored-fits o h = becomes-fits n f b inv i _ (own-cleared n f i (Standby o) c l refl refl (inv .owns i .counted .room)) (ctl-cleared n f L (b .state .consensus .decision) i (Standby o) c h)
 

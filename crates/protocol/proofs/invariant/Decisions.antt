@@ -141,7 +141,7 @@ pub renew-keeps : (c : Controller) → RenewKeeps c (renew c)
 unfolding renew cleared
 renew-keeps c = by-cond (RenewKeeps c) (isStopped (c .condition)) (cleared Stopped c) (cleared (inPhase 0 None) c) (λ e. record { acks = refl; position = refl }) (λ e. record { acks = refl; position = refl })
 
--- a bench on which nothing has happened keeps the invariant, whatever cards of older orders it has
+-- a bench on which nothing has happened keeps the invariant, whatever checkpoints of older orders it has
 pub blank-inv : (n f o : ℕ) (w : OrderState) (ctl : ℕ → Controller) (saved : ℕ → Saved) (counts : Counts) → ((k : ℕ) → w .sent k ≡ unsentAll) → w .consensus .«move_proposed» ≡ false → w .consensus .«stay_proposed» ≡ false → w .consensus .decision ≡ None
     → ((k : ℕ) → Blank (ctl k)) → ((k : ℕ) → 1 ≤ k → k ≤ n → n ≤ length ((ctl k) .acks .sets)) → ((k : ℕ) → savedOrder (saved k) ≤ o) → ((k : ℕ) → savedOrder (saved k) ≡ o → savedOutcome (saved k) ≡ None)
     → Inv n f (record { order = o; state = w; ctl = ctl; saved = saved; counts = counts })

@@ -15,11 +15,11 @@ use Rattle.protocol.proofs.invariant.Invariant.{willBy, ackOn, helpOn, 
 
 module _ (n f : ℕ) (f<n : f < n) where
   module _ (L : ℕ → Sent) (ok : (k : ℕ) → SentSound f L k (L k)) where
-    -- a vote known on a help sheet is willing where all are
+    -- a vote known on a help vote set is willing where all are
     known-willing : AllWilling n f L → (j : ℕ) → frozenBy j (L j) ≡ true → (k : ℕ) → 1 ≤ k → k ≤ n → knows (helpOn (L j)) k ≡ true → wills (helpOn (L j)) k ≡ true
     known-willing all j h k a b e = ok j .help-ok h .true-to k e ∙ all k a b .1
 
-    -- Stay from a backup's acknowledgement: the direct decision saw it with the word Move. Stay from all help sheets: some help sheet knows the vote that
+    -- Stay from a backup's acknowledgement: the direct decision saw it with the word Move. Stay from all help vote sets: some help vote set knows the vote that
     -- is willing on none of them, namely that of a direct decider beyond the backups, or of the second backup for a backup's vote, or the voter's own.
     pub direct-excludes-stay : AllWilling n f L → DirectMove n f L → StayGrounds n f L → ⊥
     direct-excludes-stay all d (inl s) = no-both (unanimous n (ackOn (L (s .at)))) (d .acks (s .at) (s .low) (s .high) .1) (s .stays)

@@ -21,7 +21,7 @@ use Rattle.protocol.specs.declared.Sent.{Sent}
 use Rattle.protocol.specs.Controllers.{isRunning, phaseIn, outcomeIn, outcome, hasAck, ackOf, hasHelped, hasCalled}
 use Rattle.protocol.proofs.view.View.{View, savedOrder, savedOutcome}
 
--- what controller i has sent: has it voted, and willingly; is its acknowledgement frozen, its help sheet; each sheet knows its sender
+-- what controller i has sent: has it voted, and willingly; is its acknowledgement frozen, its help vote set; each vote set knows its sender
 abbrev pub votedBy : ℕ → Sent → Bool
 votedBy i l = knows (l .vote .votes) i
 
@@ -40,7 +40,7 @@ helpOn l = l .helped .votes
 abbrev pub frozenBy : ℕ → Sent → Bool
 frozenBy i l = knows (l .helped .votes) i
 
--- each vote on a sheet is the vote accepted; willing lies within known
+-- each vote on a vote set is the vote accepted; willing lies within known
 pub record Truthful (L : ℕ → Sent) (s : VoteSet) : Type 0 where
   pub cast : (k : ℕ) → knows s k ≡ true → votedBy k (L k) ≡ true
   pub true-to : (k : ℕ) → knows s k ≡ true → wills s k ≡ willBy k (L k)
@@ -83,7 +83,7 @@ module _ (n f : ℕ) where
     pub unwilling : willBy at (L at) ≡ false
 
   -- the grounds of a direct decision of Move: every backup's acknowledgement has the word Move,
-  -- and a help sheet beyond the backups has it too, or the second backup's acknowledgement knows all backups
+  -- and a help vote set beyond the backups has it too, or the second backup's acknowledgement knows all backups
   pub record HelpMove (L : ℕ → Sent) : Type 0 where
     pub at : ℕ
     pub low : f < at
@@ -100,7 +100,7 @@ module _ (n f : ℕ) where
     pub more : HelpMove L ⊎ SecondAck L
 
   -- the grounds of a Stay put to the arbiter: a backup's acknowledgement with the word Stay,
-  -- or all help sheets beyond the backups, with one vote willing on none of them
+  -- or all help vote sets beyond the backups, with one vote willing on none of them
   pub record AckStay (L : ℕ → Sent) : Type 0 where
     pub at : ℕ
     pub low : 1 ≤ at
@@ -124,7 +124,7 @@ module _ (n f : ℕ) where
   OutcomeGrounds L ch false = Unwilling L ⊎ (ch ≡ wordOf false)
 
   -- A controller and what itself has sent, by parts, each over what it looks at: a change that leaves these alone leaves the part as it is.
-  -- its phase and its own sheet
+  -- its phase and its own vote set
   pub record Phased (i : ℕ) (k : Condition) (s : VoteSet) (l : Sent) : Type 0 where
     pub fresh0 : isRunning k ≡ true → phaseIn k ≡ 0 → votedBy i l ≡ false
     pub fresh1 : isRunning k ≡ true → phaseIn k ≤ 1 → ackedBy i l ≡ false

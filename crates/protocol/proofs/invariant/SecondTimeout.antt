@@ -74,7 +74,7 @@ module _ (n f : ℕ) (f<n : f < n) (1≤f : 1 ≤ f) (small : n ≤ limit) (b : 
   abbrev s : VoteSet
   s = helpVotes n c
 
-  -- what it has sent afterwards: its help sheet is laid down, and help calls h are out or not
+  -- what it has sent afterwards: its help vote set is laid down, and help calls h are out or not
   abbrev l′ : Outgoing → Sent
   l′ h = record { vote = (L i) .vote; ack = (L i) .ack; help = h; helped = record { to = bitOr ((L i) .helped .to) (c .help .callers); votes = s } }
 
@@ -126,7 +126,7 @@ module _ (n f : ℕ) (f<n : f < n) (1≤f : 1 ≤ f) (small : n ≤ limit) (b : 
   kept-answered : (j : ℕ) → has (bitOr ((L i) .helped .to) (c .help .callers)) j ≡ hasCalled c j
   kept-answered j = has-or ((L i) .helped .to) (c .help .callers) j ∙ rw (refuted (has ((L i) .helped .to) j) (λ e. no-both (frozenBy i (L i)) (inv .lines i .helped-to j e) unfrozen))
 
-  -- the controller at stage 3 with its help sheet frozen
+  -- the controller at stage 3 with its help vote set frozen
   own-frozen : (h : Outgoing) → Own n f i (frozen n c) (l′ h)
   unfolding frozen freeze advance
   own-frozen h = let o : Own n f i c (L i) = inv .owns i in record {

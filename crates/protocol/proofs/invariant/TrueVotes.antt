@@ -1,4 +1,4 @@
--- Sheets that tell the votes as they were cast: joins of such sheets are such sheets, and what their words say of the votes.
+-- Vote sets that tell the votes as they were cast: joins of such vote sets are such vote sets, and what their words say of the votes.
 use Prim.Native.Nat.{ℕ, _≤_}
 use mathlib.Core.Path.{_≡_, sym, _∙_}
 use mathlib.Core.Bool.{true, false, not, _&&_}
@@ -24,7 +24,7 @@ module _ (L : ℕ → Sent) where
   pub empty-ok : Truthful L empty
   empty-ok = record { cast = λ k e. absurd (no-both (has 0 k) e (has-none k)); true-to = λ k e. absurd (no-both (has 0 k) e (has-none k)); within = λ k e. absurd (no-both (has 0 k) e (has-none k)) }
 
-  -- the sheet of a vote that was cast
+  -- the vote set of a vote that was cast
   pub vote-ok : (f i : ℕ) → SentSound f L i (L i) → Truthful L ((L i) .vote .votes)
   vote-ok f i o = record {
     cast = λ k e. rw (o .vote-only k e) (rw (o .vote-only k e) at e);
@@ -71,15 +71,15 @@ module _ (L : ℕ → Sent) where
             knows-in-all m from l (r .at) (r .low) (r .high) a k (ok (r .at) a .within k (and-r (has from (r .at)) (wills (of (r .at)) k) (r .holds)))
 
   module _ (n f : ℕ) where
-    -- a word of Move on a true sheet: all are willing
+    -- a word of Move on a true vote set: all are willing
     pub move-all : (s : VoteSet) → Truthful L s → unanimous n s ≡ true → AllWilling n f L
     move-all s o e k a b = (o .cast k (unanimous-known n s e k a b), sym (o .true-to k (unanimous-known n s e k a b)) ∙ unanimous-willing n s e k a b)
 
-    -- a complete true sheet has the word Move where all are willing
+    -- a complete true vote set has the word Move where all are willing
     pub all-move : (s : VoteSet) → Truthful L s → AllWilling n f L → complete n s ≡ true → unanimous n s ≡ true
     all-move s o h e = votes-unanimous n s (complete-knows n s e) (λ k a b. o .true-to k (complete-knows n s e k a b) ∙ h k a b .1)
 
-    -- a word of Stay on a complete true sheet: one is unwilling
+    -- a word of Stay on a complete true vote set: one is unwilling
     pub stay-unwilling : (s : VoteSet) → Truthful L s → ((k : ℕ) → 1 ≤ k → k ≤ n → knows s k ≡ true) → unanimous n s ≡ false → Unwilling n f L
     stay-unwilling s o kn e =
         let r : Found n (λ k. not (knows s k && wills s k)) = stay-lacks n s e in

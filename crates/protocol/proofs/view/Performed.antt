@@ -76,7 +76,7 @@ module _ (n f : ℕ) where
   abbrev pub checkpointAt : View → ℕ → Checkpoint
   checkpointAt v i = record { id = i; n = n; f = f; outcome = outcome (v .ctl i); order = v .order; position = (v .ctl i) .gate .position }
 
-  -- the bell's rule by the stage
+  -- the timeout's rule by the stage
   unfoldable pub timeoutRule : ℕ → Controller → Answer
   timeoutRule i c = cond (eqb (phase c) 1) (firstTimeout n f i c) (secondTimeout n f i c)
 
@@ -225,7 +225,7 @@ module _ (n f : ℕ) where
   performed z v (Save i) q = saved-back v i (unfold accepts firstNo in search (ask-l, ask-r) depth 14)
   performed z v (Restore i) q = answer-back v i _ _ (answered-by-rule z v (Restore i) q)
 
-  -- a delivered telegram has a receiver among the controllers, and so on: the controller that an accepted event concerns is one of them
+  -- a delivered message has a receiver among the controllers, and so on: the controller that an accepted event concerns is one of them
   pub place : (v : View) (e : Event) → concernsOne e ≡ true → accepts n f v e ≡ true → (1 ≤ subject e) × (subject e ≤ n)
   unfolding accepts firstNo isController
   place v (Lock x y) c q = absurd (false≢true c)

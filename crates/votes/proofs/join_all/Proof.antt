@@ -1,4 +1,4 @@
--- `votes::join_all` meets its contract. The invariant: after k senders the set is the join of the sheets of those of 1..k. The array has no more
+-- `votes::join_all` meets its contract. The invariant: after k senders the set is the join of the vote sets of those of 1..k. The array has no more
 -- than 16, so the senders after that add nothing.
 use Rattle.votes.proofs.Computed.{joined-all}
 use Prim.Native.Nat.{ℕ, _-_, _≤_, min}

@@ -18,12 +18,12 @@ controller-of-requires c κs = search needs
 controller-of-requires-2 : tie.Need-controller-of-requires-2
 controller-of-requires-2 c κs = search needs
 
-telegram-kind-of-requires : tie.Need-telegram-kind-of-requires
-telegram-kind-of-requires c κs = search needs
+message-kind-of-requires : tie.Need-message-kind-of-requires
+message-kind-of-requires c κs = search needs
 
 returns : tie.Need-returns
 unfolding delivery
-returns c = simp (← c .before .before .before .before .before .draw .ensures, ← c .before .before .before .before .draw2 .ensures, ← c .before .before .before .draw3 .ensures, ← c .before .before .controller-of .ensures, ← c .before .controller-of2 .ensures, c .telegram-kind-of .ensures)
+returns c = simp (← c .before .before .before .before .before .draw .ensures, ← c .before .before .before .before .draw2 .ensures, ← c .before .before .before .draw3 .ensures, ← c .before .before .controller-of .ensures, ← c .before .controller-of2 .ensures, c .message-kind-of .ensures)
 
 pub delivery-spec : {M : Type 1} → statement M
 delivery-spec =
@@ -34,5 +34,5 @@ delivery-spec =
     draw-requires-3
     controller-of-requires
     controller-of-requires-2
-    telegram-kind-of-requires
+    message-kind-of-requires
     returns)

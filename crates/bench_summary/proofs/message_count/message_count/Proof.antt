@@ -1,13 +1,13 @@
--- `bench_summary::telegrams::telegrams` meets its contract. The invariant: the total is the sum over the first i controllers, at most 255 for each.
+-- `bench_summary::message_count::message_count` meets its contract. The invariant: the total is the sum over the first i controllers, at most 255 for each.
 use Prim.Native.Nat.{_*_, _-_, _≤_}
 use mathlib.Core.Path.{_≡_, _∙_, ap}
 use native.Mathlib.Omega.{arith}
 use borrow.Author.Needs.{needs}
 use Rattle.protocol.specs.Benches.{station}
-use Rattle.protocol.specs.Display.{telegrams, sentCount, sumTo}
+use Rattle.protocol.specs.Display.{messageCount, sentCount, sumTo}
 use Rattle.bench_summary.proofs.Sums.{no-sum, more-sum}
-use Rattle.bench_summary.proofs.telegrams.telegrams.Statement.{statement}
-use Rattle.bench_summary.proofs.telegrams.telegrams.Tie as tie
+use Rattle.bench_summary.proofs.message_count.message_count.Statement.{statement}
+use Rattle.bench_summary.proofs.message_count.message_count.Tie as tie
 
 abbrev Inv-loop : tie.InvT-loop
 Inv-loop b kind n end total₀ i₀ total i = (i ≤ end) × ((total ≤ i * 255) × (total ≡ sumTo i (sentCount b kind)))
@@ -47,15 +47,15 @@ loop-again c =
     (omega arith, (omega arith, more-sum (sentCount (a .b) (a .kind)) (l .i) (l .total) (c .size .result) (l .inv .1 .1) (rw (← c .before .receivers-at .ensures) (c .size .ensures))))
 
 returns : tie.Need-returns Inv-loop μ-loop
-unfolding telegrams
+unfolding messageCount
 returns c =
     let a = c .before .before .args in
     let l = c .before .loop in
     let e : l .i ≡ a .b .shared .n = omega arith in
     l .inv .1 .1 ∙ ap (λ k. sumTo k (sentCount (a .b) (a .kind))) e
 
-pub telegrams-spec : {M : Type 1} → statement M
-telegrams-spec =
+pub message-count-spec : {M : Type 1} → statement M
+message-count-spec =
     tie.close
     (tie.spec
     Inv-loop

@@ -1,10 +1,10 @@
--- `bench_summary::telegrams::receivers_at` meets its contract. Past the last station nobody has sent anything.
+-- `bench_summary::message_count::receivers_at` meets its contract. Past the last station nobody has sent anything.
 use borrow.Author.Needs.{needs}
 use Rattle.ground.specs.Lists.{nth}
 use Rattle.protocol.specs.Benches.{freshStation, fresh, unsentAll}
 use Rattle.bench_summary.proofs.Stations.{sent-past}
-use Rattle.bench_summary.proofs.telegrams.receivers_at.Statement.{statement}
-use Rattle.bench_summary.proofs.telegrams.receivers_at.Tie as tie
+use Rattle.bench_summary.proofs.message_count.receivers_at.Statement.{statement}
+use Rattle.bench_summary.proofs.message_count.receivers_at.Tie as tie
 
 returns : tie.Need-returns
 returns c = sent-past (c .before .args .t1) (c .before .args .i) (search needs) (c .before .args .kind)

@@ -1,4 +1,4 @@
--- The second bell: with calls kept it gives what it gives without them, and the help sheet goes to the callers; one caller more is one call answered.
+-- The second timeout: with calls kept it gives what it gives without them, and the help vote set goes to the callers; one caller more is one call answered.
 use Prim.Native.Nat.{ℕ}
 use mathlib.Core.Path.{_≡_, refl}
 use mathlib.Core.Bool.{true}
@@ -13,7 +13,7 @@ use Rattle.protocol.proofs.view.RuleCases.{sufficient-cases, second-cases}
 use Rattle.early_calls.specs.Document01.{withCallers}
 use Rattle.early_calls.proofs.Rules.{by-cond₂}
 
--- an answer of the second bell, with the help sheet s sent to the callers m
+-- an answer of the second timeout, with the help vote set s sent to the callers m
 abbrev pub answeredTo : ℕ → VoteSet → Answer → Answer
 answeredTo m s a = record {
   taken = a .taken;
@@ -23,20 +23,20 @@ answeredTo m s a = record {
 }
 
 module _ (n f i : ℕ) (c : Controller) where
-  pub bell-kept : (m : ℕ) → secondTimeout n f i (withCallers c m) ≡ answeredTo m (helpVotes n c) (secondTimeout n f i (withCallers c 0))
+  pub timeout-kept : (m : ℕ) → secondTimeout n f i (withCallers c m) ≡ answeredTo m (helpVotes n c) (secondTimeout n f i (withCallers c 0))
   unfolding secondTimeout decides backupsComplete secondKnows ackJoin helpVotes frozen freeze advance ready callsHelp conclude proposing propose await keepHelped proposeIfSufficient sufficient answersJoin verdict
-  bell-kept m = by-cond₂ (λ (x y : Answer). x ≡ answeredTo m (helpVotes n c) y) (decides n f i c) _ _ _ _ (λ d. refl)
+  timeout-kept m = by-cond₂ (λ (x y : Answer). x ≡ answeredTo m (helpVotes n c) y) (decides n f i c) _ _ _ _ (λ d. refl)
       (λ d. by-cond₂ (λ (x y : Answer). x ≡ answeredTo m (helpVotes n c) y) (ltb 0 (c .acks .cnt .0)) _ _ _ _ (λ e. refl)
       (λ e. by-cond₂ (λ (x y : Answer). x ≡ answeredTo m (helpVotes n c) y) (sufficient n f ((callsHelp n f i (helpVotes n c) (frozen n c)) .controller)) _ _ _ _ (λ q. refl) (λ q. refl)))
 
-  -- after it the controller runs at stage 3, with its help sheet frozen
+  -- after it the controller runs at stage 3, with its help vote set frozen
   pub record Frozen (a : Answer) : Type 0 where
     pub runs : isRunning (a .controller .condition) ≡ true
     pub phase : phase (a .controller) ≡ 3
     pub votes : a .controller .help .votes ≡ helpVotes n c
 
-  pub bell-frozen : Frozen (secondTimeout n f i c)
-  bell-frozen = second-cases Frozen n f i c
+  pub timeout-frozen : Frozen (secondTimeout n f i c)
+  timeout-frozen = second-cases Frozen n f i c
       (λ d. unfold ready conclude frozen freeze advance in record { runs = refl; phase = refl; votes = refl })
       (λ e. unfold proposing ready propose frozen freeze advance in record { runs = refl; phase = refl; votes = refl })
       (λ e. sufficient-cases Frozen n f _

@@ -1,12 +1,12 @@
--- TELEGRAMS OF A CLEAN ORDER, beside demand 3 and about every list of events that a new bench is given. Document 02, U10: "Document 01 bounds kinds 1 and 2 by
+-- MESSAGES OF A CLEAN ORDER, beside demand 3 and about every list of events that a new bench is given. Document 02, U10: "Document 01 bounds kinds 1 and 2 by
 -- 2fn. For a clean order that has ended everywhere, the figure is to be exactly 2fn, fn of each kind, with no help call and no answer, willing or not. For other
--- orders the bound remains": that is `at-most-2fn` of the claim. `clean_telegrams` in src/lib.rt has this as its contract; the proof is in proofs/.
+-- orders the bound remains": that is `at-most-2fn` of the claim. `clean_messages` in src/lib.rt has this as its contract; the proof is in proofs/.
 use Prim.Native.Nat.{ℕ, _+_, _*_, _≤_}
 use mathlib.Core.Path.{_≡_}
 use mathlib.Core.List.{List}
 use Rattle.model.specs.declared.Kind.the-variants.{Vote, Ack, Help, Helped}
 use Rattle.model.specs.declared.Event.{Event}
-use Rattle.protocol.specs.Display.{telegrams}
+use Rattle.protocol.specs.Display.{messageCount}
 use Rattle.protocol.specs.Claim.{after, HoldsSome, Clean}
 
 -- "a clean order that has ended everywhere": it is clean at the moment, and every controller holds an outcome
@@ -18,12 +18,12 @@ pub record CleanEnd (es : List Event) : Type 0 where
 abbrev pub fn : List Event → ℕ
 fn es = (after es) .shared .f * (after es) .shared .n
 
-pub record CleanTelegrams : Type 0 where
+pub record CleanMessages : Type 0 where
   -- "For a clean order that has ended everywhere, the figure is to be exactly 2fn,
-  pub exactly-2fn : (es : List Event) → CleanEnd es → telegrams (after es) Vote + telegrams (after es) Ack ≡ 2 * fn es
+  pub exactly-2fn : (es : List Event) → CleanEnd es → messageCount (after es) Vote + messageCount (after es) Ack ≡ 2 * fn es
   -- fn of each kind,
-  pub votes : (es : List Event) → CleanEnd es → telegrams (after es) Vote ≡ fn es
-  pub acks : (es : List Event) → CleanEnd es → telegrams (after es) Ack ≡ fn es
+  pub votes : (es : List Event) → CleanEnd es → messageCount (after es) Vote ≡ fn es
+  pub acks : (es : List Event) → CleanEnd es → messageCount (after es) Ack ≡ fn es
   -- with no help call and no answer, willing or not."
-  pub no-help : (es : List Event) → CleanEnd es → telegrams (after es) Help ≡ 0
-  pub no-helped : (es : List Event) → CleanEnd es → telegrams (after es) Helped ≡ 0
+  pub no-help : (es : List Event) → CleanEnd es → messageCount (after es) Help ≡ 0
+  pub no-helped : (es : List Event) → CleanEnd es → messageCount (after es) Helped ≡ 0

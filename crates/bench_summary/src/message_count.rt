@@ -1,10 +1,10 @@
-// How many telegrams were sent in this order.
+// How many messages were sent in this order.
 ghost use mathlib.Core.Path.{_≡_};
 ghost use mathlib.Core.List.{[]};
 ghost use Prim.Native.Nat.{suc};
 ghost use Rattle.ground.specs.Lists.{nth};
 ghost use Rattle.protocol.specs.Benches.{freshStation, ofKind};
-ghost use Rattle.protocol.specs.Display.{telegrams};
+ghost use Rattle.protocol.specs.Display.{messageCount};
 use ground::LIMIT;
 use ground::size;
 use model::Kind;
@@ -12,7 +12,7 @@ use protocol::Bench;
 use protocol::Sent;
 use protocol::Station;
 
-// To whom a controller has sent telegrams of this kind.
+// To whom a controller has sent messages of this kind.
 fn receivers(kind: Kind, sent: Sent) -> u32
     ensures { λ r. ⌜ r ≡ (ofKind kind sent) .to ⌝ }
 {
@@ -36,9 +36,9 @@ fn receivers_at(stations: [Station; LIMIT], kind: Kind, i: usize) -> u32
     receivers(kind, sent)
 }
 
-// The telegrams of one kind: each sender's receivers, counted.
-pub(crate) fn telegrams(b: Bench, kind: Kind) -> u32
-    ensures { λ r. ⌜ r ≡ telegrams b kind ⌝ }
+// The messages of one kind: each sender's receivers, counted.
+pub(crate) fn message_count(b: Bench, kind: Kind) -> u32
+    ensures { λ r. ⌜ r ≡ messageCount b kind ⌝ }
 {
     let n = b.shared.n;
     let end = n as usize;

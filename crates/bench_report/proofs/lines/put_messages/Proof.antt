@@ -1,8 +1,8 @@
--- `bench_report::lines::put_telegrams` meets its contract.
+-- `bench_report::lines::put_messages` meets its contract.
 use borrow.Author.Needs.{needs}
 use Rattle.text.specs.WritingLaws.{put-then, put-length}
-use Rattle.bench_report.proofs.lines.put_telegrams.Statement.{statement}
-use Rattle.bench_report.proofs.lines.put_telegrams.Tie as tie
+use Rattle.bench_report.proofs.lines.put_messages.Statement.{statement}
+use Rattle.bench_report.proofs.lines.put_messages.Tie as tie
 
 put-byte-requires : tie.Need-put-byte-requires
 put-byte-requires c κs = search needs
@@ -36,8 +36,8 @@ returns c =
 same-length : tie.Need-same-length
 same-length c = put-length (returns c)
 
-pub put-telegrams-spec : {M : Type 1} → statement M
-put-telegrams-spec =
+pub put-messages-spec : {M : Type 1} → statement M
+put-messages-spec =
     tie.close
     (tie.spec
     put-byte-requires
