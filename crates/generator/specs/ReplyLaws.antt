@@ -11,26 +11,12 @@ use mathlib.Core.Logic.{inl, inr}
 use Rattle.ground.specs.Tests.{split, and-l}
 use Rattle.ground.specs.Limit.{limit}
 use Rattle.model.specs.Questions.{accepted, refused, number, Question, unless, firstNo}
-use Rattle.model.specs.QuestionLaws.{all-yes, reply-accepted, reply-refused}
+use Rattle.model.specs.QuestionLaws.{all-yes, reply-accepted, reply-refused, first-accepted, first-refused}
 use Rattle.model.specs.Ranges.{sizesInRange}
 use Rattle.event_record.specs.Events.{eventLength}
 use Rattle.generator.specs.Claim.{recordsIn}
 use Rattle.generator.specs.FileLaws.{length-file}
 use Rattle.generator.specs.File.{fileOf, asked, refusalOf, replyTo, generated}
-
--- a list of questions and more after it
-first-refused : (qs more : List Question) (q : ℕ) → firstNo qs ≡ refused q → firstNo (qs ++ more) ≡ refused q
-unfolding firstNo unless
-first-refused [] more q e = let z : _≡_ {A = ℕ} 0 1 = cc in absurd (omega arith)
-first-refused (x ∷ qs) more q e = elim (split (x .yes)) [
-  | inl y ↦ rw y (first-refused qs more q (rw y at e))
-  | inr y ↦ rw y (rw y at e)
-]
-
-first-accepted : (qs more : List Question) → firstNo qs ≡ accepted → firstNo (qs ++ more) ≡ firstNo more
-unfolding firstNo unless
-first-accepted [] more e = refl
-first-accepted (x ∷ qs) more e = rw (all-yes (x ∷ qs) e .0) (first-accepted qs more (rw (all-yes (x ∷ qs) e .0) at e))
 
 module _ (n f count start : ℕ) where
   pub not-refused : (q : ℕ) → q ≡ number (refusalOf n f count start) → q ≡ 0 → refusalOf n f count start ≡ accepted

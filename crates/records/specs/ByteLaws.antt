@@ -1,9 +1,9 @@
 -- Laws of bytes: numbers and their bytes, both ways round; a list as its elements; a buffer that a copy fills.
-use Prim.Native.Nat.{ℕ, zero, suc, _+_, _*_, _/_, _%_, _^_, _<_}
+use Prim.Native.Nat.{ℕ, zero, suc, _+_, _*_, _/_, _%_, _^_, _≤_, _<_}
 use mathlib.Core.Path.{_≡_, refl, sym, _∙_, ap}
 use mathlib.Core.List.{List, [], _∷_, _++_, append-nil}
 use native.Mathlib.Omega.{arith}
-use lib.ListN.{length, take, drop, drop-of-length-le}
+use lib.ListN.{length, take, drop, drop-of-length-le, List·getD-eq-default}
 use lib.Seq.{take-length}
 use Rattle.records.specs.Bytes.{byte, bytes2, bytes4}
 
@@ -62,3 +62,14 @@ whole s before h = rw (take-length s, drop-of-length-le before {i = length s} (o
 
 pub filled : (s t before after : List ℕ) → after ≡ take (length s) s ++ drop (length s) before → s ≡ t → length before ≡ length t → after ≡ t
 filled s t before after e r h = e ∙ (whole s before (ap length r ∙ sym h) ∙ r)
+
+-- places, as the code counts them from a place on
+pub plus-none : (at : ℕ) → at + 0 ≡ at
+plus-none at = omega arith
+
+pub plus-three : (at : ℕ) → at + 2 + 1 ≡ at + 3
+plus-three at = omega arith
+
+-- past the end every byte reads as 0
+pub byte-past : (s : List ℕ) (k : ℕ) → length s ≤ k → byte s k ≡ 0
+byte-past s k h = List·getD-eq-default s 0 h

@@ -1,13 +1,11 @@
 // What reading and writing have in common, whatever the record: length, mark and buffer.
 use crate::number2;
 ghost use mathlib.Core.Path.{_≡_};
-ghost use Prim.Native.Nat.{_≤_};
 ghost use Rattle.model.specs.Questions.{firstNo, number};
 ghost use Rattle.records.specs.Frames.{frameQuestions, writeNumber, bufferAfter};
 
 // Questions 1 and 2: 0, or the number of the first that is answered "no".
 pub fn frame_question(s: &[u8], size: usize, mark: u32) -> u8
-    requires { ⌜ 2 ≤ size ⌝ }
     ensures { λ r. ⌜ r ≡ number (firstNo (frameQuestions size mark (now (s .entry)))) ⌝ }
 {
     if s.len() != size {

@@ -1,8 +1,7 @@
 // Big-endian numbers and their bytes.
 ghost use mathlib.Core.Path.{_≡_};
-ghost use Prim.Native.Nat.{_+_, _*_, _%_, _<_, _≤_};
-ghost use lib.ListN.{length};
-ghost use Rattle.records.specs.Bytes.{number2, number4};
+ghost use Prim.Native.Nat.{_+_, _*_, _%_, _<_};
+ghost use Rattle.records.specs.Bytes.{byte, number2, number4};
 
 fn widened(x: u8) -> u32
     ensures { λ r. ⌜ (r ≡ x) × (r < 256) ⌝ }
@@ -23,20 +22,35 @@ fn of_four(a: u8, b: u8, c: u8, d: u8) -> u32
     of_two(a, b) * 65536 + of_two(c, d)
 }
 
+// The byte k places after a place; past the end there is none, and it counts as 0.
+fn byte_after(s: &[u8], at: usize, k: usize) -> u8
+    ensures { λ r. ⌜ r ≡ byte (now (s .entry)) (at + k) ⌝ }
+{
+    if s.len() <= at {
+        return 0;
+    }
+    if s.len() - at <= k {
+        return 0;
+    }
+    s[at + k]
+}
+
 // The number that the two bytes from a place on stand for; and the four.
 pub fn number2(s: &[u8], at: usize) -> u32
-    requires { ⌜ at + 2 ≤ length (now s) ⌝ }
     ensures { λ r. ⌜ r ≡ number2 (now (s .entry)) at ⌝ }
 {
-    of_two(s[at], s[at + 1])
+    of_two(byte_after(s, at, 0), byte_after(s, at, 1))
 }
 
 pub fn number4(s: &[u8], at: usize) -> u32
-    requires { ⌜ at + 4 ≤ length (now s) ⌝ }
     ensures { λ r. ⌜ r ≡ number4 (now (s .entry)) at ⌝ }
 {
-    let low = at + 2;
-    of_four(s[at], s[at + 1], s[low], s[low + 1])
+    of_four(
+        byte_after(s, at, 0),
+        byte_after(s, at, 1),
+        byte_after(s, at, 2),
+        byte_after(s, at, 3),
+    )
 }
 
 // The lowest byte.
