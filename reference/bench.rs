@@ -2,7 +2,7 @@
 
 pub mod lock;
 
-use crate::controller::Controller;
+use crate::controller::{Controller, Reception};
 use crate::group::Group;
 use crate::questions::{
     answer, ask, controller_in_range, group_in_range, order_in_range, position_in_range,
@@ -112,6 +112,8 @@ impl Bench {
         // 17. "Was that telegram sent in this order? It may be delivered any number of times."
         let message = lock.message(kind, from, to).ok_or(17)?;
         let answer = lock.controller_mut(to).receive(&message);
+        // "Refused by the controller: 24, [...] last of all questions."
+        ask(24, answer.reception != Reception::Contradicted)?;
         lock.note(to, answer);
         Ok(())
     }

@@ -34,11 +34,20 @@ pub struct Sending {
     pub votes: VoteSet,
 }
 
+/// What became of a call; unless it was taken nothing changed.
+#[derive(Clone, Copy, PartialEq, Eq, Debug, Default)]
+pub enum Reception {
+    Taken,
+    #[default]
+    PassedOver,
+    /// "Refused by the controller: 24, a delivered sheet that contradicts one held" (document 02, U7).
+    Contradicted,
+}
+
 /// What one call did.
 #[derive(Clone, PartialEq, Eq, Debug, Default)]
 pub struct Answer {
-    /// Whether the call applied; if not, nothing changed.
-    pub taken: bool,
+    pub reception: Reception,
     pub sent: Vec<Sending>,
     /// The word put to the arbiter.
     pub proposal: Option<Verdict>,
@@ -51,9 +60,20 @@ impl Answer {
 
     pub fn taken() -> Answer {
         Answer {
-            taken: true,
+            reception: Reception::Taken,
             ..Answer::default()
         }
+    }
+
+    pub fn contradicted() -> Answer {
+        Answer {
+            reception: Reception::Contradicted,
+            ..Answer::default()
+        }
+    }
+
+    pub fn is_taken(&self) -> bool {
+        self.reception == Reception::Taken
     }
 
     pub fn sending(mut self, kind: MessageKind, receivers: Members, votes: VoteSet) -> Answer {
@@ -129,6 +149,14 @@ impl Controller {
         }
     }
 
+    /// Whose acknowledgements are held.
+    pub fn acks_held(&self) -> Members {
+        match &self.condition {
+            Condition::Running(participant) => participant.acks_held(),
+            Condition::Stopped | Condition::Standby(_) => Members::NONE,
+        }
+    }
+
     pub fn is_running(&self) -> bool {
         matches!(self.condition, Condition::Running(_))
     }
@@ -154,8 +182,10 @@ impl Controller {
         self.while_running(Participant::timeout)
     }
 
+    /// Off the bench a message may come that was never read: one whose sheet does not suit its kind is passed over,
+    /// since reading would have refused it.
     pub fn receive(&mut self, message: &Message) -> Answer {
-        if !self.is_addressee(message) {
+        if !self.is_addressee(message) || !message.votes_suit_kind() {
             return Answer::passed_over();
         }
         self.while_running(|participant| {
@@ -209,7 +239,7 @@ impl Controller {
 
     /// "a controller passes over any of another order, n or f, or meant for another controller"; and any that no rule
     /// sends to it.
-    fn is_addressee(&self, message: &Message) -> bool {
+    pub fn is_addressee(&self, message: &Message) -> bool {
         message.order == self.order
             && message.group == self.group
             && message.to == self.id

@@ -3,6 +3,7 @@
 pub mod bench;
 pub mod clean;
 pub mod command;
+pub mod contradictions;
 pub mod controller;
 pub mod dues;
 pub mod frame;

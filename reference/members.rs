@@ -24,8 +24,13 @@ impl Members {
         Members(self.0 & other.0)
     }
 
+    /// The members of this set that the other has not.
+    pub fn difference(self, other: Members) -> Members {
+        Members(self.0 & !other.0)
+    }
+
     pub fn without(self, id: u8) -> Members {
-        Members(self.0 & !Members::only(id).0)
+        self.difference(Members::only(id))
     }
 
     pub fn contains(self, id: u8) -> bool {

@@ -15,7 +15,7 @@ const REFUSALS: [usize; 18] = [
 #[derive(Clone, Debug, Default)]
 pub struct Tally {
     accepted: u64,
-    refused: [u64; 20],
+    refused: [u64; 25],
     sent: [u64; 4],
     stay_given: u64,
     move_given: u64,
@@ -75,6 +75,11 @@ impl Tally {
             },
             _ => {}
         }
+    }
+
+    /// How often a delivered sheet contradicted one held: "no event of any list from a new bench meets it".
+    pub fn contradictions(&self) -> u64 {
+        self.refused[24]
     }
 
     /// Name and count of everything that the schedules should meet.

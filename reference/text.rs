@@ -2,7 +2,7 @@
 
 use crate::bench::lock::Lock;
 use crate::bench::{run, Bench};
-use crate::controller::{Answer, Controller};
+use crate::controller::{Answer, Controller, Reception};
 use crate::records::checkpoint::{outcome_number, Checkpoint};
 use crate::records::message::MessageKind;
 use crate::vote_set::Verdict;
@@ -62,7 +62,11 @@ pub fn controller_line(
 ) -> String {
     let mut text = format!(
         "{} {} {} {} {}",
-        u8::from(answer.taken),
+        match answer.reception {
+            Reception::PassedOver => 0,
+            Reception::Taken => 1,
+            Reception::Contradicted => 24,
+        },
         stage(controller),
         word(controller.outcome()),
         controller.position() as u32,

@@ -18,6 +18,8 @@ mod open_gates;
 mod readings;
 #[path = "trials/records.rs"]
 mod records;
+#[path = "trials/strays.rs"]
+mod strays;
 #[path = "trials/support.rs"]
 mod support;
 #[path = "trials/levels.rs"]

@@ -28,12 +28,19 @@ impl VoteSet {
         VoteSet { known, willing }
     }
 
-    /// The union of known and the union of willing.
-    pub fn join(self, other: VoteSet) -> VoteSet {
-        VoteSet {
+    /// Whether a controller known to both is willing in just one (document 02, U7).
+    pub fn contradicts(self, other: VoteSet) -> bool {
+        let both = self.known.intersection(other.known);
+        self.willing.intersection(both) != other.willing.intersection(both)
+    }
+
+    /// The union of known and the union of willing; none where the two contradict each other: "Joining now says so
+    /// instead of taking either."
+    pub fn join(self, other: VoteSet) -> Option<VoteSet> {
+        (!self.contradicts(other)).then(|| VoteSet {
             known: self.known.union(other.known),
             willing: self.willing.union(other.willing),
-        }
+        })
     }
 
     /// "it is *full* when all n are known"

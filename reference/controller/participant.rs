@@ -1,4 +1,4 @@
-//! A running controller within one order: document 01, "A controller's rules", with document 02, U4.
+//! A running controller within one order: document 01, "A controller's rules", with document 02, U4 and U7.
 
 use super::Answer;
 use crate::group::{Group, MAX_CONTROLLERS};
@@ -77,8 +77,12 @@ impl Participant {
         }
         let vote = VoteSet::single(self.id, willing);
         self.target = target;
+        // "takes the telegram as not received, also one already held that its own vote contradicts"
+        for held in &mut self.acks {
+            *held = held.filter(|ack| !ack.contradicts(vote));
+        }
         // "Its own vote goes on its sheet."
-        self.votes = self.votes.join(vote);
+        self.votes = joined(self.votes, vote);
         // "Controllers 1 to f + 1 go to stage 1, others to stage 2."
         self.phase = if self.group.has_two_timeouts(self.id) {
             1
@@ -119,7 +123,7 @@ impl Participant {
         self.phase = 3;
         let held = self.joined_acks();
         // "The help sheet is the join of own sheet and acknowledgements held, then frozen."
-        self.help_votes = self.votes.join(held);
+        self.help_votes = joined(self.votes, held);
         let verdict = held.verdict(self.group.everyone());
         if self.acks_suffice() {
             // "the outcome is the word of their join."
@@ -153,6 +157,13 @@ impl Participant {
 
     /// A message that may come from that sender to this controller.
     pub fn receive(&mut self, kind: MessageKind, from: u8, votes: VoteSet) -> Answer {
+        // "One that is passed over anyway, as a sender's second acknowledgement or answer, is not tested."
+        if !self.applies(kind, from) {
+            return Answer::passed_over();
+        }
+        if self.holds_contradiction_to(votes) {
+            return Answer::contradicted();
+        }
         match kind {
             MessageKind::Vote => self.receive_vote(votes),
             MessageKind::Ack => self.receive_ack(from, votes),
@@ -161,21 +172,39 @@ impl Participant {
         }
     }
 
-    /// "Vote arrives: at stage 0 or 1 it goes on the sheet; later it is passed over."
-    fn receive_vote(&mut self, vote: VoteSet) -> Answer {
-        if self.phase > 1 {
-            return Answer::passed_over();
+    /// Whether a message of that kind from that sender is not passed over.
+    fn applies(&self, kind: MessageKind, from: u8) -> bool {
+        match kind {
+            // "Vote arrives: at stage 0 or 1 it goes on the sheet; later it is passed over."
+            MessageKind::Vote => self.phase <= 1,
+            // "Acknowledgement arrives: kept, one per sender." "After a word or an outcome, more of either is passed
+            // over."
+            MessageKind::Ack => (self.phase < 3 || self.waiting) && self.ack_of(from).is_none(),
+            // "once per caller"; "one per caller"
+            MessageKind::Help => !self.kept.contains(from) && !self.answered.contains(from),
+            MessageKind::Helped => self.waiting && !self.helped_by.contains(from),
         }
-        self.votes = self.votes.join(vote);
+    }
+
+    /// "a contradiction among its own sheet, acknowledgements and help answers"
+    fn holds_contradiction_to(&self, votes: VoteSet) -> bool {
+        let acks = self.acks.iter().flatten().copied();
+        let mut held = acks.chain([self.votes, self.helped_votes]);
+        held.any(|held| held.contradicts(votes))
+    }
+
+    /// Whose acknowledgements are held.
+    pub fn acks_held(&self) -> Members {
+        let held = self.group.ids().filter(|&id| self.ack_of(id).is_some());
+        held.fold(Members::NONE, |set, id| set.union(Members::only(id)))
+    }
+
+    fn receive_vote(&mut self, vote: VoteSet) -> Answer {
+        self.votes = joined(self.votes, vote);
         Answer::taken()
     }
 
-    /// "Acknowledgement arrives: kept, one per sender." "After a word or an outcome, more of either is passed over."
     fn receive_ack(&mut self, from: u8, votes: VoteSet) -> Answer {
-        let open = self.phase < 3 || self.waiting;
-        if !open || self.ack_of(from).is_some() {
-            return Answer::passed_over();
-        }
         self.keep_ack(from, votes);
         Answer::taken().proposing(self.proposal_when_enough())
     }
@@ -184,9 +213,6 @@ impl Participant {
     /// kept, one per caller".
     fn receive_help(&mut self, caller: u8) -> Answer {
         let receiver = Members::only(caller);
-        if self.kept.contains(caller) || self.answered.contains(caller) {
-            return Answer::passed_over();
-        }
         if self.phase < 3 {
             self.kept = self.kept.union(receiver);
             return Answer::taken();
@@ -196,9 +222,6 @@ impl Participant {
     }
 
     fn receive_helped(&mut self, from: u8, votes: VoteSet) -> Answer {
-        if !self.waiting || self.helped_by.contains(from) {
-            return Answer::passed_over();
-        }
         self.count_help_answer(from, votes);
         Answer::taken().proposing(self.proposal_when_enough())
     }
@@ -248,16 +271,22 @@ impl Participant {
 
     fn joined_acks(&self) -> VoteSet {
         let held = self.acks.iter().flatten();
-        held.fold(VoteSet::EMPTY, |joined, &ack| joined.join(ack))
+        held.fold(VoteSet::EMPTY, |all, &ack| joined(all, ack))
     }
 
     fn count_help_answer(&mut self, from: u8, votes: VoteSet) {
         self.helped_by = self.helped_by.union(Members::only(from));
-        self.helped_votes = self.helped_votes.join(votes);
+        self.helped_votes = joined(self.helped_votes, votes);
     }
 
     fn send(&self, kind: MessageKind, votes: VoteSet) -> Answer {
         let receivers = self.group.receivers(kind, self.id);
         Answer::taken().sending(kind, receivers, votes)
     }
+}
+
+/// The join of two sheets that are both held.
+fn joined(one: VoteSet, other: VoteSet) -> VoteSet {
+    one.join(other)
+        .expect("no two sheets held contradict each other")
 }

@@ -141,7 +141,7 @@ pub fn bad_votes(
         }
         // Willing outside known.
         2 => {
-            bad.known = Members(bad.known.0 & !other.0);
+            bad.known = bad.known.difference(other);
             bad.willing = bad.willing.union(other);
         }
         // Known as the kind does not have it.

@@ -4,7 +4,7 @@ mod messages;
 
 use super::choices;
 use crate::command::Command;
-use crate::controller::Controller;
+use crate::controller::{Controller, Reception};
 use crate::group::{Group, MAX_CONTROLLERS};
 use crate::members::Members;
 use crate::records::message::{Message, MessageKind};
@@ -22,6 +22,8 @@ enum Goal {
 struct Plan {
     goal: Goal,
     unwilling: Members,
+    /// Out of a hundred sheets, how many have somebody else's word turned round.
+    contrary: usize,
     /// Out of a hundred commands, how many are out of turn.
     stray: usize,
 }
@@ -82,9 +84,14 @@ fn plan(rng: &mut Rng, group: Group) -> Plan {
         Goal::Outcome => rng.pick(&[0, 3]),
         _ => rng.pick(&[0, 5, 20]),
     };
+    let contrary = match goal {
+        Goal::Outcome => rng.pick(&[0, 0, 4]),
+        _ => rng.pick(&[0, 10, 40]),
+    };
     Plan {
         goal,
         unwilling,
+        contrary,
         stray,
     }
 }
@@ -100,14 +107,27 @@ impl Script<'_> {
         } else {
             self.fitting()
         };
-        command.call(&mut self.controller);
+        let acks_before = self.controller.acks_held();
+        let (answer, _) = command.call(&mut self.controller);
         self.commands.push(command);
         match command {
+            // What was dropped may come again, and now and then what was refused by 24.
+            Command::Vote { .. } => {
+                let dropped = acks_before.difference(self.controller.acks_held());
+                let heard = &mut self.heard[MessageKind::Ack.index()];
+                *heard = heard.difference(dropped);
+            }
+            Command::Receive(message) => {
+                self.last_message = Some(message);
+                if answer.reception == Reception::Contradicted && self.rng.chance(1, 2) {
+                    let heard = &mut self.heard[message.kind.index()];
+                    *heard = heard.without(message.from);
+                }
+            }
             Command::NewOrder { .. } => {
                 self.plan = plan(self.rng, self.group());
                 self.heard = [Members::NONE; 4];
             }
-            Command::Receive(message) => self.last_message = Some(message),
             _ => {}
         }
     }
@@ -129,6 +149,7 @@ impl Script<'_> {
         let kind = match self.rng.below(12) {
             0 | 1 => MessageKind::Vote,
             2 => MessageKind::Ack,
+            3 if self.plan.contrary > 0 => MessageKind::Ack,
             _ => return self.own_vote(),
         };
         self.planned_message(kind)
@@ -215,7 +236,8 @@ impl Script<'_> {
     }
 
     fn own_vote(&mut self) -> Command {
-        let willing = !self.plan.unwilling.contains(self.controller.id());
+        let planned = !self.plan.unwilling.contains(self.controller.id());
+        let willing = planned != self.rng.chance(self.plan.contrary, 400);
         let target = match self.rng.below(4) {
             0 => self.rng.word() as i32,
             _ => choices::position(self.rng),

@@ -37,6 +37,10 @@ fn compare() -> io::Result<()> {
     for (name, met) in &rows {
         println!("{met:>9} {name}");
     }
+    if tally.contradictions() != 0 {
+        return Err(io::Error::other("a delivery was refused by 24"));
+    }
+    println!("{:>9} refusals by 24, on the bench none", tally.contradictions());
     let unmet: Vec<&str> = rows
         .iter()
         .filter(|(_, met)| *met == 0)

@@ -20,7 +20,7 @@ impl Checkpoint {
     pub const MARK: [u8; 2] = [0x4C, 0x53];
     pub const LENGTH: usize = 14;
 
-    /// "Card, 14 bytes: 4C 53; controller; n; f; outcome; order (4); position (4, two's complement)."
+    /// "Card, 14 bytes: 4C 53; controller; n; f; outcome ..; order (4); position (4, two's complement)."
     pub fn read(bytes: &[u8]) -> Result<Checkpoint, u8> {
         ask(1, bytes.len() == Self::LENGTH)?;
         ask(2, bytes[..2] == Self::MARK)?;

@@ -21,7 +21,7 @@ impl Message {
     pub const MARK: [u8; 2] = [0x4C, 0x4B];
     pub const LENGTH: usize = 16;
 
-    /// "Telegram, 16 bytes: 4C 4B; kind; n; f; from; to; 0; order (4); known (2); willing (2)."
+    /// "Telegram, 16 bytes: 4C 4B; kind ..; n; f; from; to; 0; order (4); known (2); willing (2)."
     pub fn read(bytes: &[u8]) -> Result<Message, u8> {
         ask(1, bytes.len() == Self::LENGTH)?;
         ask(2, bytes[..2] == Self::MARK)?;
@@ -75,7 +75,7 @@ impl Message {
     }
 
     /// 9. "Does the sheet suit the kind?"
-    fn votes_suit_kind(&self) -> bool {
+    pub fn votes_suit_kind(&self) -> bool {
         let VoteSet { known, willing } = self.votes;
         let sender = Members::only(self.from);
         // "No bit above n; willing within known;"

@@ -60,7 +60,7 @@ fn receivers_of_votes() {
         let index = usize::from(id) - 1;
         assert_eq!(sent(&answer), [(VOTE, receivers[index], vote)]);
         assert_eq!(controller.phase(), Some(phases[index]));
-        assert!(!controller.vote(true, 5).taken);
+        assert!(!controller.vote(true, 5).is_taken());
     }
 }
 
@@ -86,23 +86,17 @@ fn backup_needs_the_second_backup_to_know_all_backups() {
         let mut backup = controller(1);
         backup.vote(true, 5);
         for from in [2, 3, 4] {
-            assert!(
-                backup
-                    .receive(&message(VOTE, from, 1, VoteSet::single(from, true)))
-                    .taken
-            );
+            assert!(backup
+                .receive(&message(VOTE, from, 1, VoteSet::single(from, true)))
+                .is_taken());
         }
         backup.timeout();
-        assert!(
-            backup
-                .receive(&message(ACK, 2, 1, votes(0b1111, 0b1111)))
-                .taken
-        );
-        assert!(
-            backup
-                .receive(&message(ACK, 3, 1, votes(second, second)))
-                .taken
-        );
+        assert!(backup
+            .receive(&message(ACK, 2, 1, votes(0b1111, 0b1111)))
+            .is_taken());
+        assert!(backup
+            .receive(&message(ACK, 3, 1, votes(second, second)))
+            .is_taken());
         let answer = backup.timeout();
         assert_eq!(answer.proposal, proposal);
         assert_eq!(
@@ -147,7 +141,7 @@ fn others_need_complete_acknowledgements_of_all_backups() {
             }
             for &(from, known, willing) in &acks {
                 let ack = message(ACK, from, id, votes(known, willing));
-                assert!(other.receive(&ack).taken);
+                assert!(other.receive(&ack).is_taken());
             }
             let answer = other.timeout();
             assert_eq!(
@@ -208,7 +202,7 @@ fn word_at_the_second_timeout() {
     last.vote(true, 0);
     for from in [1, 2] {
         let vote = message(VOTE, from, 3, VoteSet::single(from, true));
-        assert!(last.receive(&Message { group, ..vote }).taken);
+        assert!(last.receive(&Message { group, ..vote }).is_taken());
     }
     last.timeout();
     let answer = last.timeout();
@@ -222,27 +216,9 @@ fn one_acknowledgement_per_sender_is_the_first() {
     let mut other = controller(4);
     let first = message(ACK, 1, 4, votes(0b1111, 0b1111));
     let second = message(ACK, 1, 4, votes(0b1111, 0));
-    assert!(other.receive(&first).taken);
+    assert!(other.receive(&first).is_taken());
     assert_passed_over(&mut other, &first);
     assert_passed_over(&mut other, &second);
-}
-
-#[test]
-fn contradicting_votes_are_joined() {
-    let mut backup = controller(1);
-    for willing in [false, true, false] {
-        assert!(
-            backup
-                .receive(&message(VOTE, 4, 1, VoteSet::single(4, willing)))
-                .taken
-        );
-    }
-    backup.vote(false, 0);
-    assert_eq!(
-        sent(&backup.timeout()),
-        [(ACK, 0b1110, votes(0b1001, 0b1000))]
-    );
-    assert_passed_over(&mut backup, &message(VOTE, 3, 1, VoteSet::single(3, true)));
 }
 
 #[test]
@@ -272,7 +248,7 @@ fn misled_messages_are_passed_over() {
     for message in &wrong {
         assert_passed_over(&mut backup, message);
     }
-    assert!(backup.receive(&vote).taken);
+    assert!(backup.receive(&vote).is_taken());
 }
 
 #[test]
@@ -290,17 +266,21 @@ fn help_answer_to_one_not_waiting_is_passed_over() {
 #[test]
 fn wrong_phase_or_condition_changes_nothing() {
     let mut other = controller(4);
-    assert!(!other.timeout().taken && !other.decide(MOVE).taken);
+    assert!(!other.timeout().is_taken() && !other.decide(MOVE).is_taken());
     other.vote(true, 7);
-    assert!(!other.decide(MOVE).taken);
+    assert!(!other.decide(MOVE).is_taken());
     other.timeout();
-    assert!(!other.timeout().taken && !other.vote(true, 0).taken);
-    assert!(other.decide(MOVE).taken && other.decide(STAY).taken);
+    assert!(!other.timeout().is_taken() && !other.vote(true, 0).is_taken());
+    assert!(other.decide(MOVE).is_taken() && other.decide(STAY).is_taken());
     assert_eq!((other.outcome(), other.position()), (Some(MOVE), 7));
     let card = other.save().expect("a card");
-    assert!(!other.restore(&card).taken);
-    assert!(other.stop().taken && !other.stop().taken);
-    assert!(!other.timeout().taken && !other.vote(true, 0).taken && !other.decide(STAY).taken);
+    assert!(!other.restore(&card).is_taken());
+    assert!(other.stop().is_taken() && !other.stop().is_taken());
+    assert!(
+        !other.timeout().is_taken()
+            && !other.vote(true, 0).is_taken()
+            && !other.decide(STAY).is_taken()
+    );
     assert_eq!(other.save(), None);
     assert_eq!((other.outcome(), other.position()), (None, 7));
     let old = Checkpoint {
@@ -309,11 +289,11 @@ fn wrong_phase_or_condition_changes_nothing() {
         ..card
     };
     let mut restored = other.clone();
-    assert!(restored.restore(&old).taken);
+    assert!(restored.restore(&old).is_taken());
     assert_eq!((restored.outcome(), restored.position()), (None, 7));
-    assert!(restored.decide(STAY).taken);
+    assert!(restored.decide(STAY).is_taken());
     assert_eq!(restored.outcome(), Some(STAY));
-    assert!(other.restore(&card).taken && other.decide(STAY).taken);
+    assert!(other.restore(&card).is_taken() && other.decide(STAY).is_taken());
     assert_eq!((other.outcome(), other.position()), (Some(MOVE), 7));
     assert_passed_over(&mut other, &message(HELP, 3, 4, VoteSet::EMPTY));
 }
@@ -322,7 +302,7 @@ fn wrong_phase_or_condition_changes_nothing() {
 fn new_order_reaches_a_stopped_one_as_a_number_alone() {
     let mut other = controller(4);
     other.stop();
-    assert!(other.new_order(10).taken);
+    assert!(other.new_order(10).is_taken());
     assert!(other.is_stopped());
     assert_eq!(other.order(), 10);
     let card = Checkpoint {

@@ -11,7 +11,7 @@ use reference::vote_set::{Verdict, VoteSet};
 const ACK_BYTES: [u8; 16] = [
     0x4C, 0x4B, 2, 5, 2, 1, 3, 0, 0, 0, 1, 2, 0, 0b10011, 0, 0b10001,
 ];
-const CARD_BYTES: [u8; 14] = [
+const CHECKPOINT_BYTES: [u8; 14] = [
     0x4C, 0x53, 4, 5, 2, 1, 255, 255, 255, 255, 255, 255, 0xB1, 0xE0,
 ];
 
@@ -48,8 +48,8 @@ fn message_refusal(changes: &[(usize, u8)]) -> u8 {
     Message::read(&bytes).err().unwrap_or(0)
 }
 
-fn card_refusal(changes: &[(usize, u8)]) -> u8 {
-    let mut bytes = CARD_BYTES;
+fn checkpoint_refusal(changes: &[(usize, u8)]) -> u8 {
+    let mut bytes = CHECKPOINT_BYTES;
     for &(at, byte) in changes {
         bytes[at] = byte;
     }
@@ -59,12 +59,12 @@ fn card_refusal(changes: &[(usize, u8)]) -> u8 {
 #[test]
 fn forms() {
     assert_eq!(Message::read(&ACK_BYTES), Ok(ack()));
-    assert_eq!(Checkpoint::read(&CARD_BYTES), Ok(card()));
+    assert_eq!(Checkpoint::read(&CHECKPOINT_BYTES), Ok(card()));
     let mut buffer = [0xA5; 16];
     assert_eq!(ack().write(&mut buffer), 0);
     assert_eq!(buffer, ACK_BYTES);
     assert_eq!(card().write(&mut buffer[..14]), 0);
-    assert_eq!(buffer[..14], CARD_BYTES);
+    assert_eq!(buffer[..14], CHECKPOINT_BYTES);
 }
 
 #[test]
@@ -104,16 +104,16 @@ fn votes_by_kind() {
 }
 
 #[test]
-fn cards_refused() {
+fn checkpoints_refused() {
     assert_eq!(Checkpoint::read(&[0; 15]), Err(1));
-    assert_eq!(card_refusal(&[(1, 0x4B), (5, 3)]), 2);
-    assert_eq!(card_refusal(&[(5, 3), (3, 1)]), 3);
-    assert_eq!(card_refusal(&[(3, 1), (2, 0)]), 4);
+    assert_eq!(checkpoint_refusal(&[(1, 0x4B), (5, 3)]), 2);
+    assert_eq!(checkpoint_refusal(&[(5, 3), (3, 1)]), 3);
+    assert_eq!(checkpoint_refusal(&[(3, 1), (2, 0)]), 4);
     let order_0 = [(6, 0), (7, 0), (8, 0), (9, 0)];
-    assert_eq!(card_refusal(&[&[(2, 6)], &order_0[..]].concat()), 7);
-    assert_eq!(card_refusal(&[&[(12, 0)], &order_0[..]].concat()), 8);
+    assert_eq!(checkpoint_refusal(&[&[(2, 6)], &order_0[..]].concat()), 7);
+    assert_eq!(checkpoint_refusal(&[&[(12, 0)], &order_0[..]].concat()), 8);
     // −20,001
-    assert_eq!(card_refusal(&[(13, 0xDF)]), 11);
+    assert_eq!(checkpoint_refusal(&[(13, 0xDF)]), 11);
 }
 
 /// A bit above n is seen in all 32 that a set in memory has.

@@ -1,7 +1,6 @@
 -- The number that is returned tells whether an event was accepted, since no question has the number 0.
-use Prim.Native.Nat.{ℕ}
 use mathlib.Core.Path.{_≡_, refl}
-use mathlib.Core.Bool.{Bool, true, false}
+use mathlib.Core.Bool.{true, false}
 use Rattle.model.specs.QuestionLaws.{AllYes, all-yes, numbered, reply-accepted}
 use Rattle.model.specs.declared.Event.{Event}
 use Rattle.model.specs.declared.Event.the-variants.{Lock, Order, Cast, Deliver, Timeout, Decide, Stop, Save, Restore}

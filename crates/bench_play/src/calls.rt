@@ -12,7 +12,7 @@ use protocol::Sent;
 use protocol::Shared;
 ghost use mathlib.Core.Path.{_≡_};
 ghost use Rattle.protocol.specs.Benches.{identity, message};
-ghost use Rattle.protocol.specs.Steps.{restoreFrom};
+ghost use Rattle.protocol.specs.Events.{restoreFrom};
 
 pub(crate) fn identity(m: Shared, id: u8) -> Identity
     ensures { λ r. ⌜ r ≡ identity m id ⌝ }

@@ -2,12 +2,12 @@
 use bench_questions::is_present;
 use controller_state::bump;
 use controller_state::is_running;
+use controller_state::lower;
 use controller_state::outcome_in;
 use model::is_none;
 use protocol::Condition;
 use protocol::Counts;
 ghost use mathlib.Core.Path.{_≡_};
-ghost use Prim.Native.Nat.{_-_};
 ghost use Rattle.protocol.specs.Counts.{lacksOutcome, recount, countsAfter};
 
 // Does it run without an outcome?
@@ -18,16 +18,6 @@ fn lacks_outcome(k: Condition) -> bool
         return is_none(outcome_in(k));
     }
     false
-}
-
-// One fewer, down to 0.
-fn lower(k: u8) -> u8
-    ensures { λ r. ⌜ r ≡ k - 1 ⌝ }
-{
-    if k < 1 {
-        return 0;
-    }
-    k - 1
 }
 
 // A count, after one controller has changed: was it counted before, and is it now?

@@ -10,6 +10,7 @@ use controller::save;
 use controller::stop;
 use controller::timeout;
 use controller::vote;
+use controller_state::passed_over;
 use model::Event;
 use model::Outcome;
 use model::is_move;
@@ -23,7 +24,8 @@ use protocol::Sent;
 use protocol::Shared;
 use protocol::Station;
 ghost use mathlib.Core.Path.{_≡_};
-ghost use Rattle.protocol.specs.Steps.{proposedTo, decidedAs, stationAfter, answering, keeping, effect};
+ghost use Rattle.protocol.specs.Events.{answerTo};
+ghost use Rattle.protocol.specs.Steps.{proposedTo, decidedAs, stationAfter, answering, keeping, effectOf};
 
 // What is shared, after a word was put, if any.
 fn proposed_to(m: Shared, proposal: Outcome) -> Shared
@@ -88,11 +90,37 @@ fn keeping(s: Station, saved: Saved) -> Station
     Station { saved, ..s }
 }
 
-// `s` is the station of the controller that the event concerns; `sent` is what its source has sent.
-pub(crate) fn effect(m: Shared, e: Event, sent: Sent, s: Station) -> Effect
-    ensures { λ r. ⌜ r ≡ effect m e sent s ⌝ }
+// The answer of the controller that the event concerns: `s` is its station, and `sent` is what the event's source has sent.
+pub(crate) fn answer_to(m: Shared, e: Event, sent: Sent, s: Station) -> Answer
+    ensures { λ r. ⌜ r ≡ answerTo m e sent s ⌝ }
 {
     let c = s.controller;
+    match e {
+        Event::Lock { .. } => passed_over(c),
+        Event::Order { .. } => passed_over(c),
+        Event::Cast {
+            id,
+            willing,
+            target,
+        } => vote(identity(m, id), willing, target, c),
+        Event::Deliver { from, to, kind } => {
+            receive(identity(m, to), message(m, kind, from, to, sent), c)
+        }
+        Event::Timeout { id } => timeout(identity(m, id), c),
+        Event::Decide { to_move, .. } => decide(to_move, c),
+        Event::Stop { .. } => stop(c),
+        Event::Save { .. } => passed_over(c),
+        Event::Restore { id } => {
+            let saved = s.saved;
+            restore_from(identity(m, id), saved, c)
+        }
+    }
+}
+
+// What an event leaves, from that answer.
+pub(crate) fn effect_of(m: Shared, e: Event, s: Station, a: Answer) -> Effect
+    ensures { λ r. ⌜ r ≡ effectOf m e s a ⌝ }
+{
     match e {
         Event::Lock { .. } => Effect {
             shared: m,
@@ -102,26 +130,16 @@ pub(crate) fn effect(m: Shared, e: Event, sent: Sent, s: Station) -> Effect
             shared: m,
             station: s,
         },
-        Event::Cast {
-            id,
-            willing,
-            target,
-        } => answering(m, s, vote(identity(m, id), willing, target, c)),
-        Event::Deliver { from, to, kind } => answering(
-            m,
-            s,
-            receive(identity(m, to), message(m, kind, from, to, sent), c),
-        ),
-        Event::Timeout { id } => answering(m, s, timeout(identity(m, id), c)),
-        Event::Decide { to_move, .. } => answering(decided_as(m, to_move), s, decide(to_move, c)),
-        Event::Stop { .. } => answering(m, s, stop(c)),
+        Event::Cast { .. } => answering(m, s, a),
+        Event::Deliver { .. } => answering(m, s, a),
+        Event::Timeout { .. } => answering(m, s, a),
+        Event::Decide { to_move, .. } => answering(decided_as(m, to_move), s, a),
+        Event::Stop { .. } => answering(m, s, a),
         Event::Save { id } => {
+            let c = s.controller;
             let station = keeping(s, save(identity(m, id), c));
             Effect { shared: m, station }
         }
-        Event::Restore { id } => {
-            let saved = s.saved;
-            answering(m, s, restore_from(identity(m, id), saved, c))
-        }
+        Event::Restore { .. } => answering(m, s, a),
     }
 }

@@ -1,23 +1,25 @@
 // The one function that plays an event of one controller.
 use crate::Played;
-use crate::effects::effect;
+use crate::effects::answer_to;
+use crate::effects::effect_of;
 use bench_questions::concerns_one;
 use bench_questions::facts_of;
 use bench_questions::question;
+use controller_state::is_contradicted;
 use model::Event;
 use protocol::Sent;
 use protocol::Shared;
 use protocol::Station;
 ghost use mathlib.Core.Path.{_≡_};
 ghost use Rattle.protocol.specs.Questions.{number};
-ghost use Rattle.bench_play.specs.Plays.{replyOfOne, play};
+ghost use Rattle.bench_play.specs.Plays.{untestedOfOne, play};
 
-// The number of the first "no", or 0.
+// The number of the first "no" but 24, or 0: 24 is asked last, of the controller's answer.
 fn answer_of_one(m: Shared, e: Event, sent: Sent, s: Station) -> u8
-    ensures { λ r. ⌜ r ≡ number (replyOfOne m e sent s) ⌝ }
+    ensures { λ r. ⌜ r ≡ number (untestedOfOne m e sent s) ⌝ }
 {
     if concerns_one(e) {
-        return question(facts_of(m, e, s, sent, false), e);
+        return question(facts_of(m, e, s, sent, false, true), e);
     }
     7
 }
@@ -34,7 +36,16 @@ pub fn play(m: Shared, e: Event, sent: Sent, s: Station) -> Played
             station: s,
         };
     }
-    let t = effect(m, e, sent, s);
+    let a = answer_to(m, e, sent, s);
+    let reception = a.reception;
+    if is_contradicted(reception) {
+        return Played {
+            answer: 24,
+            shared: m,
+            station: s,
+        };
+    }
+    let t = effect_of(m, e, s, a);
     let shared = t.shared;
     let station = t.station;
     Played {

@@ -117,9 +117,9 @@ fn is_saved(saved: Saved) -> bool
 }
 
 // What the questions of an event look at: `s` is the station of the controller that it concerns, `sent` is what its source has sent, and
-// `may_open` says whether an order may be opened.
-pub fn facts_of(m: Shared, e: Event, s: Station, sent: Sent, may_open: bool) -> Facts
-    ensures { λ r. ⌜ r ≡ factsOf m e s sent «may_open» ⌝ }
+// `may_open` says whether an order may be opened, `agrees` whether the delivered vote set contradicts none that is held.
+pub fn facts_of(m: Shared, e: Event, s: Station, sent: Sent, may_open: bool, agrees: bool) -> Facts
+    ensures { λ r. ⌜ r ≡ factsOf m e s sent «may_open» agrees ⌝ }
 {
     let receivers = receivers_in(e, sent);
     let saved = s.saved;
@@ -132,5 +132,6 @@ pub fn facts_of(m: Shared, e: Event, s: Station, sent: Sent, may_open: bool) -> 
         has_checkpoint,
         receivers,
         may_open,
+        agrees,
     }
 }

@@ -69,11 +69,8 @@ fn deliver_question(v: Facts, from: u8, to: u8, kind: Kind) -> u8
 {
     let k = v.condition;
     let order_on = 1 <= v.shared.order;
-    let state = ask(
-        14,
-        order_on,
-        ask(15, is_running(k), ask(17, has(v.receivers, to), 0)),
-    );
+    let sent = ask(17, has(v.receivers, to), ask(24, v.agrees, 0));
+    let state = ask(14, order_on, ask(15, is_running(k), sent));
     let way = ask(10, route(v.shared.f, kind, from, to), state);
     ask(
         5,

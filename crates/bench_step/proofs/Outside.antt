@@ -26,17 +26,17 @@ use Rattle.protocol.specs.Controllers.{cleared}
 use Rattle.protocol.specs.Rules.{passedOver, becomes}
 use Rattle.protocol.specs.Calls.{validIdentity, vote, receive, timeout, awaitsDecision, decide, stop}
 use Rattle.protocol.specs.Benches.{freshStation, fresh, station, sentBy, identity}
-use Rattle.protocol.specs.Steps.{perform, effect, answerTo, answering, restoreFrom}
-use Rattle.protocol.specs.Events.{concernsOne, subject, source}
+use Rattle.protocol.specs.Steps.{perform, effectOf, effect, answering}
+use Rattle.protocol.specs.Events.{concernsOne, subject, source, restoreFrom, answerTo}
 use Rattle.bench_play.proofs.PlayLaws.{performed}
 use Rattle.bench_step.proofs.Seen.{seen}
 
 -- the number of no lock's controller
-few : (n f : ℕ) → sizesInRange n f ≡ true → n ≤ limit
+pub few : (n f : ℕ) → sizesInRange n f ≡ true → n ≤ limit
 unfolding sizesInRange
 few n f e = leb-true n limit (and-r (leb 2 n) (leb n limit) (and-l (leb 2 n && leb n limit) (leb 1 f) (and-l (leb 2 n && leb n limit && leb 1 f) (ltb f n) e)))
 
-within : (n k : ℕ) → isController n k ≡ true → k ≤ n
+pub within : (n k : ℕ) → isController n k ≡ true → k ≤ n
 unfolding isController
 within n k e = leb-true k n (and-r (leb 1 k) (leb k n) e)
 
@@ -51,7 +51,7 @@ no-member me h = refuted (validIdentity me) (λ e.
 -- then what a controller that has just begun leaves of what is shared does not depend on the list that it holds
 alike : (m : Shared) (e : Event) (sent : Sent) (l l′ : List VoteSet) → concernsOne e ≡ true → limit < subject e
     → (effect m e sent (freshStation l)) .shared ≡ (effect m e sent (freshStation l′)) .shared
-unfolding effect answerTo answering vote receive timeout decide awaitsDecision stop restoreFrom passedOver becomes cleared freshStation fresh
+unfolding effectOf answerTo answering vote receive timeout decide awaitsDecision stop restoreFrom passedOver becomes cleared freshStation fresh
 alike m (Lock n f) sent l l′ o h = absurd (false≢true o)
 alike m (Order k) sent l l′ o h = absurd (false≢true o)
 alike m (Cast i willing target) sent l l′ o h = rw (no-member (identity m i) h)

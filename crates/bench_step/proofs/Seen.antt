@@ -37,15 +37,16 @@ pub seen-station : (b : Bench) (i : ℕ) → length (b .stations) ≡ limit → 
 unfolding station
 seen-station b i l h k = nth-within (freshStation (replicate limit empty)) (freshStation []) (b .stations) i h (rw l k)
 
-pub seen-facts : (b : Bench) (e : Event) (may : Bool)
-    → factsOf (b .shared) e (seen b (subject e)) ((seen b (source e)) .sent) may ≡ factsOf (b .shared) e (station b (subject e)) (sentBy b (source e)) may
-seen-facts b e may =
+pub seen-facts : (b : Bench) (e : Event) (may agrees : Bool)
+    → factsOf (b .shared) e (seen b (subject e)) ((seen b (source e)) .sent) may agrees ≡ factsOf (b .shared) e (station b (subject e)) (sentBy b (source e)) may agrees
+seen-facts b e may agrees =
     ap (λ (k : Condition). record {
       shared = b .shared;
       condition = k;
       «has_checkpoint» = isSaved ((seen b (subject e)) .saved);
       receivers = receiversIn e ((seen b (source e)) .sent);
       «may_open» = may;
+      agrees = agrees;
     }) (seen-condition b (subject e))
     ∙ ap (λ (s : Saved). record {
       shared = b .shared;
@@ -53,5 +54,6 @@ seen-facts b e may =
       «has_checkpoint» = isSaved s;
       receivers = receiversIn e ((seen b (source e)) .sent);
       «may_open» = may;
+      agrees = agrees;
     }) (seen-saved b (subject e))
-    ∙ ap (λ (s : Sent). factsOf (b .shared) e (station b (subject e)) s may) (seen-sent b (source e))
+    ∙ ap (λ (s : Sent). factsOf (b .shared) e (station b (subject e)) s may agrees) (seen-sent b (source e))

@@ -1,7 +1,7 @@
 -- What a step has shown where it returns: refused, of a number without a station, or played and put back; and the same of a lock or an order.
 use Prim.Native.Nat.{ℕ, _≤_, _<_}
 use mathlib.Core.Path.{_≡_, refl, sym, ap, _∙_}
-use mathlib.Core.Bool.{true, false, not, cond, _&&_, false≢true}
+use mathlib.Core.Bool.{Bool, true, false, not, cond, _&&_, false≢true}
 use lib.Dec.{eqb, leb}
 use lib.ListN.{length}
 use borrow.Author.Tests.{leb-true}
@@ -13,9 +13,9 @@ use Rattle.model.specs.declared.Event.{Event}
 use Rattle.model.specs.declared.Event.the-variants.{Lock, Order, Cast, Deliver, Timeout, Decide, Stop, Save, Restore}
 use Rattle.protocol.specs.declared.Facts.{Facts}
 use Rattle.protocol.specs.declared.Bench.{Bench}
-use Rattle.protocol.specs.Benches.{station}
+use Rattle.protocol.specs.Benches.{station, sentBy}
 use Rattle.protocol.specs.Events.{concernsOne, subject, source}
-use Rattle.protocol.specs.Questions.{refused, number, firstNo, questionsOf, reply}
+use Rattle.protocol.specs.Questions.{refused, number, firstNo, questionsOf, agreesAt, factsOf, reply}
 use Rattle.protocol.specs.Steps.{effect, perform}
 use Rattle.bench_play.specs.declared.Played.{Played}
 use Rattle.bench_play.specs.Plays.{play}
@@ -25,6 +25,7 @@ use Rattle.bench_step.specs.declared.Stepped.{Stepped}
 use Rattle.bench_step.specs.Steps.{stepped, wholeReply}
 use Rattle.bench_step.proofs.Seen.{seen, seen-sent, seen-station, seen-facts}
 use Rattle.bench_step.proofs.Outside.{outside}
+use Rattle.bench_step.proofs.Agrees.{seen-agrees}
 
 module _ (b : Bench) (e : Event) (q : ℕ) (asked : q ≡ number (reply b e)) where
   pub refuses : (q ≡ 0 → ⊥) → _≡_ {A = Stepped} (record { answer = q; bench = b }) (stepped b e)
@@ -65,27 +66,28 @@ numbered-from-1 b (Save i) o z = first (b .shared .n) i (zero-yes b (Save i) z .
 numbered-from-1 b (Restore i) o z = first (b .shared .n) i (zero-yes b (Restore i) z .1 .0)
 
 -- an event of one controller, played on its station as the code reads it
-module _ (b : Bench) (e : Event) (o : concernsOne e ≡ true) (p : Played) (w : p ≡ play (b .shared) e ((seen b (source e)) .sent) (seen b (subject e))) where
+module _ (b : Bench) (e : Event) (l : length (b .stations) ≡ limit) (o : concernsOne e ≡ true) (p : Played) (w : p ≡ play (b .shared) e ((seen b (source e)) .sent) (seen b (subject e))) where
   pub one-answer : p .answer ≡ number (reply b e)
   one-answer =
       ap (λ (x : Played). x .answer) w
       ∙ play-answer (b .shared) e ((seen b (source e)) .sent) (seen b (subject e))
-      ∙ ap (λ (v : Facts). number (cond (concernsOne e) (firstNo (questionsOf v e)) (refused 7))) (seen-facts b e false)
+      ∙ ap (λ (v : Facts). number (cond (concernsOne e) (firstNo (questionsOf v e)) (refused 7))) (seen-facts b e false (agreesAt (b .shared) e ((seen b (source e)) .sent) (seen b (subject e)))
+      ∙ ap (λ (a : Bool). factsOf (b .shared) e (station b (subject e)) (sentBy b (source e)) false a) (seen-agrees b e l))
       ∙ ap number (same-reply b e o)
 
   pub one-first : p .answer ≡ 0 → 1 ≤ subject e
   one-first z = numbered-from-1 b e o (sym one-answer ∙ z)
 
-  pub one-past : length (b .stations) ≡ limit → p .answer ≡ 0 → limit < subject e
+  pub one-past : p .answer ≡ 0 → limit < subject e
       → _≡_ {A = Stepped} (record { answer = p .answer; bench = record { shared = p .shared; stations = b .stations } }) (stepped b e)
-  one-past l z h =
+  one-past z h =
       let y : (play (b .shared) e ((seen b (source e)) .sent) (seen b (subject e))) .answer ≡ 0 = ap (λ (x : Played). x .answer) (sym w) ∙ z in
       let s : p .shared ≡ (effect (b .shared) e ((seen b (source e)) .sent) (seen b (subject e))) .shared = ap (λ (x : Played). x .shared) w ∙ play-shares (b .shared) e _ _ y in
       accepts b e (p .answer) one-answer z _ (rw (s, seen-sent b (source e)) (sym (outside b e l o h)))
 
-  pub one-within : length (b .stations) ≡ limit → p .answer ≡ 0 → subject e ≤ limit
+  pub one-within : p .answer ≡ 0 → subject e ≤ limit
       → _≡_ {A = Stepped} (record { answer = p .answer; bench = record { shared = p .shared; stations = put (b .stations) (subject e) (p .station) } }) (stepped b e)
-  one-within l z h =
+  one-within z h =
       let at : p ≡ playAt b e = w ∙ rw (seen-station b (subject e) l (one-first z) h, seen-sent b (source e)) in
       let y : (playAt b e) .answer ≡ 0 = ap (λ (x : Played). x .answer) (sym at) ∙ z in
       rw (one-answer, at, play-steps b e o y)

@@ -1,4 +1,5 @@
 -- What one call gives: the bench's answer to an event, and the bench after it.
+use mathlib.Core.Bool.{true}
 use lib.ListN.{replicate}
 use Rattle.ground.specs.Limit.{limit}
 use Rattle.votes.specs.VoteSets.{empty}
@@ -15,4 +16,4 @@ stepped b e = record { answer = number (reply b e); bench = step b e }
 
 -- the answer to a lock or an order, which look at what is shared: asked with a station of no controller
 abbrev pub wholeReply : Shared → Event → Reply
-wholeReply m e = firstNo (questionsOf (factsOf m e (freshStation (replicate limit empty)) unsentAll (mayOpen m)) e)
+wholeReply m e = firstNo (questionsOf (factsOf m e (freshStation (replicate limit empty)) unsentAll (mayOpen m) true) e)

@@ -27,7 +27,7 @@ ghost use Rattle.bench_step.specs.Steps.{stepped, wholeReply};
 fn answer_whole(m: Shared, e: Event) -> u8
     ensures { λ r. ⌜ r ≡ number (wholeReply m e) ⌝ }
 {
-    let facts = facts_of(m, e, fresh_station(), unsent_all(), may_open(m));
+    let facts = facts_of(m, e, fresh_station(), unsent_all(), may_open(m), true);
     question(facts, e)
 }
 

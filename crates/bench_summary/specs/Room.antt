@@ -16,7 +16,7 @@ use Rattle.model.specs.declared.Event.the-variants.{Lock, Order, Cast, Deliver,
 use Rattle.protocol.specs.declared.Bench.{Bench}
 use Rattle.protocol.specs.Benches.{benchOf, newBench}
 use Rattle.protocol.specs.Questions.{Reply, accepted, refused, isAccepted, questions, reply}
-use Rattle.protocol.specs.Steps.{orderOpened, proposedTo, decidedAs, answering, effect, perform, step, run}
+use Rattle.protocol.specs.Steps.{orderOpened, proposedTo, decidedAs, answering, effectOf, perform, step, run}
 use Rattle.bench_report.specs.Limits.{mostAnswers, longestReport, longestOutput}
 use Rattle.bench_report.specs.Lines.{reportOf}
 use Rattle.bench_report.specs.Room.{report-length}
@@ -27,7 +27,7 @@ is-accepted accepted e = refl
 is-accepted (refused q) e = absurd (false≢true e)
 
 perform-limit : (b : Bench) (e : Event) → isAccepted (reply b e) ≡ true → b .shared .n ≤ limit → (perform b e) .shared .n ≤ limit
-unfolding perform benchOf orderOpened effect answering proposedTo decidedAs reply sizesInRange
+unfolding perform benchOf orderOpened effectOf answering proposedTo decidedAs reply sizesInRange
 perform-limit b (Lock n f) a h =
     let yes = all-yes (questions b (Lock n f)) (is-accepted _ a) in
     leb-true n limit (and-r (leb 2 n) (leb n limit) (and-l (leb 2 n && leb n limit) (leb 1 f) (and-l _ (ltb f n) (yes .0))))

@@ -3,9 +3,14 @@ use controller_rules::arrives;
 use controller_rules::first_timeout;
 use controller_rules::second_timeout;
 use controller_rules::vote_rule;
+use controller_state::contradicted;
+use controller_state::drop_contradicting;
 use controller_state::is_running;
+use controller_state::is_taken;
 use controller_state::passed_over;
 use controller_state::phase_in;
+use controller_verdicts::contradicts_held;
+use message_record::suits;
 use model::Message;
 use model::is_controller;
 use model::route;
@@ -13,10 +18,12 @@ use model::sizes_in_range;
 use protocol::Answer;
 use protocol::Controller;
 use protocol::Identity;
+use votes::VoteSet;
+use votes::single;
 ghost use mathlib.Core.Path.{_≡_};
 ghost use mathlib.Core.Bool.{_&&_};
 ghost use Rattle.protocol.specs.Controllers.{runs};
-ghost use Rattle.protocol.specs.Calls.{validIdentity, vote, addressed, receive, timeout};
+ghost use Rattle.protocol.specs.Calls.{validIdentity, vote, addressed, tested, receive, timeout};
 
 // A controller of a lock, in an order, and running.
 fn takes_part(me: Identity, c: Controller) -> bool
@@ -35,7 +42,7 @@ fn takes_part(me: Identity, c: Controller) -> bool
     is_running(now)
 }
 
-// Its vote, willing or not, and the target of its gate: taken at stage 0.
+// Its vote, willing or not, and the target of its gate: taken at stage 0. An acknowledgement held that it contradicts counts as not received.
 pub fn vote(me: Identity, willing: bool, target: u32, c: Controller) -> Answer
     ensures { λ r. ⌜ r ≡ vote me willing target c ⌝ }
 {
@@ -46,7 +53,8 @@ pub fn vote(me: Identity, willing: bool, target: u32, c: Controller) -> Answer
     if phase_in(now) != 0 {
         return passed_over(c);
     }
-    vote_rule(me.n, me.f, me.id, willing, target, c)
+    let held = drop_contradicting(me.n, single(me.id, willing), c);
+    vote_rule(me.n, me.f, me.id, willing, target, held)
 }
 
 // Is a message of this order, n and f, meant for this controller, and may it travel so?
@@ -72,7 +80,21 @@ fn addressed(me: Identity, m: Message) -> bool
     route(me.f, kind, m.from, me.id)
 }
 
-// A message arrives.
+// The answer a to a vote set, unless it was taken and the vote set contradicts one that is held.
+fn tested(n: u8, s: VoteSet, c: Controller, a: Answer) -> Answer
+    ensures { λ r. ⌜ r ≡ tested n s c a ⌝ }
+{
+    let reception = a.reception;
+    if !is_taken(reception) {
+        return a;
+    }
+    if contradicts_held(n, c, s) {
+        return contradicted(c);
+    }
+    a
+}
+
+// A message arrives. What reading would have refused is passed over; a vote set that contradicts one held is refused with 24.
 pub fn receive(me: Identity, m: Message, c: Controller) -> Answer
     ensures { λ r. ⌜ r ≡ receive me m c ⌝ }
 {
@@ -82,8 +104,12 @@ pub fn receive(me: Identity, m: Message, c: Controller) -> Answer
     if !addressed(me, m) {
         return passed_over(c);
     }
+    if !suits(m) {
+        return passed_over(c);
+    }
     let kind = m.kind;
-    arrives(kind, me.n, me.f, m.from, m.votes, c)
+    let s = m.votes;
+    tested(me.n, s, c, arrives(kind, me.n, me.f, m.from, s, c))
 }
 
 // The first timeout is at stage 1, the second at stage 2.

@@ -18,7 +18,8 @@ use protocol::Controller;
 use protocol::Send;
 use votes::VoteSet;
 use votes::empty_set;
-use votes::join;
+use votes::tallied_with;
+use votes::tallied_word;
 ghost use mathlib.Core.Path.{_≡_};
 ghost use Rattle.protocol.specs.Rules.{ready, callsHelp, secondTimeout};
 
@@ -46,13 +47,14 @@ pub fn second_timeout(n: u8, f: u8, i: u8, c: Controller) -> Answer
 {
     let own = c.votes;
     let acks = ack_tally(n, c);
-    let help = join(own, acks.votes);
+    let help = tallied_with(own, acks);
+    let word = word_of(tallied_word(acks));
     let next = freeze(advance(c, 3), help);
     if decides(n, f, i, c) {
-        return ready(help, conclude(next, word_of(acks.unanimous)));
+        return ready(help, conclude(next, word));
     }
     if 0 < c.acks.cnt.0 {
-        return proposing(ready(help, next), word_of(acks.unanimous));
+        return proposing(ready(help, next), word);
     }
     propose_if_sufficient(n, f, calls_help(n, f, i, help, next))
 }

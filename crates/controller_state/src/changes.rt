@@ -17,6 +17,7 @@ use protocol::Gate;
 use protocol::HelpAnswers;
 use protocol::HelpState;
 use votes::VoteSet;
+use votes::agreed_or;
 use votes::empty_set;
 use votes::join;
 ghost use mathlib.Core.Path.{_≡_};
@@ -81,12 +82,12 @@ pub fn advance(c: Controller, phase: u8) -> Controller
     Controller { condition, ..c }
 }
 
-// A vote set goes on its own.
+// A vote set is joined to the controller's own.
 pub fn learn(c: Controller, s: VoteSet) -> Controller
     ensures { λ r. ⌜ r ≡ learn c s ⌝ }
 {
     let own = c.votes;
-    let votes = join(own, s);
+    let votes = agreed_or(own, join(own, s));
     let mut next = c;
     next.votes = votes;
     next

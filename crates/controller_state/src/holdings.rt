@@ -1,17 +1,23 @@
 // What a controller holds by sender: acknowledgements and help answers.
 use ground::LIMIT;
+use ground::has;
 use ground::insert;
+use ground::remove;
 use protocol::Acks;
 use protocol::Cnt;
 use protocol::CntHelp;
 use protocol::Controller;
 use protocol::HelpAnswers;
 use votes::VoteSet;
+use votes::agreed_or;
+use votes::contradicts;
+use votes::empty_set;
 use votes::join;
 ghost use mathlib.Core.Path.{_≡_};
 ghost use Prim.Native.Nat.{_-_};
-ghost use Rattle.ground.specs.Lists.{put};
-ghost use Rattle.protocol.specs.Controllers.{bump, keepAck, keepHelped};
+ghost use Rattle.ground.specs.Lists.{nth, put};
+ghost use Rattle.votes.specs.VoteSets.{empty};
+ghost use Rattle.protocol.specs.Controllers.{bump, keepAck, dropIf, dropTo, dropContradicting, keepHelped};
 
 // One more, as far as a byte counts.
 pub fn bump(k: u8) -> u8
@@ -21,6 +27,16 @@ pub fn bump(k: u8) -> u8
         return k + 1;
     }
     k
+}
+
+// One fewer, down to 0.
+pub fn lower(k: u8) -> u8
+    ensures { λ r. ⌜ r ≡ k - 1 ⌝ }
+{
+    if k < 1 {
+        return 0;
+    }
+    k - 1
 }
 
 // Where the vote set of sender j stands in a list.
@@ -61,13 +77,69 @@ pub fn keep_ack(c: Controller, j: u8, s: VoteSet) -> Controller
     next
 }
 
+// The vote set of sender j in a list. Only as many senders as the limit have a place.
+pub fn set_of(sets: [VoteSet; LIMIT], j: u8) -> VoteSet
+    ensures { λ r. ⌜ r ≡ nth empty sets j ⌝ }
+{
+    if j < 1 {
+        return empty_set();
+    }
+    if LIMIT < j as usize {
+        return empty_set();
+    }
+    let at = (j - 1) as usize;
+    sets[at]
+}
+
+// The acknowledgements without that of j, if it contradicts a vote set.
+fn drop_if(s: VoteSet, j: u8, a: Acks) -> Acks
+    ensures { λ r. ⌜ r ≡ dropIf s j a ⌝ }
+{
+    if !has(a.from, j) {
+        return a;
+    }
+    let sets = a.sets;
+    if !contradicts(set_of(sets, j), s) {
+        return a;
+    }
+    Acks {
+        sets,
+        from: remove(a.from, j),
+        cnt: Cnt(lower(a.cnt.0)),
+    }
+}
+
+// The acknowledgements without all those of 1 to m that contradict a vote set.
+fn drop_to(m: u8, s: VoteSet, a: Acks) -> Acks
+    ensures { λ r. ⌜ r ≡ dropTo m s a ⌝ }
+{
+    let mut acks = a;
+    let mut j: u8 = 0;
+    while j < m {
+        j += 1;
+        acks = drop_if(s, j, acks);
+    }
+    acks
+}
+
+// The acknowledgements held that contradict the own vote count as not received.
+pub fn drop_contradicting(n: u8, s: VoteSet, c: Controller) -> Controller
+    ensures { λ r. ⌜ r ≡ dropContradicting n s c ⌝ }
+{
+    let held = c.acks;
+    let acks = drop_to(n, s, held);
+    let mut next = c;
+    next.acks = acks;
+    next
+}
+
 // A help answer is joined and counted.
 pub fn keep_helped(c: Controller, j: u8, s: VoteSet) -> Controller
     ensures { λ r. ⌜ r ≡ keepHelped c j s ⌝ }
 {
     let held = c.helped.votes;
     let helped = HelpAnswers {
-        votes: join(held, s),
+        votes: agreed_or(held, join(held, s)),
         from: insert(c.helped.from, j),
         cnt_help: CntHelp(bump(c.helped.cnt_help.0)),
     };

@@ -1,7 +1,7 @@
 -- A loop over the controllers 1 to m that stops at the first that does not pass.
 use Prim.Native.Nat.{ℕ, _≤_}
 use mathlib.Core.Path.{_≡_}
-use mathlib.Core.Bool.{Bool, true, false}
+use mathlib.Core.Bool.{Bool, false}
 use mathlib.Core.Logic.{inl, inr}
 use Rattle.ground.specs.Tests.{split, no-both}
 use Rattle.ground.specs.Quantify.{allTo, all-at}

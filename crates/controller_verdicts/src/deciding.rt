@@ -1,32 +1,16 @@
 // Whether the acknowledgements held decide at the second timeout.
-use ground::LIMIT;
+use controller_state::set_of;
 use ground::has;
 use model::is_backup;
 use protocol::Acks;
 use protocol::Controller;
-use votes::VoteSet;
 use votes::complete;
-use votes::empty_set;
 ghost use mathlib.Core.Path.{_≡_};
 ghost use mathlib.Core.Bool.{_&&_};
 ghost use Rattle.ground.specs.Lists.{nth};
 ghost use Rattle.ground.specs.Mask.{has};
 ghost use Rattle.votes.specs.VoteSets.{empty, complete};
 ghost use Rattle.protocol.specs.Rules.{backupsComplete, secondKnows, decides};
-
-// The vote set of sender j in a list. Only as many senders as the limit have a place.
-fn set_of(sets: [VoteSet; LIMIT], j: u8) -> VoteSet
-    ensures { λ r. ⌜ r ≡ nth empty sets j ⌝ }
-{
-    if j < 1 {
-        return empty_set();
-    }
-    if LIMIT < j as usize {
-        return empty_set();
-    }
-    let at = (j - 1) as usize;
-    sets[at]
-}
 
 // The acknowledgement of j is held, and knows all of 1 to n.
 fn held_complete(n: u8, acks: Acks, j: u8) -> bool

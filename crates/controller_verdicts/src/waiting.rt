@@ -4,24 +4,26 @@ use model::Outcome;
 use model::word_of;
 use protocol::Answer;
 use protocol::Controller;
-use votes::Tally;
+use votes::Tallied;
 use votes::VoteSet;
+use votes::tallied_word;
 use votes::tally_all;
 use votes::unanimous;
 ghost use mathlib.Core.Path.{_≡_};
-ghost use Rattle.votes.specs.Tallies.{tallyOf};
+ghost use Rattle.votes.specs.Tallies.{talliedOf};
+ghost use Rattle.votes.specs.declared.Joined.the-variants.{Agreed};
 ghost use Rattle.protocol.specs.Rules.{verdict, ackJoin, sufficient, answersJoin, proposeIfSufficient};
 
 // The word of a vote set.
 fn verdict(n: u8, s: VoteSet) -> Outcome
-    ensures { λ r. ⌜ r ≡ verdict n s ⌝ }
+    ensures { λ r. ⌜ r ≡ verdict n (Agreed s) ⌝ }
 {
     word_of(unanimous(s, n))
 }
 
-// The acknowledgements held, gone over once: their join, whether it is full and whether its word is Move.
-pub fn ack_tally(n: u8, c: Controller) -> Tally
-    ensures { λ r. ⌜ r ≡ tallyOf n (ackJoin n c) ⌝ }
+// The acknowledgements held, gone over once: their join, whether it is full and whether its word is Move; or that two of them contradict each other.
+pub fn ack_tally(n: u8, c: Controller) -> Tallied
+    ensures { λ r. ⌜ r ≡ talliedOf n (ackJoin n c) ⌝ }
 {
     let sets = c.acks.sets;
     tally_all(n, n, c.acks.from, sets)
@@ -43,8 +45,7 @@ fn answers_verdict(n: u8, c: Controller) -> Outcome
     ensures { λ r. ⌜ r ≡ verdict n (answersJoin n c) ⌝ }
 {
     if 0 < c.acks.cnt.0 {
-        let acks = ack_tally(n, c);
-        return word_of(acks.unanimous);
+        return word_of(tallied_word(ack_tally(n, c)));
     }
     let helped = c.helped.votes;
     verdict(n, helped)

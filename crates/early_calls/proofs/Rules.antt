@@ -21,7 +21,7 @@ use Rattle.protocol.specs.declared.Saved.the-variants.{Nothing, Newest}
 use Rattle.protocol.specs.Controllers.{isStopped, phaseIn, phase, hasAck, hasHelped, hasCalled, inPhase, cleared, advance, learn, aim, keepAck, keepHelped, addCaller, propose, conclude}
 use Rattle.protocol.specs.Rules.{nothing, passedOver, becomes, proposing, verdict, voteRule, voteArrives, countOwn, firstTimeout, ackJoin, sufficient, answersJoin, proposeIfSufficient, ackArrives, helpedArrives, keepsCall, answersCall, helpArrives}
 use Rattle.protocol.specs.Calls.{restore, renew}
-use Rattle.protocol.specs.Steps.{restoreFrom}
+use Rattle.protocol.specs.Events.{restoreFrom}
 use Rattle.protocol.proofs.invariant.Words.{noting-phase}
 use Rattle.early_calls.specs.Document01.{withCallers, withoutKept}
 

@@ -1,16 +1,14 @@
 -- From one event to every list: the bench of a list, and document 01's bench of the list with each kept call once more, go along together.
 use Prim.Native.Nat.{ℕ, _≤_}
 use mathlib.Core.Path.{_≡_, refl, sym, _∙_, ap, subst}
-use mathlib.Core.Bool.{Bool, true, false, not, _||_, false≢true}
+use mathlib.Core.Bool.{Bool, true, false, false≢true}
 use mathlib.Core.List.{List, [], _∷_, _++_}
 use lib.Dec.{eqb, leb}
 use mathlib.Core.Logic.{_⊎_, inl, inr}
 use borrow.Author.Tests.{leb-true}
 use Rattle.ground.specs.Tests.{split, by-cond, and-l, and-r, and-i, or-e, no-both}
-use Rattle.ground.specs.Quantify.{allTo}
 use Rattle.ground.specs.Mask.{has}
 use Rattle.model.specs.Ranges.{isController}
-use Rattle.model.specs.Numbers.{isNone}
 use Rattle.model.specs.QuestionLaws.{all-yes}
 use Rattle.model.specs.declared.Kind.the-variants.{Vote, Ack, Help, Helped}
 use Rattle.model.specs.declared.Event.{Event}
@@ -19,19 +17,20 @@ use Rattle.message_record.specs.Messages.{aboutMessage}
 use Rattle.protocol.specs.declared.Condition.{Condition}
 use Rattle.protocol.specs.declared.Controller.{Controller}
 use Rattle.protocol.specs.declared.Bench.{Bench}
-use Rattle.protocol.specs.Controllers.{isRunning, outcomeIn, phaseIn, phase}
+use Rattle.protocol.specs.Controllers.{phaseIn, phase}
 use Rattle.protocol.specs.Benches.{benchOf, newBench, controller}
 use Rattle.protocol.specs.Events.{subject, source, receiversIn}
 use Rattle.protocol.specs.Questions.{accepted, isAccepted, firstNo, mayOpen, isSaved, questionsOf, reply}
 use Rattle.protocol.specs.Steps.{step, run}
 use Rattle.protocol.specs.Display.{WasSent}
+use Rattle.protocol.specs.NoContradiction.{untestedReply}
 use Rattle.protocol.specs.Reach.{messageAt}
 use Rattle.protocol.specs.Claim.{after}
 use Rattle.protocol.proofs.view.View.{View, accepts, ask-l, ask-r}
 use Rattle.protocol.proofs.view.Performed.{stepV}
-use Rattle.protocol.proofs.view.Simulation.{view, Sound, Runs, ranges, Steps, reply-sim, step-steps, step-sim}
+use Rattle.protocol.proofs.view.Simulation.{view, Sound, Runs, ranges, Steps, reply-untested, reply-sim, step-steps, step-sim}
 use Rattle.protocol.proofs.claim.Start.{unlocked, idle, freshes, lock-sound}
-use Rattle.protocol.proofs.claim.Reach.{Alive, Reached, JustLocked, new-step, reached}
+use Rattle.protocol.proofs.claim.Reach.{Reached, JustLocked, new-step, reached}
 use Rattle.protocol.proofs.claim.Reached.{reach}
 use Rattle.early_calls.specs.Document01.{isEarly, step01, run01, isSecondTimeout, keptCalls, onceMore, lengthened, withCallers, withoutKept, SameButKept, AsDocument01}
 use Rattle.early_calls.proofs.Rules.{by-equal, alike}
@@ -88,7 +87,7 @@ fine : (es : List Event) → Fine (after es)
 fine es = record { reached = reached es; ways = λ j i s. reach .messages-pass es Help j i s }
 
 -- one event on a bench with its lock
-module _ (b : Bench) (ok : Fine b) (a : Alive b) where
+module _ (b : Bench) (ok : Fine b) (a : Sound b) where
   abbrev n : ℕ
   n = b .shared .n
 
@@ -99,7 +98,7 @@ module _ (b : Bench) (ok : Fine b) (a : Alive b) where
   v = view b
 
   -- a kept call may come once more
-  may-come : (i : ℕ) (st : eqb (phase (v .ctl i)) 2 ≡ true) (j : ℕ) → 1 ≤ j → has ((v .ctl i) .help .callers) j ≡ true → MayCome n f (ranges n f (a .sound .sized) .small) v i st j
+  may-come : (i : ℕ) (st : eqb (phase (v .ctl i)) 2 ≡ true) (j : ℕ) → 1 ≤ j → has ((v .ctl i) .help .callers) j ≡ true → MayCome n f (ranges n f (a .sized) .small) v i st j
   unfolding aboutMessage isController view
   may-come i st j lo e =
       let sent = a .inv .ctls i .calls-ok j e in
@@ -133,12 +132,12 @@ module _ (b : Bench) (ok : Fine b) (a : Alive b) where
       times-out e = unfold view in
           let taken : isAccepted (reply b (Timeout i)) ≡ true = and-l (isAccepted (reply b (Timeout i))) (eqb (phase (controller b i)) 2) e in
           let st : eqb (phase (controller b i)) 2 ≡ true = and-r (isAccepted (reply b (Timeout i))) (eqb (phase (controller b i)) 2) e in
-          timeout-forget n f (ranges n f (a .sound .sized) .small) v i st (sym (reply-sim b (a .sound) (Timeout i)) ∙ taken) (may-come i st)
+          timeout-forget n f (ranges n f (a .sized) .small) v i st (sym (reply-sim b (a) (Timeout i)) ∙ taken) (may-come i st)
 
       first : accepts n f v (Timeout i) ≡ true → isSecondTimeout b i ≡ false → eqb (phase (v .ctl i)) 1 ≡ true
       first q e = unfold accepts firstNo in elim (or-e (eqb (phase (v .ctl i)) 1) (eqb (phase (v .ctl i)) 2) (search (ask-l, ask-r) depth 14)) [
         | inl p ↦ p
-        | inr p ↦ absurd (no-both (isSecondTimeout b i) (and-i _ _ (reply-sim b (a .sound) (Timeout i) ∙ q) (unfold view in p)) e)
+        | inr p ↦ absurd (no-both (isSecondTimeout b i) (and-i _ _ (reply-sim b (a) (Timeout i) ∙ q) (unfold view in p)) e)
       ]
 
   together : (e : Event) → Together e
@@ -210,7 +209,7 @@ new-rel : (e : Event) → Rel (step newBench e) (run01 (step01 newBench e) (once
 new-rel e = subst (Rel (step newBench e)) (sym (new-same e)) (elim (new-step e) [ inl z ↦ inl (z, z) | inr l ↦ inr (locked-rel (step newBench e) l) ])
 
 -- on one with its lock
-both-step : (b b₁ : Bench) (e : Event) → Fine b → Alive b → Both b b₁ → Both (step b e) (run01 (step01 b₁ e) (onceMore b e))
+both-step : (b b₁ : Bench) (e : Event) → Fine b → Sound b → Both b b₁ → Both (step b e) (run01 (step01 b₁ e) (onceMore b e))
 both-step b b₁ e ok a r =
     let s : Steps b (r .sound) (step b e) = step-steps b (r .sound) e in
     let t : Runs b₁ (run01 b₁ (e ∷ onceMore b e)) (runV01 (b .shared .n) (b .shared .f) (view b₁) (e ∷ onceMore b e)) = run01-sim (b .shared .n) (b .shared .f) (e ∷ onceMore b e) b₁ (r .sound₁) (r .same-n) (r .same-f) in
@@ -255,21 +254,26 @@ rel-same b b₁ (inr r) = unfold view forgetV in record {
   saved = λ i. λ p. (sym (r .view-is) p) .saved i;
 }
 
-replies : (b b₁ : Bench) (e : Event) → SameButKept b b₁ → reply b e ≡ reply b₁ e
-unfolding reply
-replies b b₁ e s = λ p. firstNo (questionsOf (record {
+-- the answers: but for 24 the questions look at no kept call, and 24 is answered yes on both
+untested-same : (b b₁ : Bench) (e : Event) → SameButKept b b₁ → untestedReply b e ≡ untestedReply b₁ e
+untested-same b b₁ e s = λ p. firstNo (questionsOf (record {
   shared = s .shared p;
   condition = condition (subject e) p;
   «has_checkpoint» = isSaved (s .saved (subject e) p);
   receivers = receiversIn e (s .sent (source e) p);
   «may_open» = mayOpen (s .shared p);
+  agrees = true;
 }) e)
   where
     condition : (i : ℕ) → (controller b i) .condition ≡ (controller b₁ i) .condition
     condition i = sym (alike (controller b i) .condition) ∙ ap (λ (x : Controller). x .condition) (s .controllers i)
 
-same : (es : List Event) → SameButKept (after es) (run01 newBench (lengthened newBench es))
-same es = rel-same _ _ (run-rel es newBench newBench fine (inl (refl, refl)))
+replies : (b b₁ : Bench) (e : Event) → Rel b b₁ → reply b e ≡ reply b₁ e
+replies b b₁ e (inl z) = ap (λ (x : Bench). reply x e) (z .0 ∙ sym (z .1))
+replies b b₁ e (inr r) = reply-untested b (r .sound) e ∙ untested-same b b₁ e (rel-same b b₁ (inr r)) ∙ sym (reply-untested b₁ (r .sound₁) e)
+
+related : (es : List Event) → Rel (after es) (run01 newBench (lengthened newBench es))
+related es = run-rel es newBench newBench fine (inl (refl, refl))
 
 pub as-document-01 : AsDocument01
-as-document-01 = record { bench = same; answers = λ es e. replies _ _ e (same es) }
+as-document-01 = record { bench = λ es. rel-same _ _ (related es); answers = λ es e. replies _ _ e (related es) }

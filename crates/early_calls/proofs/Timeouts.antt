@@ -16,7 +16,7 @@ use Rattle.early_calls.proofs.Rules.{by-cond₂}
 -- an answer of the second timeout, with the help vote set s sent to the callers m
 abbrev pub answeredTo : ℕ → VoteSet → Answer → Answer
 answeredTo m s a = record {
-  taken = a .taken;
+  reception = a .reception;
   controller = withCallers (a .controller) m;
   sends = record { vote = a .sends .vote; ack = a .sends .ack; help = a .sends .help; helped = To m s };
   proposal = a .proposal;

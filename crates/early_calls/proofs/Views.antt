@@ -11,7 +11,6 @@ use mathlib.Core.Logic.{inl, inr}
 use borrow.Author.Tests.{eqb-true, not-true, le-leb, lt-leb}
 use Rattle.ground.specs.Limit.{limit}
 use Rattle.ground.specs.Tests.{split, by-cond, and-l, and-r, and-i, or-e, or-l, or-r, same-test, refuted, no-both}
-use Rattle.ground.specs.Quantify.{allTo}
 use Rattle.ground.specs.Mask.{has, insert, collect}
 use Rattle.ground.specs.MaskLaws.{has-or, insert-own, insert-keeps, insert-only, insert-from}
 use Rattle.ground.specs.Collect.{has-collect}
@@ -20,7 +19,7 @@ use Rattle.ground.specs.Update.{upd, upd-same, upd-other, upd-all, fun-ext}
 use Rattle.votes.specs.declared.VoteSet.{VoteSet}
 use Rattle.model.specs.Ranges.{differentControllers}
 use Rattle.model.specs.Routes.{route, helpRoute}
-use Rattle.model.specs.Numbers.{wordOf, isNone, isMove, isStay}
+use Rattle.model.specs.Numbers.{wordOf, isMove, isStay}
 use Rattle.model.specs.QuestionLaws.{yes-all}
 use Rattle.model.specs.declared.Kind.the-variants.{Vote, Ack, Help, Helped}
 use Rattle.model.specs.declared.Outcome.{Outcome}
@@ -44,9 +43,8 @@ use Rattle.protocol.specs.Events.{subject, source, receiversIn}
 use Rattle.protocol.specs.Questions.{isAccepted, firstNo, mayOpen, isSaved, questionsOf}
 use Rattle.protocol.specs.Steps.{renewed, orderOpened}
 use Rattle.protocol.specs.Sequence.{members}
-use Rattle.protocol.proofs.view.View.{View, sharedV, accepts, openedV, ask-l, ask-r}
+use Rattle.protocol.proofs.view.View.{View, sharedV, accepts, openedV, ask-l, ask-r, part}
 use Rattle.protocol.proofs.view.Performed.{commitV, chosen, savedV, checkpointAt, identityV, timeoutRule, performV, stepV}
-use Rattle.protocol.proofs.view.Simulation.{part}
 use Rattle.early_calls.specs.Document01.{withCallers, withoutKept}
 use Rattle.early_calls.proofs.Timeouts.{answeredTo, timeout-kept, Frozen, timeout-frozen}
 use Rattle.early_calls.proofs.Rules.{by-equal, early, late, alike, Matches, vote-matches, ack-matches, helped-matches, call-matches, KeptAlone, early-call, cast-matches, first-matches, conclude-kept, cleared-kept, renew-kept, becomes-matches, restore-matches}
@@ -134,6 +132,7 @@ module _ (n f : ℕ) where
     «has_checkpoint» = isSaved (v .saved (subject e));
     receivers = receiversIn e (v .state .sent (source e));
     «may_open» = mayOpen (sharedV n f v);
+    agrees = true;
   }) e))
 
   -- an accepted event other than an early call and a second timeout
@@ -274,7 +273,7 @@ module _ (n f : ℕ) where
 
     comes : (m j : ℕ) → MayCome j → accepts n f (afterTimeout m) (Deliver j i Help) ≡ true
     unfolding accepts commitV forgetV
-    comes m j h = ap isAccepted (yes-all _ (refl, (h .between, (h .way, (h .opened, (running, (sent, tt)))))))
+    comes m j h = ap isAccepted (yes-all _ (refl, (h .between, (h .way, (h .opened, (running, (sent, (refl, tt))))))))
       where
         running : isRunning ((afterTimeout m) .ctl i .condition) ≡ true
         running = ap (λ (x : Controller). isRunning (x .condition)) (after-ctl m) ∙ frozen .runs

@@ -10,10 +10,10 @@ use lib.Dec.{eqb}
 use lib.Bits.{bitOr, or-lt}
 use borrow.Author.Tests.{ltb-true, lt-ltb, eqb-false, eqb-true, eq-eqb}
 use mathlib.Core.Logic.{_⊎_, inl, inr}
-use Rattle.ground.specs.Tests.{split, no-both, or-l}
-use Rattle.ground.specs.Quantify.{all-at}
+use Rattle.ground.specs.Tests.{split, no-both, refuted, or-l}
+use Rattle.ground.specs.Quantify.{anyTo, all-at, any-at, any-of, Found}
 use Rattle.ground.specs.Mask.{has, insert, fullTo, noneAbove, within}
-use Rattle.ground.specs.MaskLaws.{low-suc, has-or, insert-only, full-is}
+use Rattle.ground.specs.MaskLaws.{low-suc, has-or, has-none, insert-only, full-is}
 
 -- bits that no member has ---------------------------------------------------------
 
@@ -96,6 +96,23 @@ pub same-set : (a b : ℕ) → ((k : ℕ) → has a k ≡ has b k) → a ≡ b
 same-set a b h =
     sym (mod-eq-of-lt (lt-of-lt-of-le (self-lt a) (pow-mono {i = a} {j = a + b} (omega arith))))
     ∙ (same-low a b h (a + b) ∙ mod-eq-of-lt (lt-of-lt-of-le (self-lt b) (pow-mono {i = b} {j = a + b} (omega arith))))
+
+-- a set without members is 0, and any other number has one
+pub empty-zero : (m : ℕ) → ((k : ℕ) → has m k ≡ false) → m ≡ 0
+empty-zero m h = same-set m 0 (λ k. h k ∙ sym (has-none k))
+
+pub some-member : (m : ℕ) → eqb m 0 ≡ false → Found m (has m)
+some-member m e = elim (split (anyTo m (has m))) [
+  | inl q ↦ any-at m (has m) q
+  | inr q ↦ absurd (eqb-false m 0 e (empty-zero m (λ k. refuted (has m k) (λ x. no-both (anyTo m (has m)) (any-of m (has m) k (first k x) (low k x) x) q))))
+]
+  where
+    first : (k : ℕ) → has m k ≡ true → 1 ≤ k
+    first zero x = absurd (false≢true (unfold has in x))
+    first (suc k) x = omega arith
+
+    low : (k : ℕ) → has m k ≡ true → k ≤ m
+    low k x = elim (decLe k m) [ yes h ↦ h | no h ↦ absurd (no-both (has m k) x (has-past m m k (self-lt m) (omega arith))) ]
 
 or-assoc-bool : (x y z : Bool) → (x || y || z) ≡ (x || (y || z))
 or-assoc-bool true y z = refl

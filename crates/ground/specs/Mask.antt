@@ -2,7 +2,7 @@
 use Prim.Native.Nat.{ℕ, zero, suc, _-_, _^_, _/_, _%_}
 use mathlib.Core.Bool.{Bool, false, cond}
 use lib.Dec.{eqb, ltb}
-use lib.Bits.{bitOr}
+use lib.Bits.{bitAnd, bitOr, bitXor}
 
 -- the bits of a mask
 abbrev pub width : ℕ
@@ -17,6 +17,10 @@ has m (suc k) = eqb (m / 2 ^ k % 2) 1
 unfoldable pub insert : ℕ → ℕ → ℕ
 insert m zero = m
 insert m (suc k) = cond (ltb k width) (bitOr m (2 ^ k)) m
+
+-- the set without controller k
+unfoldable pub remove : ℕ → ℕ → ℕ
+remove m k = bitAnd m (bitXor m (insert 0 k))
 
 -- does the set hold all of 1..n
 unfoldable pub fullTo : ℕ → ℕ → Bool

@@ -1,20 +1,20 @@
 -- Laws of masks, for any n: what is in a union, in a set with one more, in a full set.
-use Prim.Native.Nat.{ℕ, zero, suc, _+_, _*_, _^_, _/_, _%_, _-_, _≤_, _<_, max}
+use Prim.Native.Nat.{ℕ, zero, suc, _+_, _*_, _^_, _/_, _%_, _-_, _≤_, _<_, min, max}
 use mathlib.Core.Path.{_≡_, refl, sym, _∙_}
-use mathlib.Core.Bool.{Bool, true, false, _||_, cond}
+use mathlib.Core.Bool.{Bool, true, false, not, _&&_, _||_, cond}
 use native.Mathlib.Omega.{arith}
 use native.Mathlib.Nat.{mod-lt, div-self, div-eq-of-lt, pow-suc}
 use native.Mathlib.Numerals.{one-add}
 use lib.Pow.{pow-pos, pow-lt, pow-add, shl-shr, mod-pow-add}
 use lib.Dec.{eqb, ltb}
 use native.Mathlib.Decide.{decLe, ℕ-discrete}
-use lib.Bits.{bitOr, or-shr, or-step}
+use lib.Bits.{bitAnd, bitOr, bitXor, differ, and-shr, and-step, or-shr, or-step, xor-shr, xor-step}
 use borrow.Author.Tests.{le-ltb, eqb-true, ne-eqb, eq-eqb, lt-ltb}
 use mathlib.Core.Logic.{_⊎_, inl, inr}
 use Rattle.ground.specs.Tests.{no-both, by-cond, and-l, and-r, and-i, or-e, or-l, eqb-same, same-test}
 use Rattle.ground.specs.Quantify.{allTo}
 use Rattle.ground.specs.Update.{upd, upd-same, fun-ext}
-use Rattle.ground.specs.Mask.{width, has, insert, fullTo}
+use Rattle.ground.specs.Mask.{width, has, insert, remove, fullTo}
 
 -- as the code reads it
 pub has-at : (m k : ℕ) → 1 ≤ k → has m k ≡ eqb (m / 2 ^ (k - 1) % 2) 1
@@ -55,6 +55,55 @@ pub has-or : (a b k : ℕ) → has (bitOr a b) k ≡ (has a k || has b k)
 unfolding has
 has-or a b zero = refl
 has-or a b (suc k) = rw (or-shr a b k, low-or (a / 2 ^ k) (b / 2 ^ k)) (or-test (a / 2 ^ k % 2) (b / 2 ^ k % 2) (omega arith) (omega arith))
+
+-- the two digits alike
+and-test : (x y : ℕ) → x < 2 → y < 2 → eqb (min x y) 1 ≡ (eqb x 1 && eqb y 1)
+and-test zero zero p q = refl
+and-test zero (suc zero) p q = refl
+and-test zero (suc (suc y)) p q = absurd (omega arith)
+and-test (suc zero) zero p q = refl
+and-test (suc zero) (suc zero) p q = refl
+and-test (suc zero) (suc (suc y)) p q = absurd (omega arith)
+and-test (suc (suc x)) y p q = absurd (omega arith)
+
+low-and : (a b : ℕ) → bitAnd a b % 2 ≡ min (a % 2) (b % 2)
+low-and a b = let e : bitAnd a b ≡ bitAnd (a / 2) (b / 2) * 2 + min (a % 2) (b % 2) = and-step a b in omega arith
+
+-- in both is who is in each
+pub has-and : (a b k : ℕ) → has (bitAnd a b) k ≡ (has a k && has b k)
+unfolding has
+has-and a b zero = refl
+has-and a b (suc k) = rw (and-shr a b k, low-and (a / 2 ^ k) (b / 2 ^ k)) (and-test (a / 2 ^ k % 2) (b / 2 ^ k % 2) (omega arith) (omega arith))
+
+xor-test : (x y : ℕ) → x < 2 → y < 2 → eqb (differ x y) 1 ≡ cond (eqb y 1) (not (eqb x 1)) (eqb x 1)
+xor-test zero zero p q = refl
+xor-test zero (suc zero) p q = refl
+xor-test zero (suc (suc y)) p q = absurd (omega arith)
+xor-test (suc zero) zero p q = refl
+xor-test (suc zero) (suc zero) p q = refl
+xor-test (suc zero) (suc (suc y)) p q = absurd (omega arith)
+xor-test (suc (suc x)) y p q = absurd (omega arith)
+
+differ-less : (x y : ℕ) → x < 2 → y < 2 → differ x y < 2
+differ-less zero zero p q = omega arith
+differ-less zero (suc zero) p q = omega arith
+differ-less zero (suc (suc y)) p q = absurd (omega arith)
+differ-less (suc zero) zero p q = omega arith
+differ-less (suc zero) (suc zero) p q = omega arith
+differ-less (suc zero) (suc (suc y)) p q = absurd (omega arith)
+differ-less (suc (suc x)) y p q = absurd (omega arith)
+
+low-xor : (a b : ℕ) → bitXor a b % 2 ≡ differ (a % 2) (b % 2)
+low-xor a b =
+    let e : bitXor a b ≡ bitXor (a / 2) (b / 2) * 2 + differ (a % 2) (b % 2) = xor-step a b in
+    let l : differ (a % 2) (b % 2) < 2 = differ-less (a % 2) (b % 2) (omega arith) (omega arith) in
+    omega arith
+
+-- in just one is who is in the first or the second and not in both
+pub has-xor : (a b k : ℕ) → has (bitXor a b) k ≡ cond (has b k) (not (has a k)) (has a k)
+unfolding has
+has-xor a b zero = refl
+has-xor a b (suc k) = rw (xor-shr a b k, low-xor (a / 2 ^ k) (b / 2 ^ k)) (xor-test (a / 2 ^ k % 2) (b / 2 ^ k % 2) (omega arith) (omega arith))
 
 -- the same as functions of the number
 pub or-is : (a b : ℕ) → has (bitOr a b) ≡ (λ k. has a k || has b k)
@@ -145,6 +194,17 @@ insert-from m i k e = elim (insert-only 0 i k e) [
       | yes w ↦ insert-own m (suc i) (omega arith) w
       | no w ↦ absurd (no-both (has (insert 0 (suc i)) (suc i)) h (rw (insert-past 0 (suc i) (omega arith)) (has-none (suc i))))
     ]
+
+-- as functions, the set without i is the set changed at i
+pub has-remove : (m i k : ℕ) → 1 ≤ i → i ≤ width → has (remove m i) k ≡ upd (has m) i false k
+unfolding remove upd
+has-remove m i k a b = rw (has-and m (bitXor m (insert 0 i)) k, has-xor m (insert 0 i) k, has-insert 0 i k a b, has-none k) (without (has m k) (eqb k i))
+  where
+    without : (x y : Bool) → (x && cond (cond y true false) (not x) x) ≡ cond y false x
+    without true true = refl
+    without true false = refl
+    without false true = refl
+    without false false = refl
 
 -- the lowest n bits, one more
 pub low-suc : (m n : ℕ) → m % 2 ^ (suc n) ≡ m / 2 ^ n % 2 * 2 ^ n + m % 2 ^ n

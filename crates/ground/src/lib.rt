@@ -8,6 +8,7 @@ pub use mask::full_to;
 pub use mask::has;
 pub use mask::insert;
 pub use mask::none_above;
+pub use mask::remove;
 pub use mask::size;
 pub use mask::within;
 

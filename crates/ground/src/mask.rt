@@ -1,7 +1,7 @@
 // Sets of controllers as masks: bit k - 1 is controller k. Numbers that have no bit are in no set.
 ghost use mathlib.Core.Path.{_≡_};
 ghost use Prim.Native.Nat.{_≤_, _^_};
-ghost use Rattle.ground.specs.Mask.{width, has, insert, fullTo, noneAbove, within};
+ghost use Rattle.ground.specs.Mask.{width, has, insert, remove, fullTo, noneAbove, within};
 ghost use Rattle.ground.specs.Quantify.{countTo};
 
 // Is controller k in the set?
@@ -28,6 +28,13 @@ pub fn insert(m: u32, k: u8) -> u32
         return m;
     }
     m | (1u32 << (k - 1))
+}
+
+// The set without controller k.
+pub fn remove(m: u32, k: u8) -> u32
+    ensures { λ r. ⌜ r ≡ remove m k ⌝ }
+{
+    m & (m ^ insert(0, k))
 }
 
 // Does the set hold all of 1..n?

@@ -3,6 +3,7 @@ mod questions;
 
 use model::Message;
 use questions::question;
+pub use questions::suits;
 use records::frame_question;
 use records::is_kind;
 use records::kind_of;

@@ -26,7 +26,7 @@ fn knows_for_kind(kind: Kind, from: u8, known: u32) -> bool
 }
 
 // Question 9: does the vote set suit the kind?
-fn suits(m: Message) -> bool
+pub fn suits(m: Message) -> bool
     ensures { λ r. ⌜ r ≡ suits m ⌝ }
 {
     if !bits_in_range(m) {

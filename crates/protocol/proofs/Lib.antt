@@ -3,4 +3,5 @@ pub mod invariant
 pub mod gates
 pub mod clean
 pub mod claim
+pub mod alone
 pub mod hearing

@@ -8,6 +8,10 @@ pub mod Sends
 pub mod Counted
 pub mod OpenGates
 pub mod Ranges
+pub mod Clear
 pub mod Reached
+pub mod Untouched
+pub mod Dropped
+pub mod Strayed
 pub mod Theorem
 pub mod Exact

@@ -2,4 +2,6 @@
 pub mod View
 pub mod Performed
 pub mod RuleCases
+pub mod Refusals
+pub mod Held
 pub mod Simulation

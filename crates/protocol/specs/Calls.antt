@@ -5,6 +5,9 @@ use mathlib.Core.Path.{_≡_}
 use mathlib.Core.Bool.{Bool, cond, _&&_, _||_}
 use mathlib.Core.List.{List, [], _∷_}
 use lib.Dec.{eqb, leb}
+use Rattle.ground.specs.Quantify.{anyTo}
+use Rattle.votes.specs.VoteSets.{single}
+use Rattle.votes.specs.Joining.{contradicts}
 use Rattle.votes.specs.declared.VoteSet.{VoteSet}
 use Rattle.model.specs.Ranges.{sizesInRange, isController}
 use Rattle.model.specs.Routes.{route}
@@ -12,6 +15,7 @@ use Rattle.model.specs.Numbers.{wordOf}
 use Rattle.model.specs.declared.Kind.{Kind}
 use Rattle.model.specs.declared.Kind.the-variants.{Vote, Ack, Help, Helped}
 use Rattle.model.specs.declared.Message.{Message}
+use Rattle.message_record.specs.Messages.{suits}
 use Rattle.model.specs.declared.Checkpoint.{Checkpoint}
 use Rattle.model.specs.declared.Outcome.the-variants.{None}
 use Rattle.protocol.specs.declared.Identity.{Identity}
@@ -20,16 +24,17 @@ use Rattle.protocol.specs.declared.Controller.{Controller}
 use Rattle.protocol.specs.declared.Answer.{Answer}
 use Rattle.protocol.specs.declared.Saved.{Saved}
 use Rattle.protocol.specs.declared.Saved.the-variants.{Nothing, Newest}
-use Rattle.protocol.specs.Controllers.{runs, standsBy, isStopped, phase, outcome, inPhase, cleared, conclude}
-use Rattle.protocol.specs.Rules.{passedOver, becomes, voteRule, voteArrives, firstTimeout, secondTimeout, ackArrives, helpedArrives, helpArrives}
+use Rattle.protocol.specs.Controllers.{runs, standsBy, isStopped, phase, outcome, hasAck, ackOf, inPhase, cleared, dropContradicting, conclude}
+use Rattle.protocol.specs.Rules.{isTaken, passedOver, contradicted, becomes, voteRule, voteArrives, firstTimeout, secondTimeout, ackArrives, helpedArrives, helpArrives}
 
 -- a controller of a lock, in an order
 unfoldable pub validIdentity : Identity → Bool
 validIdentity me = sizesInRange (me .n) (me .f) && isController (me .n) (me .id) && leb 1 (me .order)
 
--- **Vote** (stage 0)
+-- **Vote** (stage 0). Document 02, U7: an acknowledgement held that the own vote contradicts counts as not received.
 unfoldable pub vote : Identity → Bool → ℕ → Controller → Answer
-vote me willing target c = cond (validIdentity me && runs c && eqb (phase c) 0) (voteRule (me .n) (me .f) (me .id) willing target c) (passedOver c)
+vote me willing target c = cond (validIdentity me && runs c && eqb (phase c) 0)
+    (voteRule (me .n) (me .f) (me .id) willing target (dropContradicting (me .n) (single (me .id) willing) c)) (passedOver c)
 
 -- "a controller passes over any [telegram] of another order, n or f, or meant for another controller", and any that may not travel so
 unfoldable pub addressed : Identity → Message → Bool
@@ -42,9 +47,19 @@ arrives Ack n f from s c = ackArrives n f from s c
 arrives Help n f from s c = helpArrives from c
 arrives Helped n f from s c = helpedArrives n f from s c
 
--- a message arrives
+-- Document 02, U7: does a vote set contradict "its own sheet, acknowledgements and help answers", any one that is held?
+unfoldable pub contradictsHeld : ℕ → Controller → VoteSet → Bool
+contradictsHeld n c s = contradicts (c .votes) s || contradicts (c .helped .votes) s || anyTo n (λ j. hasAck c j && contradicts (ackOf c j) s)
+
+-- "takes the telegram as not received"; "One that is passed over anyway .. is not tested": a is the answer without the test
+unfoldable pub tested : ℕ → VoteSet → Controller → Answer → Answer
+tested n s c a = cond (isTaken (a .reception) && contradictsHeld n c s) (contradicted c) a
+
+-- A message arrives. One whose vote set does not suit its kind (question 9) is passed over, as reading would have refused it: so nobody but the controller
+-- itself puts its vote on its vote set.
 unfoldable pub receive : Identity → Message → Controller → Answer
-receive me m c = cond (validIdentity me && runs c && addressed me m) (arrives (m .kind) (me .n) (me .f) (m .from) (m .votes) c) (passedOver c)
+receive me m c = cond (validIdentity me && runs c && addressed me m && suits m)
+    (tested (me .n) (m .votes) c (arrives (m .kind) (me .n) (me .f) (m .from) (m .votes) c)) (passedOver c)
 
 -- **Bell**
 unfoldable pub timeout : Identity → Controller → Answer

@@ -112,6 +112,7 @@ pub record WillingVote (es : List Event) (k : ℕ) : Type 0 where
   pub target : ℕ
   pub vote : InOrder es (Cast k true target)
 
+-- Demand 3 itself, in the words of the buyer's order; what they mean is document 01's, above.
 pub record Demand3 : Type 0 where
   -- "any two outcomes held for one order, by whichever controllers and at whichever moments of it, are the same;
   pub agreement : (es more : List Event) (i j : ℕ) (x y : Outcome) → SameOrder es more → Holds es i x → Holds (es ++ more) j y → x ≡ y

@@ -1,11 +1,12 @@
 -- What a controller shows, and the small changes that the rules are made of.
-use Prim.Native.Nat.{ℕ, suc}
+use Prim.Native.Nat.{ℕ, zero, suc, _-_}
 use mathlib.Core.Bool.{Bool, true, false, cond, _&&_, _||_}
 use mathlib.Core.List.{List}
 use lib.Dec.{ltb}
 use Rattle.ground.specs.Lists.{nth, put}
-use Rattle.ground.specs.Mask.{has, insert}
-use Rattle.votes.specs.VoteSets.{empty, join}
+use Rattle.ground.specs.Mask.{has, insert, remove}
+use Rattle.votes.specs.VoteSets.{empty}
+use Rattle.votes.specs.Joining.{contradicts, join, agreedOr}
 use Rattle.votes.specs.declared.VoteSet.{VoteSet}
 use Rattle.model.specs.Numbers.{isNone, isMove}
 use Rattle.model.specs.declared.Outcome.{Outcome}
@@ -81,7 +82,7 @@ inPhase s o = Running (record { phase = s; outcome = o })
 abbrev withCondition : Controller → Condition → Controller
 withCondition c k = record { condition = k; votes = c .votes; acks = c .acks; helped = c .helped; help = c .help; proposal = c .proposal; gate = c .gate }
 
-abbrev withVotes : Controller → VoteSet → Controller
+abbrev pub withVotes : Controller → VoteSet → Controller
 withVotes c s = record { condition = c .condition; votes = s; acks = c .acks; helped = c .helped; help = c .help; proposal = c .proposal; gate = c .gate }
 
 abbrev withAcks : Controller → Acks → Controller
@@ -120,9 +121,9 @@ cleared k c = blank k (c .acks .sets) (c .gate .position)
 unfoldable pub advance : Controller → ℕ → Controller
 advance c s = withCondition c (inPhase s (outcome c))
 
--- a vote set goes on its own
+-- a vote set is joined to the controller's own. One that contradicts it would leave it as it was (such a message is refused before, `receive` in Calls).
 unfoldable pub learn : Controller → VoteSet → Controller
-learn c s = withVotes c (join (c .votes) s)
+learn c s = withVotes c (agreedOr (c .votes) (join (c .votes) s))
 
 -- another target position
 unfoldable pub aim : Controller → ℕ → Controller
@@ -136,9 +137,21 @@ bump k = cond (ltb k 255) (suc k) k
 unfoldable pub keepAck : Controller → ℕ → VoteSet → Controller
 keepAck c j s = withAcks c (record { sets = put (c .acks .sets) j s; from = insert (c .acks .from) j; cnt = record { 0 = bump (c .acks .cnt .0) } })
 
+-- the acknowledgements without that of j, if it contradicts a vote set; and without all those of 1..m that do
+unfoldable pub dropIf : VoteSet → ℕ → Acks → Acks
+dropIf s j a = cond (has (a .from) j && contradicts (nth empty (a .sets) j) s) (record { sets = a .sets; from = remove (a .from) j; cnt = record { 0 = a .cnt .0 - 1 } }) a
+
+unfoldable pub dropTo : ℕ → VoteSet → Acks → Acks
+dropTo zero s a = a
+dropTo (suc m) s a = dropIf s (suc m) (dropTo m s a)
+
+-- Document 02, U7: ".. takes the telegram as not received, also one already held that its own vote contradicts." Its sender may be received again.
+unfoldable pub dropContradicting : ℕ → VoteSet → Controller → Controller
+dropContradicting n s c = withAcks c (dropTo n s (c .acks))
+
 -- a help answer is joined and counted
 unfoldable pub keepHelped : Controller → ℕ → VoteSet → Controller
-keepHelped c j s = withHelped c (record { votes = join (c .helped .votes) s; from = insert (c .helped .from) j; «cnt_help» = record { 0 = bump (c .helped .«cnt_help» .0) } })
+keepHelped c j s = withHelped c (record { votes = agreedOr (c .helped .votes) (join (c .helped .votes) s); from = insert (c .helped .from) j; «cnt_help» = record { 0 = bump (c .helped .«cnt_help» .0) } })
 
 -- the help vote set is frozen; the calls kept remain, to be answered with it
 unfoldable pub freeze : Controller → VoteSet → Controller

@@ -1,10 +1,19 @@
--- Whom an event concerns.
+-- Whom an event concerns, and what that controller answers to it.
 use Prim.Native.Nat.{ℕ}
 use mathlib.Core.Bool.{Bool, true, false}
 use Rattle.model.specs.declared.Event.{Event}
 use Rattle.model.specs.declared.Event.the-variants.{Lock, Order, Cast, Deliver, Timeout, Decide, Stop, Save, Restore}
+use Rattle.protocol.specs.declared.Identity.{Identity}
+use Rattle.protocol.specs.declared.Controller.{Controller}
+use Rattle.protocol.specs.declared.Answer.{Answer}
+use Rattle.protocol.specs.declared.Saved.{Saved}
+use Rattle.protocol.specs.declared.Saved.the-variants.{Nothing, Newest}
 use Rattle.protocol.specs.declared.Sent.{Sent}
-use Rattle.protocol.specs.Benches.{ofKind}
+use Rattle.protocol.specs.declared.Station.{Station}
+use Rattle.protocol.specs.declared.Shared.{Shared}
+use Rattle.protocol.specs.Rules.{passedOver}
+use Rattle.protocol.specs.Calls.{vote, receive, timeout, decide, stop, restore}
+use Rattle.protocol.specs.Benches.{identity, message, ofKind}
 
 -- is it the event of one controller: kinds 2 to 8
 abbrev pub concernsOne : Event → Bool
@@ -53,3 +62,19 @@ receiversIn (Decide i move) s = 0
 receiversIn (Stop i) s = 0
 receiversIn (Save i) s = 0
 receiversIn (Restore i) s = 0
+
+unfoldable pub restoreFrom : Identity → Saved → Controller → Answer
+restoreFrom me Nothing c = passedOver c
+restoreFrom me (Newest saved) c = restore me saved c
+
+-- the answer of the controller that an event concerns: s is its station, and the event's source has sent `sent`. A save asks for none.
+unfoldable pub answerTo : Shared → Event → Sent → Station → Answer
+answerTo m (Lock n f) sent s = passedOver (s .controller)
+answerTo m (Order o) sent s = passedOver (s .controller)
+answerTo m (Cast i willing target) sent s = vote (identity m i) willing target (s .controller)
+answerTo m (Deliver i j kind) sent s = receive (identity m j) (message m kind i j sent) (s .controller)
+answerTo m (Timeout i) sent s = timeout (identity m i) (s .controller)
+answerTo m (Decide i move) sent s = decide move (s .controller)
+answerTo m (Stop i) sent s = stop (s .controller)
+answerTo m (Save i) sent s = passedOver (s .controller)
+answerTo m (Restore i) sent s = restoreFrom (identity m i) (s .saved) (s .controller)

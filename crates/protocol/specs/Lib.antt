@@ -10,6 +10,7 @@ pub mod Counts
 pub mod Benches
 pub mod Events
 pub mod Questions
+pub mod QuestionLaws
 pub mod Steps
 -- "The bench program": what is shown
 pub mod Display
@@ -26,6 +27,10 @@ pub mod Termination
 pub mod SentOnce
 pub mod OpenCount
 pub mod Reach
+pub mod NoContradiction
+pub mod Strays
+pub mod Alone
 -- "Trials"
 pub mod Rows
+pub mod StrayTrials
 pub mod Trials

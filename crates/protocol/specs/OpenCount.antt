@@ -32,7 +32,7 @@ hasEnded b = eqb (b .shared .order) 0 || allTo (b .shared .n) (λ k. not (isOpen
 pub record OpenCount : Type 0 where
   -- "keep that number, and show it equal to the full count"
   pub counted : (es : List Event) → openGates ((after es) .shared) ≡ fullCount (after es)
-  -- question 13 asks what it asked
+  -- question 13 asks what document 01 asks
   pub question-13 : (es : List Event) → mayOpen ((after es) .shared) ≡ hasEnded (after es)
   -- the second number kept, from which a new order sets the first: those that run or stand by
   pub present : (es : List Event) → (after es) .shared .counts .present ≡ countTo ((after es) .shared .n) (λ k. isPresent ((controller (after es) k) .condition))

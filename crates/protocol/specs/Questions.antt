@@ -20,9 +20,10 @@ use Rattle.protocol.specs.declared.Shared.{Shared}
 use Rattle.protocol.specs.declared.Bench.{Bench}
 use Rattle.protocol.specs.declared.Facts.{Facts}
 use Rattle.protocol.specs.Controllers.{isRunning, isStandby, isStopped, phaseIn}
+use Rattle.protocol.specs.Rules.{isContradicted}
 use Rattle.protocol.specs.Counts.{openGates}
 use Rattle.protocol.specs.Benches.{station, sentBy}
-use Rattle.protocol.specs.Events.{subject, source, receiversIn}
+use Rattle.protocol.specs.Events.{subject, source, receiversIn, answerTo}
 
 -- 13: "Has every running controller an outcome, or has no order been opened yet?" It goes by the number of gates still open that the bench keeps;
 -- OpenCount.antt says that this asks the same of every controller.
@@ -44,6 +45,10 @@ abbrev pub isSaved : Saved → Bool
 isSaved Nothing = false
 isSaved (Newest c) = true
 
+-- 24: "Refused by the controller: 24, a delivered sheet that contradicts one held; last of all questions." (document 02, U7)
+abbrev pub agreesAt : Shared → Event → Sent → Station → Bool
+agreesAt m e sent s = not (isContradicted ((answerTo m e sent s) .reception))
+
 -- each event's questions, from what they look at
 abbrev pub questionsOf : Facts → Event → List Question
 questionsOf v (Lock n f) = ask 4 (sizesInRange n f) ∷ ask 6 (not (v .shared .locked)) ∷ []
@@ -51,7 +56,7 @@ questionsOf v (Order o) = ask 5 (v .shared .locked) ∷ ask 8 (leb 1 o) ∷ ask 
 questionsOf v (Cast i willing target) = ask 5 (v .shared .locked) ∷ ask 7 (isController (v .shared .n) i) ∷ ask 11 (positionInRange target) ∷ ask 14 (leb 1 (v .shared .order))
     ∷ ask 15 (isRunning (v .condition)) ∷ ask 16 (eqb (phaseIn (v .condition)) 0) ∷ []
 questionsOf v (Deliver i j kind) = ask 5 (v .shared .locked) ∷ ask 7 (differentControllers (v .shared .n) i j) ∷ ask 10 (route (v .shared .f) kind i j)
-    ∷ ask 14 (leb 1 (v .shared .order)) ∷ ask 15 (isRunning (v .condition)) ∷ ask 17 (has (v .receivers) j) ∷ []
+    ∷ ask 14 (leb 1 (v .shared .order)) ∷ ask 15 (isRunning (v .condition)) ∷ ask 17 (has (v .receivers) j) ∷ ask 24 (v .agrees) ∷ []
 questionsOf v (Timeout i) = ask 5 (v .shared .locked) ∷ ask 7 (isController (v .shared .n) i) ∷ ask 14 (leb 1 (v .shared .order))
     ∷ ask 15 (isRunning (v .condition)) ∷ ask 16 (eqb (phaseIn (v .condition)) 1 || eqb (phaseIn (v .condition)) 2) ∷ []
 questionsOf v (Decide i move) = ask 5 (v .shared .locked) ∷ ask 7 (isController (v .shared .n) i) ∷ ask 14 (leb 1 (v .shared .order))
@@ -65,11 +70,11 @@ questionsOf v (Restore i) = ask 5 (v .shared .locked) ∷ ask 7 (isController (v
     ∷ ask 19 (v .«has_checkpoint») ∷ []
 
 -- what they look at: of an event that concerns the controller of station s, and whose source has sent `sent`; and that, of a bench
-abbrev pub factsOf : Shared → Event → Station → Sent → Bool → Facts
-factsOf m e s sent may = record { shared = m; condition = s .controller .condition; «has_checkpoint» = isSaved (s .saved); receivers = receiversIn e sent; «may_open» = may }
+abbrev pub factsOf : Shared → Event → Station → Sent → Bool → Bool → Facts
+factsOf m e s sent may agrees = record { shared = m; condition = s .controller .condition; «has_checkpoint» = isSaved (s .saved); receivers = receiversIn e sent; «may_open» = may; agrees = agrees }
 
 abbrev pub questions : Bench → Event → List Question
-questions b e = questionsOf (factsOf (b .shared) e (station b (subject e)) (sentBy b (source e)) (mayOpen (b .shared))) e
+questions b e = questionsOf (factsOf (b .shared) e (station b (subject e)) (sentBy b (source e)) (mayOpen (b .shared)) (agreesAt (b .shared) e (sentBy b (source e)) (station b (subject e)))) e
 
 -- the bench's answer to an event
 unfoldable pub reply : Bench → Event → Reply

@@ -5,8 +5,7 @@ use Prim.Native.Nat.{ℕ, _≤_, _<_, _^_}
 use mathlib.Core.Path.{_≡_}
 use mathlib.Core.Bool.{true}
 use mathlib.Core.List.{List, [], _∷_}
-use Rattle.ground.specs.Mask.{within}
-use Rattle.votes.specs.declared.VoteSet.{VoteSet}
+use Rattle.votes.specs.Contradictions.{WellFormed}
 use Rattle.model.specs.Ranges.{positionInRange}
 use Rattle.model.specs.declared.Kind.{Kind}
 use Rattle.model.specs.declared.Checkpoint.{Checkpoint}
@@ -28,18 +27,14 @@ use Rattle.protocol.specs.Questions.{accepted, firstNo}
 use Rattle.protocol.specs.Display.{shownPosition, WasSent}
 use Rattle.protocol.specs.Claim.{after}
 
--- "A *sheet* has two sets of controllers: known, and willing (within known)"
-abbrev pub Within : VoteSet → Type 0
-Within s = within (s .willing) (s .known) ≡ true
-
 -- each vote set that a controller holds
 pub record HeldWithin (c : Controller) : Type 0 where
-  pub own : Within (c .votes)
-  pub acks : (j : ℕ) → hasAck c j ≡ true → Within (ackOf c j)
-  pub answers : Within (c .helped .votes)
-  pub help : Within (c .help .votes)
+  pub own : WellFormed (c .votes)
+  pub acks : (j : ℕ) → hasAck c j ≡ true → WellFormed (ackOf c j)
+  pub answers : WellFormed (c .helped .votes)
+  pub help : WellFormed (c .help .votes)
 
--- the message (telegram) of a kind from i to j, as the bench delivers it
+-- the message of a kind from i to j, as the bench delivers it
 abbrev pub messageAt : Bench → Kind → ℕ → ℕ → Message
 messageAt b kind i j = message (b .shared) kind i j (sentBy b i)
 

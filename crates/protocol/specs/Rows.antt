@@ -4,6 +4,7 @@ use mathlib.Core.Bool.{Bool, true, false, _&&_, Bool·beq}
 use mathlib.Core.List.{List, [], _∷_, _++_}
 use lib.Dec.{eqb}
 use Rattle.model.specs.Numbers.{kindNumber, outcomeNumber}
+use Rattle.model.specs.declared.Kind.{Kind}
 use Rattle.model.specs.declared.Kind.the-variants.{Vote, Ack, Help, Helped}
 use Rattle.model.specs.declared.Outcome.{Outcome}
 use Rattle.model.specs.declared.Outcome.the-variants.{Stay, Move}
@@ -129,3 +130,7 @@ sameMessage x y = eqb (kindNumber (x .kind)) (kindNumber (y .kind)) && eqb (x .n
 
 unfoldable pub sendsAs : SendTrial → Bool
 sendsAs r = isAccepted (reply (run newBench (r .events)) (r .last)) && same sameMessage (messagesSent (run newBench (r .events)) (r .last)) (r .messages)
+
+-- a message of order 1
+abbrev pub message : ℕ → ℕ → Kind → ℕ → ℕ → ℕ → ℕ → Message
+message n f kind from to known willing = record { kind = kind; n = n; f = f; from = from; to = to; order = 1; votes = record { known = known; willing = willing } }

@@ -6,8 +6,11 @@ use mathlib.Core.Bool.{Bool, true, false, cond, not, _&&_, _||_}
 use lib.Dec.{leb, ltb}
 use Rattle.ground.specs.Quantify.{allTo}
 use Rattle.ground.specs.Mask.{insert}
-use Rattle.votes.specs.VoteSets.{empty, single, join, joinAll, complete, unanimous}
+use Rattle.votes.specs.VoteSets.{empty, single, complete}
+use Rattle.votes.specs.Joining.{joinNext, joinAll, unanimousIn, agreedOr}
 use Rattle.votes.specs.declared.VoteSet.{VoteSet}
+use Rattle.votes.specs.declared.Joined.{Joined}
+use Rattle.votes.specs.declared.Joined.the-variants.{Agreed}
 use Rattle.model.specs.Ranges.{isBackup}
 use Rattle.model.specs.Routes.{recipients}
 use Rattle.model.specs.Numbers.{wordOf}
@@ -18,6 +21,8 @@ use Rattle.protocol.specs.declared.Controller.{Controller}
 use Rattle.protocol.specs.declared.Send.{Send}
 use Rattle.protocol.specs.declared.Send.the-variants.{Nothing, To}
 use Rattle.protocol.specs.declared.Sends.{Sends}
+use Rattle.protocol.specs.declared.Reception.{Reception}
+use Rattle.protocol.specs.declared.Reception.the-variants.{Taken, PassedOver, Contradicted}
 use Rattle.protocol.specs.declared.Answer.{Answer}
 use Rattle.protocol.specs.Controllers.{phase, hasAck, ackOf, hasHelped, hasCalled, advance, learn, aim, keepAck, keepHelped, freeze, addCaller, await, propose, conclude}
 
@@ -34,22 +39,42 @@ acksTo to s = record { vote = Nothing; ack = To to s; help = Nothing; helped = N
 abbrev pub helps : Send → Send → Sends
 helps call answer = record { vote = Nothing; ack = Nothing; help = call; helped = answer }
 
--- what an answer may be: passed over, with nothing changed; or taken, with a next controller and what it sends; and a word put besides
+-- what an answer says in the papers' terms: 0, also where the call was passed over; or 24, a vote set that contradicts one held
+abbrev pub receptionNumber : Reception → ℕ
+receptionNumber Taken = 0
+receptionNumber PassedOver = 0
+receptionNumber Contradicted = 24
+
+abbrev pub isTaken : Reception → Bool
+isTaken Taken = true
+isTaken PassedOver = false
+isTaken Contradicted = false
+
+abbrev pub isContradicted : Reception → Bool
+isContradicted Taken = false
+isContradicted PassedOver = false
+isContradicted Contradicted = true
+
+-- what an answer may be: passed over, or refused with 24, with nothing changed; or taken, with a next controller and what it sends; and a word put besides
 unfoldable pub passedOver : Controller → Answer
-passedOver c = record { taken = false; controller = c; sends = nothing; proposal = None }
+passedOver c = record { reception = PassedOver; controller = c; sends = nothing; proposal = None }
+
+unfoldable pub contradicted : Controller → Answer
+contradicted c = record { reception = Contradicted; controller = c; sends = nothing; proposal = None }
 
 abbrev pub sending : Controller → Sends → Answer
-sending c s = record { taken = true; controller = c; sends = s; proposal = None }
+sending c s = record { reception = Taken; controller = c; sends = s; proposal = None }
 
 unfoldable pub becomes : Controller → Answer
-becomes c = record { taken = true; controller = c; sends = nothing; proposal = None }
+becomes c = record { reception = Taken; controller = c; sends = nothing; proposal = None }
 
 unfoldable pub proposing : Answer → Outcome → Answer
-proposing a o = record { taken = a .taken; controller = propose (a .controller) o; sends = a .sends; proposal = o }
+proposing a o = record { reception = a .reception; controller = propose (a .controller) o; sends = a .sends; proposal = o }
 
--- the word of a vote set
-unfoldable pub verdict : ℕ → VoteSet → Outcome
-verdict n s = wordOf (unanimous n s)
+-- the word of a join: "Move if all n are known and willing, else Stay". Where the vote sets contradict each other there is no join, and the word is Stay; no
+-- controller meets that, since it holds no two that do: on the bench (NoContradiction) as alone, whatever comes over its line (Alone).
+unfoldable pub verdict : ℕ → Joined → Outcome
+verdict n j = wordOf (unanimousIn n j)
 
 -- **Vote** (stage 0): "Its own vote goes on its sheet. It sends a vote telegram to every other controller of 1 to f; a holder also sends one to f + 1.
 -- Controllers 1 to f + 1 go to stage 1, others to stage 2."
@@ -70,7 +95,7 @@ unfoldable pub firstTimeout : ℕ → ℕ → ℕ → Controller → Answer
 firstTimeout n f i c = sending (advance (countOwn f i c) 2) (acksTo (recipients n f Ack i) (c .votes))
 
 -- the join of the acknowledgements held
-unfoldable pub ackJoin : ℕ → Controller → VoteSet
+unfoldable pub ackJoin : ℕ → Controller → Joined
 ackJoin n c = joinAll n (c .acks .from) (c .acks .sets)
 
 -- "If acknowledgements from all of 1 to f are held and full and, for a holder, the one of f + 1 is held and knows all of 1 to f"
@@ -88,15 +113,16 @@ decides n f i c = backupsComplete n f c && (not (isBackup f i) || secondKnows f 
 unfoldable pub sufficient : ℕ → ℕ → Controller → Bool
 sufficient n f c = c .help .waiting && leb n (c .acks .cnt .0 + c .helped .«cnt_help» .0 + f)
 
-unfoldable pub answersJoin : ℕ → Controller → VoteSet
-answersJoin n c = cond (ltb 0 (c .acks .cnt .0)) (ackJoin n c) (c .helped .votes)
+unfoldable pub answersJoin : ℕ → Controller → Joined
+answersJoin n c = cond (ltb 0 (c .acks .cnt .0)) (ackJoin n c) (Agreed (c .helped .votes))
 
 unfoldable pub proposeIfSufficient : ℕ → ℕ → Answer → Answer
 proposeIfSufficient n f a = cond (sufficient n f (a .controller)) (proposing a (verdict n (answersJoin n (a .controller)))) a
 
--- **Bell at stage 2** (the second bell): "to stage 3. The help sheet is the join of own sheet and acknowledgements held, then frozen."
+-- **Bell at stage 2** (the second bell): "to stage 3. The help sheet is the join of own sheet and acknowledgements held, then frozen." Where these contradict
+-- each other, which no controller meets (Alone), it is the own vote set.
 unfoldable pub helpVotes : ℕ → Controller → VoteSet
-helpVotes n c = join (c .votes) (ackJoin n c)
+helpVotes n c = agreedOr (c .votes) (joinNext (ackJoin n c) (c .votes))
 
 unfoldable pub frozen : ℕ → Controller → Controller
 frozen n c = freeze (advance c 3) (helpVotes n c)

@@ -7,12 +7,9 @@ use Rattle.model.specs.Numbers.{wordOf, isMove, isStay}
 use Rattle.model.specs.declared.Outcome.{Outcome}
 use Rattle.model.specs.declared.Event.{Event}
 use Rattle.model.specs.declared.Event.the-variants.{Lock, Order, Cast, Deliver, Timeout, Decide, Stop, Save, Restore}
-use Rattle.protocol.specs.declared.Identity.{Identity}
-use Rattle.protocol.specs.declared.Controller.{Controller}
 use Rattle.protocol.specs.declared.Sends.{Sends}
 use Rattle.protocol.specs.declared.Answer.{Answer}
 use Rattle.protocol.specs.declared.Saved.{Saved}
-use Rattle.protocol.specs.declared.Saved.the-variants.{Nothing, Newest}
 use Rattle.protocol.specs.declared.Sent.{Sent}
 use Rattle.protocol.specs.declared.Station.{Station}
 use Rattle.protocol.specs.declared.Consensus.{Consensus}
@@ -20,11 +17,10 @@ use Rattle.protocol.specs.declared.Counts.{Counts}
 use Rattle.protocol.specs.declared.Shared.{Shared}
 use Rattle.protocol.specs.declared.Bench.{Bench}
 use Rattle.protocol.specs.declared.Effect.{Effect}
-use Rattle.protocol.specs.Rules.{passedOver}
-use Rattle.protocol.specs.Calls.{vote, receive, timeout, decide, stop, save, restore, renew}
+use Rattle.protocol.specs.Calls.{save, renew}
 use Rattle.protocol.specs.Counts.{countsAfter}
-use Rattle.protocol.specs.Benches.{benchOf, noConsensus, allUndecided, station, sentBy, identity, message, unsentAll, sentAfter}
-use Rattle.protocol.specs.Events.{subject, source}
+use Rattle.protocol.specs.Benches.{benchOf, noConsensus, allUndecided, station, sentBy, identity, unsentAll, sentAfter}
+use Rattle.protocol.specs.Events.{subject, source, answerTo}
 use Rattle.protocol.specs.Questions.{reply, isAccepted}
 
 -- **New order**: "Old telegrams, words put and the arbiter's choice are gone; cards remain." All that are present are undecided.
@@ -65,37 +61,24 @@ answering m s a = record {
 unfoldable pub keeping : Station → Saved → Station
 keeping s new = record { controller = s .controller; sent = s .sent; saved = new }
 
-unfoldable pub restoreFrom : Identity → Saved → Controller → Answer
-restoreFrom me Nothing c = passedOver c
-restoreFrom me (Newest saved) c = restore me saved c
-
--- the answer of the controller that an event concerns: s is its station, and the event's source has sent `sent`. A save asks for none.
-unfoldable pub answerTo : Shared → Event → Sent → Station → Answer
-answerTo m (Lock n f) sent s = passedOver (s .controller)
-answerTo m (Order o) sent s = passedOver (s .controller)
-answerTo m (Cast i willing target) sent s = vote (identity m i) willing target (s .controller)
-answerTo m (Deliver i j kind) sent s = receive (identity m j) (message m kind i j sent) (s .controller)
-answerTo m (Timeout i) sent s = timeout (identity m i) (s .controller)
-answerTo m (Decide i move) sent s = decide move (s .controller)
-answerTo m (Stop i) sent s = stop (s .controller)
-answerTo m (Save i) sent s = passedOver (s .controller)
-answerTo m (Restore i) sent s = restoreFrom (identity m i) (s .saved) (s .controller)
-
 -- what that controller sends at the event, by the rules
 abbrev pub sendsAt : Bench → Event → Sends
 sendsAt b e = (answerTo (b .shared) e (sentBy b (source e)) (station b (subject e))) .sends
 
--- what an accepted event of one controller does: to what is shared, and to that controller's station
-unfoldable pub effect : Shared → Event → Sent → Station → Effect
-effect m (Lock n f) sent s = record { shared = m; station = s }
-effect m (Order o) sent s = record { shared = m; station = s }
-effect m (Cast i willing target) sent s = answering m s (answerTo m (Cast i willing target) sent s)
-effect m (Deliver i j kind) sent s = answering m s (answerTo m (Deliver i j kind) sent s)
-effect m (Timeout i) sent s = answering m s (answerTo m (Timeout i) sent s)
-effect m (Decide i move) sent s = answering (decidedAs m move) s (answerTo m (Decide i move) sent s)
-effect m (Stop i) sent s = answering m s (answerTo m (Stop i) sent s)
-effect m (Save i) sent s = record { shared = m; station = keeping s (save (identity m i) (s .controller)) }
-effect m (Restore i) sent s = answering m s (answerTo m (Restore i) sent s)
+-- what an accepted event of one controller does, with that controller's answer: to what is shared, and to that controller's station
+unfoldable pub effectOf : Shared → Event → Station → Answer → Effect
+effectOf m (Lock n f) s a = record { shared = m; station = s }
+effectOf m (Order o) s a = record { shared = m; station = s }
+effectOf m (Cast i willing target) s a = answering m s a
+effectOf m (Deliver i j kind) s a = answering m s a
+effectOf m (Timeout i) s a = answering m s a
+effectOf m (Decide i move) s a = answering (decidedAs m move) s a
+effectOf m (Stop i) s a = answering m s a
+effectOf m (Save i) s a = record { shared = m; station = keeping s (save (identity m i) (s .controller)) }
+effectOf m (Restore i) s a = answering m s a
+
+abbrev pub effect : Shared → Event → Sent → Station → Effect
+effect m e sent s = effectOf m e s (answerTo m e sent s)
 
 -- the effect put back into the bench
 abbrev pub putBack : Bench → ℕ → Effect → Bench

@@ -1,5 +1,5 @@
 -- Document 01, "Trials": the starred ones, a row each, and some other places where it, or document 02's U4 (kept calls, and what goes out in which sequence) and
--- U10, states figures.
+-- U10, states figures; and what one controller, alone, answers to stray messages (StrayTrials).
 -- What is expected was written from the document; the definition runs the events. `trials_hold` in src/lib.rt has the theorem as its contract.
 use Prim.Native.Nat.{ℕ, _-_, _^_}
 use mathlib.Core.Path.{_≡_}
@@ -7,8 +7,6 @@ use mathlib.Core.Bool.{Bool, true, false, _&&_}
 use mathlib.Core.List.{List, [], _∷_, _++_}
 use lib.Dec.{eqb, ltb}
 use lib.ListN.{replicate}
-use Rattle.model.specs.declared.Kind.{Kind}
-use Rattle.model.specs.declared.Message.{Message}
 use Rattle.model.specs.declared.Kind.the-variants.{Vote, Ack, Help, Helped}
 use Rattle.model.specs.declared.Outcome.{Outcome}
 use Rattle.model.specs.declared.Outcome.the-variants.{None, Stay, Move}
@@ -16,7 +14,8 @@ use Rattle.model.specs.declared.Event.{Event}
 use Rattle.model.specs.declared.Event.the-variants.{Lock, Order, Cast, Deliver, Timeout, Decide, Stop, Save, Restore}
 use Rattle.protocol.specs.Benches.{newBench}
 use Rattle.protocol.specs.CleanOrders.{cleanOrder}
-use Rattle.protocol.specs.Rows.{Line, Inside, Trial, SendTrial, answersTo, openAfter, same, passes, sendsAs}
+use Rattle.protocol.specs.Rows.{Line, Inside, Trial, SendTrial, answersTo, openAfter, same, passes, sendsAs, message}
+use Rattle.protocol.specs.StrayTrials.{answersAs, strays}
 
 -- a C line, and a T line
 abbrev pub C : ℕ → Outcome → ℕ → Line
@@ -197,10 +196,6 @@ table =
     (allAccepted 21) (C 0 None 10 ∷ C 3 None 20 ∷ C 0 None 30 ∷ []) (T 1 1 1 0) (held 0 0 ∷ waits 0 1 ∷ held 0 0 ∷ [])
     ∷ []
 
--- a message of order 1
-abbrev pub message : ℕ → ℕ → Kind → ℕ → ℕ → ℕ → ℕ → Message
-message n f kind from to known willing = record { kind = kind; n = n; f = f; from = from; to = to; order = 1; votes = record { known = known; willing = willing } }
-
 unfoldable pub sequences : List SendTrial
 sequences =
     -- the messages of a vote, and of a first timeout
@@ -241,4 +236,4 @@ abbrev pub stillOpen : List ℕ
 stillOpen = 3 ∷ 3 ∷ 3 ∷ 2 ∷ 2 ∷ 2 ∷ 2 ∷ 2 ∷ 2 ∷ 1 ∷ 1 ∷ 1 ∷ 0 ∷ 2 ∷ []
 
 abbrev pub TrialsHold : Type 0
-TrialsHold = (allPass passes table && allPass sendsAs sequences && same eqb (answersTo newBench reopened) reopenedAnswers && same eqb (openAfter newBench reopened) stillOpen) ≡ true
+TrialsHold = (allPass passes table && allPass sendsAs sequences && same eqb (answersTo newBench reopened) reopenedAnswers && same eqb (openAfter newBench reopened) stillOpen && allPass answersAs strays) ≡ true

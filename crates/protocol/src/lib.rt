@@ -1,10 +1,13 @@
 // The state of the controllers and of the bench. The rules over it stand in specs/, and so does the claim about them.
+ghost use Rattle.protocol.specs.Alone.{ControllerAlone};
 ghost use Rattle.protocol.specs.Claim.{Demand3};
+ghost use Rattle.protocol.specs.NoContradiction.{NoContradiction};
 ghost use Rattle.protocol.specs.CleanMessages.{CleanMessages};
 ghost use Rattle.protocol.specs.NotHollow.{NotHollow};
 ghost use Rattle.protocol.specs.OpenCount.{OpenCount};
 ghost use Rattle.protocol.specs.Reach.{Reach};
 ghost use Rattle.protocol.specs.SentOnce.{SentOnce};
+ghost use Rattle.protocol.specs.Strays.{Strays};
 ghost use Rattle.protocol.specs.Termination.{Termination};
 ghost use Rattle.protocol.specs.Trials.{TrialsHold};
 use ground::LIMIT;
@@ -95,9 +98,16 @@ pub struct Sends {
     pub helped: Send,
 }
 
-// What a controller answers to a call: was it taken or passed over; the next controller; what it sends; the word it puts, if any.
+// How a controller took a call: taken; passed over; or refused, since the message's vote set contradicts one that it holds (document 02, U7).
+pub enum Reception {
+    Taken,
+    PassedOver,
+    Contradicted,
+}
+
+// What a controller answers to a call: how it took it; the next controller; what it sends; the word it puts, if any.
 pub struct Answer {
-    pub taken: bool,
+    pub reception: Reception,
     pub controller: Controller,
     pub sends: Sends,
     pub proposal: Outcome,
@@ -167,13 +177,14 @@ pub struct Bench {
 }
 
 // What the questions of an event look at beside the event: what is shared; the condition of the controller that it concerns, and whether that has a
-// checkpoint; to whom the delivered message was sent; whether an order may be opened.
+// checkpoint; to whom the delivered message was sent; whether an order may be opened; whether the delivered vote set agrees with those held.
 pub struct Facts {
     pub shared: Shared,
     pub condition: Condition,
     pub has_checkpoint: bool,
     pub receivers: u32,
     pub may_open: bool,
+    pub agrees: bool,
 }
 
 // What an event of one controller leaves: what is shared, and that controller's station.
@@ -219,8 +230,25 @@ pub fn reach()
     ensures { λ _. ⌜ Reach ⌝ }
 {}
 
+// No event of any list from a new bench meets vote sets that contradict each other: 24 is never answered there, and all is as without the test.
+pub fn no_contradiction()
+    ensures { λ _. ⌜ NoContradiction ⌝ }
+{}
+
+// What a controller, on the bench or alone, does with a vote set that contradicts one that it holds.
+pub fn stray_messages()
+    ensures { λ _. ⌜ Strays ⌝ }
+{}
+
+// A controller alone, through any calls: no two vote sets that it holds ever contradict each other, each join of its rules is there, its own vote stands on
+// its own vote set, and the two counts are the numbers of senders held.
+pub fn controller_alone()
+    ensures { λ _. ⌜ ControllerAlone ⌝ }
+{}
+
 // The starred trials of document 01, run by the definitions: every row of the table in specs/Trials.antt shows what the document says of it. And the
-// messages that an event sends, in their sequence, on some lists; and the answers and the count of gates still open, event by event, on one.
+// messages that an event sends, in their sequence, on some lists; the answers and the count of gates still open, event by event, on one; and what one
+// controller, alone, answers to stray messages (specs/StrayTrials.antt).
 pub fn trials_hold()
     ensures { λ _. ⌜ TrialsHold ⌝ }
 {}

@@ -12,6 +12,7 @@ use model::outcome_number;
 use protocol::Answer;
 use protocol::Condition;
 use protocol::Identity;
+use protocol::Reception;
 use protocol::Saved;
 use protocol::Send;
 use protocol::Sends;
@@ -82,14 +83,26 @@ fn stage_shown(condition: Condition) -> u8 {
     phase_in(condition)
 }
 
-// taken stage outcome position put V A H R
+// taken, passed over, or the number of the refusal
+fn put_reception(out: &mut [u8], at: usize, r: Reception) -> usize {
+    match r {
+        Reception::Taken => put(out, at, b'1'),
+        Reception::PassedOver => put(out, at, b'0'),
+        Reception::Contradicted => {
+            let next = put(out, at, b'2');
+            put(out, next, b'4')
+        }
+    }
+}
+
+// reception stage outcome position put V A H R
 fn put_answer(out: &mut [u8], at: usize, a: Answer) -> usize {
     let c = a.controller;
     let condition = c.condition;
     let word = a.proposal;
     let sends = a.sends;
-    let taken = if a.taken { b'1' } else { b'0' };
-    let mut next = put(out, at, taken);
+    let reception = a.reception;
+    let mut next = put_reception(out, at, reception);
     next = put_number(out, next, b' ', stage_shown(condition) as u32);
     next = put_outcome(out, next, outcome_in(condition));
     next = put_number(out, next, b' ', c.gate.position);

@@ -23,9 +23,9 @@ wills s k = has (s .willing) k
 unfoldable pub single : ℕ → Bool → VoteSet
 single k willing = record { known = insert 0 k; willing = cond willing (insert 0 k) 0 }
 
--- the join of two vote sets: what either knows
-unfoldable pub join : VoteSet → VoteSet → VoteSet
-join s t = record { known = bitOr (s .known) (t .known); willing = bitOr (s .willing) (t .willing) }
+-- the union of two vote sets: what either knows. Where they do not contradict each other it is their join (Joining).
+unfoldable pub union : VoteSet → VoteSet → VoteSet
+union s t = record { known = bitOr (s .known) (t .known); willing = bitOr (s .willing) (t .willing) }
 
 -- "full": all n are known
 unfoldable pub complete : ℕ → VoteSet → Bool
@@ -35,12 +35,12 @@ complete n s = fullTo n (s .known)
 unfoldable pub unanimous : ℕ → VoteSet → Bool
 unanimous n s = fullTo n (s .known) && fullTo n (s .willing)
 
--- the join of the vote sets of those senders of 1..m that are in a set
-unfoldable pub joinAll : ℕ → ℕ → List VoteSet → VoteSet
-joinAll zero from l = empty
-joinAll (suc m) from l = cond (has from (suc m)) (join (joinAll m from l) (nth empty l (suc m))) (joinAll m from l)
+-- the union of the vote sets of those senders of 1..m that are in a set
+unfoldable pub unionAll : ℕ → ℕ → List VoteSet → VoteSet
+unionAll zero from l = empty
+unionAll (suc m) from l = cond (has from (suc m)) (union (unionAll m from l) (nth empty l (suc m))) (unionAll m from l)
 
--- a vote set that is the vote set of some sender of 1..m in a set
+-- s is the vote set of some sender of 1..m that is in the set
 pub record Among (m from : ℕ) (l : List VoteSet) (s : VoteSet) : Type 0 where
   pub sender : ℕ
   pub low : 1 ≤ sender

@@ -1,10 +1,10 @@
 // Vote sets (document 01: sheets).
 ghost use mathlib.Core.Path.{_≡_};
-ghost use mathlib.Core.Bool.{cond};
 ghost use Prim.Native.Nat.{min};
 ghost use Rattle.ground.specs.Limit.{limit};
-ghost use Rattle.ground.specs.Mask.{has};
-ghost use Rattle.votes.specs.VoteSets.{empty, single, join, complete, unanimous, joinAll};
+ghost use Rattle.votes.specs.VoteSets.{empty, single, complete, unanimous};
+ghost use Rattle.votes.specs.Joining.{contradicts, join, joinAll, agreedOr};
+ghost use Rattle.votes.specs.Contradictions.{Contradictions};
 use ground::LIMIT;
 use ground::full_to;
 use ground::has;
@@ -13,6 +13,8 @@ use ground::insert;
 mod tallies;
 
 pub use tallies::one_pass;
+pub use tallies::tallied_with;
+pub use tallies::tallied_word;
 pub use tallies::tally_all;
 
 // A vote set: the controllers whose vote is known, and those of them known to be willing. Bit k - 1 is controller k.
@@ -21,11 +23,23 @@ pub struct VoteSet {
     pub willing: u32,
 }
 
-// What one pass over vote sets gives: their join, whether it is complete, and whether it is unanimous.
+// What joining answers (document 02, U7): the join, or that the vote sets contradict each other.
+pub enum Joined {
+    Agreed(VoteSet),
+    Contradiction,
+}
+
+// What one pass over vote sets that agree gives: their join, whether it is complete, and whether it is unanimous.
 pub struct Tally {
     pub votes: VoteSet,
     pub complete: bool,
     pub unanimous: bool,
+}
+
+// What one pass over vote sets answers: that, or that the vote sets contradict each other.
+pub enum Tallied {
+    Counted(Tally),
+    Contradicting,
 }
 
 // The vote set that knows nobody.
@@ -52,13 +66,33 @@ pub fn single(k: u8, willing: bool) -> VoteSet
     VoteSet { known, willing: 0 }
 }
 
-// What either of two vote sets knows.
-pub fn join(s: VoteSet, t: VoteSet) -> VoteSet
+// Is a controller that both vote sets know willing in just one of them?
+pub fn contradicts(s: VoteSet, t: VoteSet) -> bool
+    ensures { λ r. ⌜ r ≡ contradicts s t ⌝ }
+{
+    s.known & t.known & (s.willing ^ t.willing) != 0
+}
+
+// What either of two vote sets knows; or that they contradict each other.
+pub fn join(s: VoteSet, t: VoteSet) -> Joined
     ensures { λ r. ⌜ r ≡ join s t ⌝ }
 {
-    VoteSet {
+    if contradicts(s, t) {
+        return Joined::Contradiction;
+    }
+    Joined::Agreed(VoteSet {
         known: s.known | t.known,
         willing: s.willing | t.willing,
+    })
+}
+
+// The join, or another vote set where there is none.
+pub fn agreed_or(other: VoteSet, joined: Joined) -> VoteSet
+    ensures { λ r. ⌜ r ≡ agreedOr other joined ⌝ }
+{
+    match joined {
+        Joined::Agreed(s) => s,
+        Joined::Contradiction => other,
     }
 }
 
@@ -79,8 +113,8 @@ pub fn unanimous(s: VoteSet, n: u8) -> bool
     false
 }
 
-// The join of the vote sets of those senders of 1..m that are in a set. Only as many as the limit have a vote set.
-pub fn join_all(m: u8, from: u32, sets: [VoteSet; LIMIT]) -> VoteSet
+// The join of the vote sets of those senders of 1..m that are in a set, or that two of them contradict each other. Only as many as the limit have a vote set.
+pub fn join_all(m: u8, from: u32, sets: [VoteSet; LIMIT]) -> Joined
     ensures { λ r. ⌜ r ≡ joinAll m from sets ⌝ }
 {
     let mut joined = empty_set();
@@ -90,9 +124,15 @@ pub fn join_all(m: u8, from: u32, sets: [VoteSet; LIMIT]) -> VoteSet
         let at = k as usize;
         let s = sets[at];
         k += 1;
-        joined = join_if(joined, s, from, k);
+        if !has(from, k) {
+            continue;
+        }
+        let Joined::Agreed(next) = join(joined, s) else {
+            return Joined::Contradiction;
+        };
+        joined = next;
     }
-    joined
+    Joined::Agreed(joined)
 }
 
 // The smaller of m and the limit.
@@ -105,12 +145,7 @@ fn up_to_limit(m: u8) -> u8
     LIMIT as u8
 }
 
-// The vote set joined with that of sender k, if k is in the set.
-fn join_if(joined: VoteSet, s: VoteSet, from: u32, k: u8) -> VoteSet
-    ensures { λ r. ⌜ r ≡ cond (has from k) (join joined s) joined ⌝ }
-{
-    if has(from, k) {
-        return join(joined, s);
-    }
-    joined
-}
+// When two vote sets contradict each other; and that the join of any list of vote sets is there exactly when they agree pairwise, as a contract.
+pub fn contradictions()
+    ensures { λ _. ⌜ Contradictions ⌝ }
+{}

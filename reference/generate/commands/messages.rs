@@ -43,7 +43,13 @@ impl Script<'_> {
             };
             votes.known = backups.union(Members::only(from));
         }
-        votes.willing = Members(votes.known.0 & !self.plan.unwilling.0);
+        votes.willing = votes.known.difference(self.plan.unwilling);
+        if self.rng.chance(self.plan.contrary, 100) {
+            let known: Vec<u8> = votes.known.iter().collect();
+            if !known.is_empty() {
+                votes.willing.0 ^= Members::only(self.rng.pick(&known)).0;
+            }
+        }
         votes
     }
 
@@ -75,18 +81,18 @@ impl Script<'_> {
             return self.any_message();
         };
         if self.rng.chance(1, 2) {
-            message.votes.willing = Members(message.votes.known.0 & !message.votes.willing.0);
+            message.votes.willing = message.votes.known.difference(message.votes.willing);
         }
         Command::Receive(message)
     }
 
-    /// A message of another order, group, receiver or way.
+    /// A message of another order, group, receiver or way, or with votes that do not suit its kind.
     pub fn misled_message(&mut self) -> Command {
         let group = self.group();
         let id = self.controller.id();
         let kind = choices::kind(self.rng);
         let permitted = self.permitted_message();
-        let message = match (self.rng.below(6), permitted) {
+        let message = match (self.rng.below(9), permitted) {
             (0, Some(message)) => {
                 let Message { order, .. } = message;
                 let near = [order.wrapping_add(1), order.wrapping_sub(1)];
@@ -103,6 +109,10 @@ impl Script<'_> {
                 let from = choices::bad_id(self.rng, group);
                 self.message(MessageKind::Help, from, VoteSet::EMPTY)
             }
+            (5..=7, Some(message)) => Message {
+                votes: choices::bad_votes(self.rng, group, message.kind, message.from, 32),
+                ..message
+            },
             // Any other controller, also where the kind may not travel so.
             _ => {
                 let others: Vec<u8> = group.ids().filter(|&other| other != id).collect();

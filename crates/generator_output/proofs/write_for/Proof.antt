@@ -1,3 +1,4 @@
+-- `write_for` meets its contract: a refusal as its line, or the file made, whole at the buffer's front or not at all.
 use mathlib.Core.Path.{sym}
 use lib.Seq.{length-take-le}
 use Rattle.text.specs.WritingLaws.{same-fitted}

@@ -24,20 +24,20 @@ use Rattle.protocol.specs.Rules.{passedOver}
 use Rattle.protocol.specs.Sequence.{members, messageTo, messagesOfKind}
 use Rattle.protocol.specs.SequenceLaws.{members-size}
 use Rattle.protocol.specs.Benches.{newBench, benchOf, unsentAll, station, sentBy, ofKind}
-use Rattle.protocol.specs.Events.{subject, source, concernsOne}
+use Rattle.protocol.specs.Events.{subject, source, concernsOne, answerTo}
 use Rattle.protocol.specs.Questions.{accepted, isAccepted, reply}
-use Rattle.protocol.specs.Steps.{answerTo, perform, step, run, renewed}
+use Rattle.protocol.specs.Steps.{perform, step, run, renewed}
 use Rattle.protocol.specs.Display.{WasSent, sumTo, sentCount, messageCount}
 use Rattle.protocol.specs.Claim.{after, opensOrder, opensAny}
 use Rattle.protocol.specs.SentOnce.{receiversOf, sendOf, receiversAt, sendCount, countAccepted, countSends, StaysSent, SentOnce}
 use Rattle.protocol.proofs.view.View.{View, openedV, accepts}
-use Rattle.protocol.proofs.view.Performed.{commitV, chosen, savedV, ruleAnswer, answerV, answered-by-rule, performV, place, stepV}
-use Rattle.protocol.proofs.view.Simulation.{view, reply-sim, step-steps, step-sim}
+use Rattle.protocol.proofs.view.Performed.{commitV, chosen, savedV, ruleAnswer, performV, place, stepV}
+use Rattle.protocol.proofs.view.Simulation.{view, Sound, rule-sim, reply-sim, step-steps, step-sim}
 use Rattle.protocol.proofs.invariant.Arrivals.{count-zero}
 use Rattle.protocol.proofs.claim.Moments.{accepted-is, lock-refused, run-append, or-false-l, or-false-r}
 use Rattle.protocol.proofs.claim.Start.{unlocked, freshes}
 use Rattle.protocol.proofs.claim.Sends.{Stays, New, rule-new, messageCountV, commit-counted, commit-kept}
-use Rattle.protocol.proofs.claim.Reach.{Alive, Reached, step-reached, reached}
+use Rattle.protocol.proofs.claim.Reach.{Reached, step-reached, reached}
 
 -- a bench on which nothing was sent
 pub sum-zero : (m : ℕ) (g : ℕ → ℕ) → ((k : ℕ) → g k ≡ 0) → sumTo m g ≡ 0
@@ -67,22 +67,15 @@ as-view : (b : Bench) (n f : ℕ) (kind : Kind) → b .shared .n ≡ n → messa
 unfolding messageCount sentCount view
 as-view b n f kind e = ap (λ (m : ℕ). sumTo m (λ i. countTo m (has ((ofKind kind (sentBy b i)) .to)))) e
 
-module _ (b : Bench) (a : Alive b) where
+module _ (b : Bench) (a : Sound b) where
   abbrev n : ℕ
   n = b .shared .n
 
   abbrev f : ℕ
   f = b .shared .f
 
-  -- the answer that an accepted event is given is the rule's
-  answer-sim : (e : Event) → answerTo (b .shared) e (sentBy b (source e)) (station b (subject e)) ≡ answerV n f (view b) e
-  answer-sim e = unfold view in rw (a .sound .locked)
-
-  rule-sim : (e : Event) → accepts n f (view b) e ≡ true → answerTo (b .shared) e (sentBy b (source e)) (station b (subject e)) ≡ ruleAnswer n f (view b) e
-  rule-sim e q = answer-sim e ∙ answered-by-rule n f (a .sound .sized) (view b) e q
-
   adds : (e : Event) → accepts n f (view b) e ≡ true → New (sentBy b (subject e)) (answerTo (b .shared) e (sentBy b (source e)) (station b (subject e)))
-  adds e q = subst (New (sentBy b (subject e))) (sym (rule-sim e q)) (unfold view in rule-new n f (view b) (a .inv) e q)
+  adds e q = subst (New (sentBy b (subject e))) (sym (rule-sim b (a) e q)) (unfold view in rule-new n f (view b) (a .inv) e q)
 
   -- what an accepted event leaves
   module _ (kind : Kind) (e : Event) (q : accepts n f (view b) e ≡ true) where
@@ -90,13 +83,13 @@ module _ (b : Bench) (a : Alive b) where
     sends x = countTo n (has (receiversOf (sendOf kind (x .sends))))
 
     after-view : messageCount (step b e) kind ≡ messageCountV n f (performV n f (view b) e) kind
-    after-view = as-view (step b e) n f kind (step-steps b (a .sound) e .same-n) ∙ ap (λ (v : View). messageCountV n f v kind) (step-sim b (a .sound) e ∙ stepped)
+    after-view = as-view (step b e) n f kind (step-steps b (a) e .same-n) ∙ ap (λ (v : View). messageCountV n f v kind) (step-sim b (a) e ∙ stepped)
       where
         stepped : stepV n f (view b) e ≡ performV n f (view b) e
         stepped = unfold stepV in rw q
 
     by-rule : messageCountV n f (view b) kind + sends (ruleAnswer n f (view b) e) ≡ messageCount b kind + sendCount b e kind
-    by-rule = rw (as-view b n f kind refl) (ap (λ (x : Answer). messageCountV n f (view b) kind + sends x) (sym (rule-sim e q)))
+    by-rule = rw (as-view b n f kind refl) (ap (λ (x : Answer). messageCountV n f (view b) kind + sends x) (sym (rule-sim b (a) e q)))
 
     counted-by : messageCountV n f (performV n f (view b) e) kind ≡ messageCountV n f (view b) kind + sends (ruleAnswer n f (view b) e) → messageCount (step b e) kind ≡ messageCount b kind + sendCount b e kind
     counted-by h = after-view ∙ h ∙ by-rule
@@ -106,7 +99,7 @@ module _ (b : Bench) (a : Alive b) where
   committed kind e c q = let p : (1 ≤ subject e) × (subject e ≤ n) = place n f (view b) e c q in commit-counted n f (view b) (subject e) (ruleAnswer n f (view b) e) kind (p .0) (p .1) (rule-new n f (view b) (a .inv) e q)
 
   step-counted : (kind : Kind) (e : Event) → accepts n f (view b) e ≡ true → messageCount (step b e) kind ≡ countAccepted kind b e (messageCount b kind)
-  step-counted kind (Lock x y) q = absurd (no-both _ (reply-sim b (a .sound) (Lock x y) ∙ q) (lock-refused b x y (a .sound .locked)))
+  step-counted kind (Lock x y) q = absurd (no-both _ (reply-sim b (a) (Lock x y) ∙ q) (lock-refused b x y (a .locked)))
   step-counted kind (Order o) q = after-view kind (Order o) q ∙ sum-zero n (λ k. countTo n (has ((ofKind kind ((performV n f (view b) (Order o)) .state .sent k)) .to)))
       (λ k. unsent-size n kind ((performV n f (view b) (Order o)) .state .sent k) (unfold performV openedV renewed in refl))
   step-counted kind (Cast i w t) q = counted-by kind (Cast i w t) q (unfold performV ruleAnswer in committed kind (Cast i w t) refl q)
@@ -127,7 +120,7 @@ module _ (b : Bench) (a : Alive b) where
   performed-kept : (e : Event) → accepts n f (view b) e ≡ true → opensOrder b e ≡ false → (kind : Kind) (j i : ℕ) → has ((ofKind kind (sentBy b i)) .to) j ≡ true
       → Stays j (ofKind kind (sentBy b i)) (ofKind kind ((performV n f (view b) e) .state .sent i))
   performed-kept (Lock x y) q o kind j i h = unfold performV view in record { sent = h; votes = refl }
-  performed-kept (Order m) q o kind j i h = absurd (no-both _ (reply-sim b (a .sound) (Order m) ∙ q) o)
+  performed-kept (Order m) q o kind j i h = absurd (no-both _ (reply-sim b (a) (Order m) ∙ q) o)
   performed-kept (Cast k w t) q o kind j i h = unfold performV ruleAnswer view in commit-kept n f (view b) k _ (rule-new n f (view b) (a .inv) (Cast k w t) q) kind j i h
   performed-kept (Deliver k m x) q o kind j i h = unfold performV ruleAnswer view in commit-kept n f (view b) m _ (rule-new n f (view b) (a .inv) (Deliver k m x) q) kind j i h
   performed-kept (Timeout k) q o kind j i h = unfold performV ruleAnswer view in commit-kept n f (view b) k _ (rule-new n f (view b) (a .inv) (Timeout k) q) kind j i h
@@ -138,7 +131,7 @@ module _ (b : Bench) (a : Alive b) where
 
   accepted-kept : (e : Event) → accepts n f (view b) e ≡ true → opensOrder b e ≡ false → (kind : Kind) (j i : ℕ) → has ((ofKind kind (sentBy b i)) .to) j ≡ true
       → Stays j (ofKind kind (sentBy b i)) (ofKind kind (sentBy (step b e) i))
-  accepted-kept e q o kind j i h = unfold view in subst (λ (v : View). Stays j (ofKind kind (sentBy b i)) (ofKind kind (v .state .sent i))) (sym (step-sim b (a .sound) e ∙ stepped)) (performed-kept e q o kind j i h)
+  accepted-kept e q o kind j i h = unfold view in subst (λ (v : View). Stays j (ofKind kind (sentBy b i)) (ofKind kind (v .state .sent i))) (sym (step-sim b (a) e ∙ stepped)) (performed-kept e q o kind j i h)
     where
       stepped : stepV n f (view b) e ≡ performV n f (view b) e
       stepped = unfold stepV in rw q
@@ -160,7 +153,7 @@ new-counted kind (Restore i) q = absurd (no-both _ q (unlocked (Restore i) tt))
 
 accepted-counted : (kind : Kind) (b : Bench) (e : Event) → Reached b → isAccepted (reply b e) ≡ true → messageCount (step b e) kind ≡ countAccepted kind b e (messageCount b kind)
 accepted-counted kind b e (inl z) q = subst (λ (x : Bench). messageCount (step x e) kind ≡ countAccepted kind x e (messageCount x kind)) (sym z) (new-counted kind e (ap (λ (x : Bench). isAccepted (reply x e)) (sym z) ∙ q))
-accepted-counted kind b e (inr a) q = step-counted b a kind e (sym (reply-sim b (a .sound) e) ∙ q)
+accepted-counted kind b e (inr a) q = step-counted b a kind e (sym (reply-sim b (a) e) ∙ q)
 
 refused-step : (b : Bench) (e : Event) → isAccepted (reply b e) ≡ false → step b e ≡ b
 refused-step b e q = unfold step in rw q
@@ -179,7 +172,7 @@ run-counted kind (e ∷ es) b r = run-counted kind es (step b e) (step-reached b
 once-at : (b : Bench) (e : Event) (kind : Kind) (j : ℕ) → Reached b → reply b e ≡ accepted → has (receiversAt b e kind) j ≡ true → has ((ofKind kind (sentBy b (subject e))) .to) j ≡ false
 once-at b e kind j (inl z) p h = subst (λ (x : Bench). has ((ofKind kind (sentBy x (subject e))) .to) j ≡ false) (sym z)
     (ap (λ (l : Sent). has ((ofKind kind l) .to) j) (freshes false 0 0 (subject e) .sent) ∙ ap (λ (m : ℕ). has m j) (unsent-kind kind) ∙ has-none j)
-once-at b e kind j (inr a) p h = adds b a e (sym (reply-sim b (a .sound) e) ∙ accepted-is _ p) .fresh kind j h
+once-at b e kind j (inr a) p h = adds b a e (sym (reply-sim b (a) e) ∙ accepted-is _ p) .fresh kind j h
 
 -- over every list
 step-kept : (b : Bench) (e : Event) → Reached b → opensOrder b e ≡ false → (kind : Kind) (j i : ℕ) → has ((ofKind kind (sentBy b i)) .to) j ≡ true
@@ -187,7 +180,7 @@ step-kept : (b : Bench) (e : Event) → Reached b → opensOrder b e ≡ false �
 step-kept b e (inl z) o kind j i h =
     absurd (no-both (has 0 j) (sym (ap (λ (x : Bench). has ((ofKind kind (sentBy x i)) .to) j) z ∙ ap (λ (l : Sent). has ((ofKind kind l) .to) j) (freshes false 0 0 i .sent) ∙ ap (λ (m : ℕ). has m j) (unsent-kind kind)) ∙ h) (has-none j))
 step-kept b e (inr a) o kind j i h = elim (split (isAccepted (reply b e))) [
-  | inl q ↦ accepted-kept b a e (sym (reply-sim b (a .sound) e) ∙ q) o kind j i h
+  | inl q ↦ accepted-kept b a e (sym (reply-sim b (a) e) ∙ q) o kind j i h
   | inr q ↦ subst (λ (x : Bench). Stays j (ofKind kind (sentBy b i)) (ofKind kind (sentBy x i))) (sym (refused-step b e q)) (record { sent = h; votes = refl })
 ]
 

@@ -12,7 +12,7 @@ use Rattle.model.specs.declared.Event.the-variants.{Lock, Order, Cast, Deliver,
 use Rattle.protocol.specs.declared.Bench.{Bench}
 use Rattle.protocol.specs.Benches.{newBench, benchOf}
 use Rattle.protocol.specs.Questions.{Reply, accepted, refused, isAccepted, unless, firstNo, reply}
-use Rattle.protocol.specs.Steps.{orderOpened, proposedTo, decidedAs, answering, effect, perform, step, run}
+use Rattle.protocol.specs.Steps.{orderOpened, proposedTo, decidedAs, answering, effectOf, perform, step, run}
 use Rattle.protocol.specs.Claim.{after, opensOrder, opensAny, InOrder}
 use Rattle.protocol.proofs.view.View.{ask-l}
 use Rattle.protocol.proofs.clean.Log.{In, entered}
@@ -239,7 +239,7 @@ has-lock b (Save i) u q = ask-l 5 (b .shared .locked) _ (accepted-is _ q)
 has-lock b (Restore i) u q = ask-l 5 (b .shared .locked) _ (accepted-is _ q)
 
 perform-locked : (b : Bench) (e : Event) → b .shared .locked ≡ true → (perform b e) .shared .locked ≡ true
-unfolding perform benchOf orderOpened effect answering proposedTo decidedAs
+unfolding perform benchOf orderOpened effectOf answering proposedTo decidedAs
 perform-locked b (Lock a c) h = refl
 perform-locked b (Order o) h = h
 perform-locked b (Cast i w t) h = h

@@ -32,9 +32,9 @@ use Rattle.protocol.specs.Questions.{mayOpen}
 use Rattle.protocol.specs.Steps.{renewed, orderOpened, run}
 use Rattle.protocol.specs.Claim.{after}
 use Rattle.protocol.specs.OpenCount.{isOpen, fullCount, hasEnded, OpenCount}
-use Rattle.protocol.proofs.view.View.{View, openedV, accepts}
+use Rattle.protocol.proofs.view.View.{View, openedV, accepts, part}
 use Rattle.protocol.proofs.view.Performed.{upd-id, commitV, chosen, savedV, performV, place, stepV, runV}
-use Rattle.protocol.proofs.view.Simulation.{view, part, ranges, Runs, run-sim}
+use Rattle.protocol.proofs.view.Simulation.{view, ranges, Runs, run-sim}
 use Rattle.protocol.proofs.claim.Start.{start, all-of-copies, lock-sound}
 
 -- counts ---------------------------------------------------------------------------

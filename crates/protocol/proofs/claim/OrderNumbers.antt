@@ -11,7 +11,7 @@ use Rattle.model.specs.declared.Event.{Event}
 use Rattle.model.specs.declared.Event.the-variants.{Lock, Order, Cast, Deliver, Timeout, Decide, Stop, Save, Restore}
 use Rattle.protocol.specs.declared.Bench.{Bench}
 use Rattle.protocol.specs.Questions.{isAccepted, firstNo, reply}
-use Rattle.protocol.specs.Steps.{orderOpened, proposedTo, decidedAs, answering, effect, perform, step, run}
+use Rattle.protocol.specs.Steps.{orderOpened, proposedTo, decidedAs, answering, effectOf, perform, step, run}
 use Rattle.protocol.specs.Claim.{opensOrder, opensAny}
 use Rattle.protocol.proofs.view.View.{ask-l, ask-r}
 use Rattle.protocol.proofs.claim.Moments.{or-false-l, or-false-r, step-locked, lock-refused}
@@ -26,7 +26,7 @@ unfolding reply firstNo
 order-later b o q = leb-true _ _ (search (ask-l, ask-r) depth 14)
 
 perform-goes : (b : Bench) (e : Event) → b .shared .locked ≡ true → isAccepted (reply b e) ≡ true → Goes b e (perform b e)
-unfolding perform orderOpened effect answering proposedTo decidedAs
+unfolding perform orderOpened effectOf answering proposedTo decidedAs
 perform-goes b (Lock a c) h q = absurd (no-both _ q (lock-refused b a c h))
 perform-goes b (Order o) h q = record { same = λ e. absurd (no-both _ q e); later = λ e. order-later b o q }
 perform-goes b (Cast i w t) h q = record { same = λ e. refl; later = λ e. absurd (false≢true e) }

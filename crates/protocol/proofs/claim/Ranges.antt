@@ -15,7 +15,7 @@ use Rattle.ground.specs.Collect.{has-collect}
 use Rattle.ground.specs.Update.{upd-all}
 use Rattle.votes.specs.VoteSets.{empty, knows, wills}
 use Rattle.votes.specs.declared.VoteSet.{VoteSet}
-use Rattle.model.specs.Ranges.{isController, positionInRange, isBackup}
+use Rattle.model.specs.Ranges.{isController, isBackup}
 use Rattle.model.specs.Routes.{route, helpRoute, recipients}
 use Rattle.model.specs.Numbers.{wordOf, isNone, isMove}
 use Rattle.model.specs.declared.Kind.{Kind}
@@ -37,13 +37,14 @@ use Rattle.protocol.specs.Benches.{ofKind, unsentAll, sentAfter}
 use Rattle.protocol.specs.Questions.{firstNo}
 use Rattle.protocol.specs.Steps.{renewed, orderOpened}
 use Rattle.protocol.specs.SentOnce.{receiversOf, sendOf}
+use Rattle.protocol.specs.NoContradiction.{acksUnion}
 use Rattle.protocol.proofs.view.View.{View, openedV, accepts, ask-l, ask-r}
 use Rattle.protocol.proofs.view.Performed.{commitV, chosen, savedV, checkpointAt, ruleAnswer, performV, stepV}
 use Rattle.protocol.proofs.view.RuleCases.{vote-cases, ack-cases, helped-cases, help-cases, restore-cases, sufficient-cases, second-cases, timeout-cases}
-use Rattle.protocol.proofs.invariant.Invariant.{votedBy, Inv}
+use Rattle.protocol.proofs.invariant.Invariant.{votedBy, Truthful, Inv}
 use Rattle.protocol.proofs.invariant.Words.{noting-phase}
-use Rattle.protocol.proofs.invariant.TrueVotes.{join-ok}
-use Rattle.protocol.proofs.invariant.Waiting.{acks-true}
+use Rattle.protocol.proofs.invariant.TrueVotes.{union-ok}
+use Rattle.protocol.proofs.invariant.Waiting.{acks-true, help-is}
 use Rattle.protocol.proofs.claim.Sends.{sent-more}
 
 -- willing lies within known
@@ -365,8 +366,8 @@ module _ (G H : ℕ → Type 0) (g0 : G 0) where
     decide-in v i w open′ hi h = commit-in _ i _ open′ hi (record { order = h .order; ctls = h .ctls; lines = h .lines; saved = h .saved }) (becomes-keeps _ (conclude-in (v .ctl i) (wordOf w) (h .ctls i))) (becomes-ok i _)
 
     help-within : (v : View) → Inv n f v → (i : ℕ) → WithinSet (helpVotes n (v .ctl i))
-    unfolding helpVotes
-    help-within v inv i = (join-ok (v .state .sent) ((v .ctl i) .votes) (ackJoin n (v .ctl i)) (inv .ctls i .votes-ok) (acks-true n f (v .state .sent) (inv .lines) i (v .ctl i) (inv .ctls i .acks-ok))) .within
+    help-within v inv i = (subst (Truthful (v .state .sent)) (sym (help-is n f (v .state .sent) (inv .lines) i (v .ctl i) (inv .ctls i .votes-ok) (inv .ctls i .acks-ok)))
+        (union-ok (v .state .sent) (acksUnion n (v .ctl i)) ((v .ctl i) .votes) (acks-true n f (v .state .sent) (inv .lines) i (v .ctl i) (inv .ctls i .acks-ok)) (inv .ctls i .votes-ok))) .within
 
     -- a call taken was sent, so its caller is a controller of the lock
     callers-in : (v : View) → Inv n f v → (i : ℕ) → AllIn v → CallersIn i (v .ctl i)

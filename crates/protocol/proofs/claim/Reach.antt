@@ -13,29 +13,11 @@ use Rattle.protocol.specs.Benches.{newBench, benchOf}
 use Rattle.protocol.specs.Questions.{firstNo, unless, reply}
 use Rattle.protocol.specs.Steps.{perform, step, run}
 use Rattle.protocol.specs.Claim.{after}
-use Rattle.protocol.proofs.view.Performed.{stepV}
-use Rattle.protocol.proofs.view.Simulation.{view, Sound, Ranges, ranges, Steps, step-steps, step-sim}
-use Rattle.protocol.proofs.invariant.Invariant.{Inv}
-use Rattle.protocol.proofs.invariant.Orders.{step-next, next-inv}
-use Rattle.protocol.proofs.claim.Start.{lock-sound, lock-inv, idle}
-
-pub record Alive (b : Bench) : Type 0 where
-  pub sound : Sound b
-  pub inv : Inv (b .shared .n) (b .shared .f) (view b)
+use Rattle.protocol.proofs.view.Simulation.{Sound, step-steps}
+use Rattle.protocol.proofs.claim.Start.{lock-sound, idle}
 
 abbrev pub Reached : Bench → Type 0
-Reached b = (b ≡ newBench) ⊎ Alive b
-
-pub alive-step : (b : Bench) (e : Event) → Alive b → Alive (step b e)
-alive-step b e a =
-    let s : Steps b (a .sound) (step b e) = step-steps b (a .sound) e in
-    let r : Ranges (b .shared .n) (b .shared .f) = ranges (b .shared .n) (b .shared .f) (a .sound .sized) in
-    let i : Inv (b .shared .n) (b .shared .f) (stepV (b .shared .n) (b .shared .f) (view b) e) = next-inv (b .shared .n) (b .shared .f) (r .high) (r .low) (r .small) (view b) _ (step-next (b .shared .n) (b .shared .f) (r .high) (r .low) (r .small) (view b) e (a .inv)) in
-    record {
-      sound = s .sound;
-      inv = subst (λ (x : ℕ). Inv x ((step b e) .shared .f) (view (step b e))) (sym (s .same-n))
-          (subst (λ (x : ℕ). Inv (b .shared .n) x (view (step b e))) (sym (s .same-f)) (subst (Inv (b .shared .n) (b .shared .f)) (sym (step-sim b (a .sound) e)) i));
-    }
+Reached b = (b ≡ newBench) ⊎ Sound b
 
 -- the new bench accepts a lock alone
 pub record JustLocked (b : Bench) : Type 0 where
@@ -61,15 +43,15 @@ new-step (Stop i) = inl (idle (Stop i) tt)
 new-step (Save i) = inl (idle (Save i) tt)
 new-step (Restore i) = inl (idle (Restore i) tt)
 
-pub locked-alive : (b : Bench) → JustLocked b → Alive b
-locked-alive b l = subst Alive (sym (l .is)) (record { sound = lock-sound (l .n) (l .f) (l .sized); inv = unfold benchOf in lock-inv (l .n) (l .f) (l .sized) })
+pub locked-sound : (b : Bench) → JustLocked b → Sound b
+locked-sound b l = subst Sound (sym (l .is)) (lock-sound (l .n) (l .f) (l .sized))
 
 new-reached : (e : Event) → Reached (step newBench e)
-new-reached e = elim (new-step e) [ inl z ↦ inl z | inr l ↦ inr (locked-alive (step newBench e) l) ]
+new-reached e = elim (new-step e) [ inl z ↦ inl z | inr l ↦ inr (locked-sound (step newBench e) l) ]
 
 pub step-reached : (b : Bench) (e : Event) → Reached b → Reached (step b e)
 step-reached b e (inl z) = subst (λ (x : Bench). Reached (step x e)) (sym z) (new-reached e)
-step-reached b e (inr a) = inr (alive-step b e a)
+step-reached b e (inr ok) = inr (step-steps b ok e .sound)
 
 pub run-reached : (es : List Event) (b : Bench) → Reached b → Reached (run b es)
 unfolding run

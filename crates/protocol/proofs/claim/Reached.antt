@@ -1,20 +1,21 @@
 -- From what stays in range (Ranges) and the invariant to the statement: the questions of a record, one by one.
 use Prim.Native.Nat.{ℕ, zero, suc, _≤_, _<_, _^_}
 use mathlib.Core.Path.{_≡_, refl, sym, _∙_, ap, subst}
-use mathlib.Core.Bool.{Bool, true, false, not, _&&_, false≢true}
+use mathlib.Core.Bool.{true, false, not, _&&_, false≢true}
 use mathlib.Core.List.{List, [], _∷_}
 use native.Mathlib.Omega.{arith}
 use lib.Pow.{pow-pos}
-use lib.ListN.{length, replicate}
+use lib.ListN.{length}
 use lib.Dec.{eqb, leb}
 use mathlib.Core.Logic.{inl, inr}
 use borrow.Author.Tests.{le-leb, eq-eqb}
-use Rattle.ground.specs.Tests.{no-both, and-l, and-i, same-test}
-use Rattle.ground.specs.Mask.{has, insert, noneAbove, within}
-use Rattle.ground.specs.MaskLaws.{has-none, insert-own, insert-only}
-use Rattle.ground.specs.Inclusion.{le-none-above, has-within, same-set}
+use Rattle.ground.specs.Tests.{no-both, and-l, and-i}
+use Rattle.ground.specs.Mask.{has, within}
+use Rattle.ground.specs.MaskLaws.{has-none}
+use Rattle.ground.specs.Inclusion.{has-within}
 use Rattle.ground.specs.Limit.{limit}
-use Rattle.votes.specs.VoteSets.{empty, knows}
+use Rattle.votes.specs.VoteSets.{empty}
+use Rattle.votes.specs.Contradictions.{WellFormed}
 use Rattle.votes.specs.declared.VoteSet.{VoteSet}
 use Rattle.model.specs.QuestionLaws.{yes-all}
 use Rattle.model.specs.Ranges.{isController, positionInRange}
@@ -30,31 +31,24 @@ use Rattle.message_record.proofs.RoundTrips.{promises}
 use Rattle.checkpoint_record.specs.Checkpoints.{aboutCheckpoint, checkpoints}
 use Rattle.checkpoint_record.proofs.RoundTrips.{promises as checkpoint-promises}
 use Rattle.protocol.specs.declared.Sent.{Sent}
-use Rattle.protocol.specs.declared.Saved.{Saved}
-use Rattle.protocol.specs.declared.Saved.the-variants.{Nothing, Newest}
-use Rattle.protocol.specs.declared.Station.{Station}
 use Rattle.protocol.specs.declared.Bench.{Bench}
 use Rattle.protocol.specs.Controllers.{ackOf}
-use Rattle.protocol.specs.Benches.{fresh, freshStation, benchOf, newBench, station, controller, sentBy, ofKind}
+use Rattle.protocol.specs.Benches.{benchOf, newBench, station, controller, sentBy, ofKind}
 use Rattle.protocol.specs.Questions.{accepted, unless, firstNo}
 use Rattle.protocol.specs.Steps.{step, run}
 use Rattle.protocol.specs.Claim.{after}
 use Rattle.protocol.specs.Display.{WasSent}
-use Rattle.protocol.specs.Reach.{Within, HeldWithin, messageAt, IsSaved, AsRead, AllRead, Reach}
+use Rattle.protocol.specs.Reach.{HeldWithin, messageAt, IsSaved, AsRead, AllRead, Reach}
 use Rattle.protocol.proofs.view.View.{View, accepts, ask-l, ask-r}
 use Rattle.protocol.proofs.view.Performed.{stepV}
-use Rattle.protocol.proofs.view.Simulation.{view, ranges, Steps, step-steps, step-sim}
-use Rattle.protocol.proofs.invariant.Invariant.{votedBy, ackedBy, frozenBy, Truthful}
+use Rattle.protocol.proofs.view.Simulation.{view, Sound, ranges, Any, Steps, step-steps, step-sim}
 use Rattle.protocol.proofs.invariant.Invariant.{HeldAck}
 use Rattle.protocol.proofs.invariant.Decisions.{Blank}
-use Rattle.protocol.proofs.claim.Start.{freshes, all-of-copies}
-use Rattle.protocol.proofs.invariant.TrueVotes.{empty-ok, vote-ok}
+use Rattle.protocol.proofs.claim.Start.{never-saved, fresh-in, freshes}
 use Rattle.protocol.proofs.claim.Counted.{unsent-kind}
-use Rattle.protocol.proofs.claim.Reach.{Alive, Reached, JustLocked, new-step, step-reached, reached}
-use Rattle.protocol.proofs.claim.Ranges.{Given, InRange, SentIn, SavedIn, AllIn, WithinSet, unsent-in, step-in}
-
-never-saved : {X : Type 0} (s : Saved) (p : Checkpoint) → s ≡ Nothing → s ≡ Newest p → X
-never-saved s p e q = let z : _≡_ {A = ℕ} 0 1 = cc in absurd (omega arith)
+use Rattle.protocol.proofs.claim.Reach.{Reached, JustLocked, new-step, step-reached, reached}
+use Rattle.protocol.proofs.claim.Clear.{within-of, suits-sent}
+use Rattle.protocol.proofs.claim.Ranges.{Given, SentIn, SavedIn, AllIn, step-in}
 
 -- in range, of every bench that a list leads to, where each accepted event of the list brings what is in range
 module _ (G H : ℕ → Type 0) (g0 : G 0) (h0 : H 0) where
@@ -65,37 +59,21 @@ module _ (G H : ℕ → Type 0) (g0 : G 0) (h0 : H 0) where
   AllGiven [] = Unit {0}
   AllGiven (e ∷ es) = ((n f : ℕ) (v : View) → accepts n f v e ≡ true → Given G H g0 e) × AllGiven es
 
-  fresh-controller : (l : List VoteSet) → InRange G H g0 ((freshStation l) .controller)
-  unfolding freshStation fresh
-  fresh-controller l = record { low = omega arith; gate = record { target = g0; position = g0 }; help = λ k e. absurd (no-both (has 0 k) e (has-none k)) }
-
-  fresh-in : (locked : Bool) (n f : ℕ) → AllIn G H g0 n f (view (benchOf locked n f))
-  unfolding view
-  fresh-in locked n f = record {
-    order = unfold benchOf in h0;
-    ctls = controllers;
-    lines = λ k. subst (SentIn G H g0 n f _ k) (sym (freshes locked n f k .sent)) (unsent-in G H g0 n f _ k);
-    saved = λ k p e. never-saved _ p (freshes locked n f k .saved) e;
-  }
-    where
-      controllers : (k : ℕ) → InRange G H g0 (controller (benchOf locked n f) k)
-      controllers k = unfold station benchOf in all-of-copies (λ (s : Station). InRange G H g0 (s .controller)) (freshStation []) (freshStation (replicate limit empty)) (fresh-controller []) (fresh-controller (replicate limit empty)) limit k
-
-  alive-in : (b : Bench) (e : Event) → ((n f : ℕ) (v : View) → accepts n f v e ≡ true → Given G H g0 e) → Alive b → In b → In (step b e)
-  alive-in b e g a h =
-      let s : Steps b (a .sound) (step b e) = step-steps b (a .sound) e in
-      let i : AllIn G H g0 (b .shared .n) (b .shared .f) (stepV (b .shared .n) (b .shared .f) (view b) e) = step-in G H g0 (b .shared .n) (b .shared .f) (ranges (b .shared .n) (b .shared .f) (a .sound .sized) .small) (view b) e (a .inv) (g (b .shared .n) (b .shared .f) (view b)) h in
+  sound-in : (b : Bench) (e : Event) → ((n f : ℕ) (v : View) → accepts n f v e ≡ true → Given G H g0 e) → Sound b → In b → In (step b e)
+  sound-in b e g a h =
+      let s : Steps b (a) (step b e) = step-steps b (a) e in
+      let i : AllIn G H g0 (b .shared .n) (b .shared .f) (stepV (b .shared .n) (b .shared .f) (view b) e) = step-in G H g0 (b .shared .n) (b .shared .f) (ranges (b .shared .n) (b .shared .f) (a .sized) .small) (view b) e (a .inv) (g (b .shared .n) (b .shared .f) (view b)) h in
       subst (λ (x : ℕ). AllIn G H g0 x ((step b e) .shared .f) (view (step b e))) (sym (s .same-n))
-      (subst (λ (x : ℕ). AllIn G H g0 (b .shared .n) x (view (step b e))) (sym (s .same-f)) (subst (AllIn G H g0 (b .shared .n) (b .shared .f)) (sym (step-sim b (a .sound) e)) i))
+      (subst (λ (x : ℕ). AllIn G H g0 (b .shared .n) x (view (step b e))) (sym (s .same-f)) (subst (AllIn G H g0 (b .shared .n) (b .shared .f)) (sym (step-sim b (a) e)) i))
 
   locked-in : (b : Bench) → JustLocked b → In b
-  locked-in b l = subst In (sym (l .is)) (unfold benchOf in fresh-in true (l .n) (l .f))
+  locked-in b l = subst In (sym (l .is)) (unfold benchOf in fresh-in G H g0 h0 true (l .n) (l .f))
 
   new-in : In newBench
-  new-in = unfold benchOf in fresh-in false 0 0
+  new-in = unfold benchOf in fresh-in G H g0 h0 false 0 0
 
   step-all-in : (b : Bench) (e : Event) → ((n f : ℕ) (v : View) → accepts n f v e ≡ true → Given G H g0 e) → Reached b → In b → In (step b e)
-  step-all-in b e g (inr a) h = alive-in b e g a h
+  step-all-in b e g (inr a) h = sound-in b e g a h
   step-all-in b e g (inl z) h = subst (λ (x : Bench). In (step x e)) (sym z) (elim (new-step e) [ inl y ↦ subst In (sym y) new-in | inr l ↦ locked-in (step newBench e) l ])
 
   run-in : (es : List Event) (b : Bench) → AllGiven es → Reached b → In b → In (run b es)
@@ -109,9 +87,6 @@ module _ (G H : ℕ → Type 0) (g0 : G 0) (h0 : H 0) where
 -- positions, of every list: question 11
 abbrev Positioned : ℕ → Type 0
 Positioned p = positionInRange p ≡ true
-
-abbrev Any : ℕ → Type 0
-Any o = Unit {0}
 
 positioned-0 : Positioned 0
 unfolding positionInRange
@@ -165,17 +140,14 @@ all-short : (es : List Event) → AllRead es → In Short Short short-0 short-0 
 all-short es r = given-in Short Short short-0 short-0 es (all-read es r)
 
 -- vote sets
-within-of : (s : VoteSet) → WithinSet s → Within s
-within-of s h = has-within (s .willing) (s .known) h
-
-empty-is : (s : VoteSet) → s ≡ empty → Within s
-empty-is s e = subst Within (sym e) (has-within 0 0 (λ k x. x))
+empty-is : (s : VoteSet) → s ≡ empty → WellFormed s
+empty-is s e = subst WellFormed (sym e) (has-within 0 0 (λ k x. x))
 
 held-within : (b : Bench) (i : ℕ) → Reached b → Ranged b → HeldWithin (controller b i)
 held-within b i (inr a) h = record {
   own = within-of _ (unfold view in a .inv .ctls i .votes-ok .within);
   acks = λ j e. unfold view in (let t : HeldAck (b .shared .n) (b .shared .f) ((view b) .state .sent) i (ackOf (controller b i) j) j = (unfold view in a .inv .ctls i .acks-ok j e) in
-      subst Within (sym (t .copy)) (within-of _ (a .inv .lines j .ack-ok (t .acked) .within)));
+      subst WellFormed (sym (t .copy)) (within-of _ (a .inv .lines j .ack-ok (t .acked) .within)));
   answers = within-of _ (unfold view in a .inv .ctls i .helped-ok .within);
   help = within-of _ (unfold view in h .ctls i .help);
 }
@@ -199,7 +171,7 @@ unfolding isController
 members n k lo hi = and-i (leb 1 k) (leb k n) (le-leb 1 k lo) (le-leb k n hi)
 
 -- what the questions about a message need, of the sender i with what it has sent
-module _ (b : Bench) (a : Alive b) (h : Ranged b) (i : ℕ) where
+module _ (b : Bench) (a : Sound b) (h : Ranged b) (i : ℕ) where
   abbrev n : ℕ
   n = b .shared .n
 
@@ -216,31 +188,7 @@ module _ (b : Bench) (a : Alive b) (h : Ranged b) (i : ℕ) where
   line = unfold view in h .lines i
 
   few : n ≤ limit
-  few = ranges n f (a .sound .sized) .small
-
-  -- a vote set that tells the votes as they were cast has no bit above n
-  abbrev clean : VoteSet → Bool
-  clean s = noneAbove n (s .known) && noneAbove n (s .willing) && within (s .willing) (s .known)
-
-  told : (s : VoteSet) → Truthful L s → clean s ≡ true
-  told s t = and-i (noneAbove n (s .known) && noneAbove n (s .willing)) (within (s .willing) (s .known))
-      (and-i (noneAbove n (s .known)) (noneAbove n (s .willing)) (le-none-above n (s .known) low) (le-none-above n (s .willing) (λ k e. low k (t .within k e))))
-      (within-of s (t .within))
-    where
-      low : (k : ℕ) → knows s k ≡ true → k ≤ n
-      low k e = unfold view in h .lines k .caster (t .cast k e)
-
-  -- 9: "a vote knows just its sender"
-  just : 1 ≤ i → i ≤ n → votedBy i l ≡ true → eqb (l .vote .votes .known) (insert 0 i) ≡ true
-  just lo hi v = eq-eqb _ _ (same-set (l .vote .votes .known) (insert 0 i) (λ k. same-test _ _
-      (λ e. rw (only k e) (insert-own 0 i lo (let s : n ≤ limit = few in omega arith)))
-      (λ e. elim (insert-only 0 i k e) [ inl z ↦ rw z v | inr z ↦ absurd (no-both (has 0 k) z (has-none k)) ])))
-    where
-      only : (k : ℕ) → knows (l .vote .votes) k ≡ true → k ≡ i
-      only k e = unfold view in a .inv .lines i .vote-only k e
-
-  vote-told : votedBy i l ≡ true → Truthful L (l .vote .votes)
-  vote-told v = unfold view in vote-ok ((view b) .state .sent) f i (a .inv .lines i)
+  few = ranges n f (a .sized) .small
 
   voted : (kind : Kind) (j : ℕ) → has ((ofKind kind l) .to) j ≡ true → 1 ≤ i
   unfolding view
@@ -257,14 +205,8 @@ module _ (b : Bench) (a : Alive b) (h : Ranged b) (i : ℕ) where
   differs Helped j r = and-l (not (eqb i j)) _ r
 
   fits : (kind : Kind) (j : ℕ) → 1 ≤ i → i ≤ n → has ((ofKind kind l) .to) j ≡ true → suits (messageAt b kind i j) ≡ true
-  unfolding suits bitsInRange knowsForKind view
-  fits Vote j lo hi e = let v : votedBy i l ≡ true = a .inv .lines i .vote-to j e .0 in and-i (clean (l .vote .votes)) _ (told (l .vote .votes) (vote-told v)) (just lo hi v)
-  fits Ack j lo hi e = let v : ackedBy i l ≡ true = a .inv .lines i .ack-to j e .0 in and-i (clean (l .ack .votes)) _ (told (l .ack .votes) (a .inv .lines i .ack-ok v)) v
-  fits Help j lo hi e = subst (λ (s : VoteSet). (noneAbove n (s .known) && noneAbove n (s .willing) && within (s .willing) (s .known) && eqb (s .known) 0) ≡ true) (sym (line .call)) blank
-    where
-      blank : (noneAbove n 0 && noneAbove n 0 && within 0 0 && eqb 0 0) ≡ true
-      blank = and-i (noneAbove n 0 && noneAbove n 0 && within 0 0) true (told empty (empty-ok L)) refl
-  fits Helped j lo hi e = let v : frozenBy i l ≡ true = a .inv .lines i .helped-to j e in and-i (clean (l .helped .votes)) _ (told (l .helped .votes) (a .inv .lines i .help-ok v)) v
+  unfolding view suits bitsInRange knowsForKind
+  fits kind j lo hi e = suits-sent Positioned Any positioned-0 n f few (view b) (a .inv) h kind i j lo hi e
 
   passes : (kind : Kind) (j : ℕ) → has ((ofKind kind l) .to) j ≡ true → firstNo (aboutMessage (messageAt b kind i j)) ≡ accepted
   unfolding aboutMessage
@@ -272,7 +214,7 @@ module _ (b : Bench) (a : Alive b) (h : Ranged b) (i : ℕ) where
       let t : (1 ≤ b .shared .order) × (i ≤ n) × (j ≤ n) × (route f kind i j ≡ true) = line .to kind j e in
       let lo : 1 ≤ i = voted kind j e in
       yes-all (aboutMessage (messageAt b kind i j)) (
-        a .sound .sized,
+        a .sized,
         (
           and-i (isController n i && isController n j) (not (eqb i j)) (and-i (isController n i) (isController n j) (members n i lo (t .1)) (members n j (some-number _ j e) (t .2))) (differs kind j (t .3)),
           (le-leb 1 _ (t .0), (fits kind j lo (t .1) e, (t .3, tt))),
@@ -291,7 +233,7 @@ checkpoint-passes b i p (inl z) h e = never-saved ((station newBench i) .saved) 
 checkpoint-passes b i p (inr a) h e =
     let s : SavedIn Positioned Any positioned-0 (b .shared .n) (b .shared .f) i p = (unfold view in h .saved i p e) in
     unfold aboutCheckpoint in yes-all (aboutCheckpoint p) (
-      rw (s .n-is, s .f-is) (a .sound .sized),
+      rw (s .n-is, s .f-is) (a .sized),
       (rw (s .n-is, s .id) (s .one-of), (le-leb 1 _ (s .order), (s .position, tt))),
     )
 

@@ -35,12 +35,11 @@ use Rattle.protocol.specs.Benches.{ofKind, afterSend, sentAfter}
 use Rattle.protocol.specs.Questions.{firstNo}
 use Rattle.protocol.specs.Display.{sumTo}
 use Rattle.protocol.specs.SentOnce.{receiversOf, sendOf}
-use Rattle.protocol.proofs.view.View.{View, accepts, ask-l, ask-r}
+use Rattle.protocol.proofs.view.View.{View, accepts, ask-l, ask-r, part}
 use Rattle.protocol.proofs.view.Performed.{commitV, ruleAnswer}
 use Rattle.protocol.proofs.view.RuleCases.{vote-cases, ack-cases, helped-cases, help-cases, restore-cases, sufficient-cases, second-cases, timeout-cases}
 use Rattle.protocol.proofs.invariant.Invariant.{votedBy, ackedBy, frozenBy, Inv}
 use Rattle.protocol.proofs.invariant.Orders.{second}
-use Rattle.protocol.proofs.view.Simulation.{part}
 
 -- what an answer sends goes to nobody that was sent the kind before, and leaves the set of a kind as it is, where somebody was sent it
 pub record New (l : Sent) (a : Answer) : Type 0 where

@@ -1,12 +1,13 @@
 -- From the new bench on: either nothing was accepted yet, or one lock was, and the views start from a fresh bench of that n and f.
 use Prim.Native.Nat.{ℕ, zero, suc, _+_, _≤_, _<_}
-use mathlib.Core.Path.{_≡_, refl, sym, _∙_, ap}
+use mathlib.Core.Path.{_≡_, refl, sym, _∙_, ap, subst}
 use mathlib.Core.Bool.{Bool, true, false}
 use mathlib.Core.List.{List, [], _∷_, _++_}
 use native.Mathlib.Omega.{arith}
 use lib.ListN.{length, replicate}
 use mathlib.Core.Logic.{_⊎_, inl, inr}
-use Rattle.ground.specs.Tests.{split, by-cond}
+use Rattle.ground.specs.Tests.{split, by-cond, no-both}
+use Rattle.ground.specs.Mask.{has}
 use Rattle.ground.specs.MaskLaws.{has-none}
 use Rattle.ground.specs.Lists.{nth}
 use Rattle.votes.specs.VoteSets.{empty}
@@ -17,10 +18,12 @@ use Rattle.model.specs.declared.Outcome.the-variants.{None}
 use Rattle.model.specs.declared.Event.{Event}
 use Rattle.model.specs.declared.Event.the-variants.{Lock, Order, Cast, Deliver, Timeout, Decide, Stop, Save, Restore}
 use Rattle.protocol.specs.declared.Station.{Station}
-use Rattle.protocol.specs.declared.Saved.the-variants.{Nothing}
+use Rattle.protocol.specs.declared.Saved.{Saved}
+use Rattle.protocol.specs.declared.Saved.the-variants.{Nothing, Newest}
+use Rattle.model.specs.declared.Checkpoint.{Checkpoint}
 use Rattle.protocol.specs.declared.Bench.{Bench}
 use Rattle.protocol.specs.Controllers.{outcome}
-use Rattle.protocol.specs.Benches.{unsentAll, fresh, freshStation, benchOf, newBench, station}
+use Rattle.protocol.specs.Benches.{unsentAll, fresh, freshStation, benchOf, newBench, station, controller}
 use Rattle.protocol.specs.Questions.{isAccepted, unless, firstNo, reply}
 use Rattle.protocol.specs.Steps.{perform, step, run}
 use Rattle.protocol.specs.Display.{shownOutcome, shownPosition}
@@ -28,7 +31,8 @@ use Rattle.protocol.proofs.invariant.Invariant.{votedBy, ackedBy, Inv}
 use Rattle.protocol.proofs.invariant.Decisions.{Blank, blank-inv}
 use Rattle.protocol.proofs.clean.Log.{entered}
 use Rattle.protocol.proofs.clean.Parts.{Good, blank-good}
-use Rattle.protocol.proofs.view.Simulation.{view, Sound, ranges}
+use Rattle.protocol.proofs.view.Simulation.{view, ranges, Any, Sound}
+use Rattle.protocol.proofs.claim.Ranges.{InRange, SentIn, AllIn, unsent-in}
 use Rattle.protocol.proofs.claim.Moments.{push, logOf}
 
 -- one lock was accepted
@@ -157,6 +161,27 @@ pub freshes : (locked : Bool) (n f k : ℕ) → Fresh (station (benchOf locked n
 unfolding station benchOf
 freshes locked n f = all-of-copies Fresh (freshStation []) (freshStation (replicate limit empty)) (fresh-is []) (fresh-is (replicate limit empty)) limit
 
+pub never-saved : {X : Type 0} (s : Saved) (p : Checkpoint) → s ≡ Nothing → s ≡ Newest p → X
+never-saved s p e q = let z : _≡_ {A = ℕ} 0 1 = cc in absurd (omega arith)
+
+-- all is in range on it
+module _ (G H : ℕ → Type 0) (g0 : G 0) (h0 : H 0) where
+  fresh-controller : (l : List VoteSet) → InRange G H g0 ((freshStation l) .controller)
+  unfolding freshStation fresh
+  fresh-controller l = record { low = omega arith; gate = record { target = g0; position = g0 }; help = λ k e. absurd (no-both (has 0 k) e (has-none k)) }
+
+  pub fresh-in : (locked : Bool) (n f : ℕ) → AllIn G H g0 n f (view (benchOf locked n f))
+  unfolding view
+  fresh-in locked n f = record {
+    order = unfold benchOf in h0;
+    ctls = controllers;
+    lines = λ k. subst (SentIn G H g0 n f _ k) (sym (freshes locked n f k .sent)) (unsent-in G H g0 n f _ k);
+    saved = λ k p e. never-saved _ p (freshes locked n f k .saved) e;
+  }
+    where
+      controllers : (k : ℕ) → InRange G H g0 (controller (benchOf locked n f) k)
+      controllers k = unfold station benchOf in all-of-copies (λ (s : Station). InRange G H g0 (s .controller)) (freshStation []) (freshStation (replicate limit empty)) (fresh-controller []) (fresh-controller (replicate limit empty)) limit k
+
 module _ (n f : ℕ) (sized : sizesInRange n f ≡ true) where
   abbrev b₀ : Bench
   b₀ = benchOf true n f
@@ -171,10 +196,6 @@ module _ (n f : ℕ) (sized : sizesInRange n f ≡ true) where
       copies (suc m) (suc zero) a b = unfold nth freshStation fresh in refl
       copies (suc m) (suc (suc k)) a b = copies m (suc k) (omega arith) (omega arith)
 
-  pub lock-sound : Sound b₀
-  unfolding benchOf
-  lock-sound = record { locked = refl; size = refl; sized = sized }
-
   pub lock-inv : Inv n f (view b₀)
   unfolding view
   lock-inv = blank-inv n f _ _ _ _ _ (λ k. freshes true n f k .sent) (nothing .0) (nothing .1) (nothing .2) (λ k. freshes true n f k .ctl)
@@ -183,6 +204,10 @@ module _ (n f : ℕ) (sized : sizesInRange n f ≡ true) where
     where
       nothing : (b₀ .shared .consensus .«move_proposed» ≡ false) × (b₀ .shared .consensus .«stay_proposed» ≡ false) × (b₀ .shared .consensus .decision ≡ None)
       nothing = unfold benchOf in (refl, refl, refl)
+
+  pub lock-sound : Sound b₀
+  unfolding benchOf
+  lock-sound = record { locked = refl; size = refl; sized = sized; inv = lock-inv; ranged = fresh-in Any Any tt tt true n f }
 
   unsent-by : (k : ℕ) → (votedBy k unsentAll ≡ false) × (ackedBy k unsentAll ≡ false)
   unfolding unsentAll

@@ -1,6 +1,6 @@
 -- What an accepted event itself adds, as the clean order needs it.
 use Prim.Native.Nat.{ℕ, suc, _≤_}
-use mathlib.Core.Path.{_≡_, refl, sym, _∙_}
+use mathlib.Core.Path.{_≡_, refl, sym, _∙_, ap}
 use mathlib.Core.Bool.{Bool, true, false, not, _&&_, _||_, cond, false≢true}
 use native.Mathlib.Omega.{arith}
 use lib.Dec.{leb, eqb}
@@ -11,7 +11,7 @@ use Rattle.ground.specs.MaskLaws.{insert-own}
 use Rattle.ground.specs.Mask.{width, has}
 use Rattle.ground.specs.Update.{upd-same}
 use Rattle.votes.specs.VoteSets.{knows}
-use Rattle.votes.specs.VoteLaws.{single-knows, single-wills, join-knows}
+use Rattle.votes.specs.VoteLaws.{single-knows, single-wills, union-knows}
 use Rattle.votes.specs.declared.VoteSet.{VoteSet}
 use Rattle.ground.specs.Limit.{limit}
 use Rattle.model.specs.Ranges.{isController}
@@ -29,16 +29,17 @@ use Rattle.protocol.specs.Questions.{firstNo}
 use Rattle.protocol.proofs.view.RuleCases.{ack-cases, sufficient-cases, second-cases}
 use Rattle.protocol.proofs.view.View.{View, accepts, ask-l, ask-r}
 use Rattle.protocol.proofs.view.Performed.{commitV, timeoutRule, performV}
-use Rattle.protocol.proofs.invariant.Invariant.{votedBy, willBy, ackedBy, Inv}
+use Rattle.protocol.proofs.invariant.Invariant.{votedBy, willBy, ackedBy, Truthful, Inv}
+use Rattle.protocol.proofs.invariant.TrueVotes.{vote-ok, joined-is}
 
 module _ (n f : ℕ) where
   -- a vote that arrives before the first timeout is known
-  known-after : (b : View) (i j : ℕ) (s : VoteSet) → knows s i ≡ true → phase (b .ctl j) ≤ 1 → knows (((commitV b j (voteArrives s (b .ctl j))) .ctl j) .votes) i ≡ true
+  known-after : (b : View) (i j : ℕ) (s : VoteSet) → Truthful (b .state .sent) ((b .ctl j) .votes) → Truthful (b .state .sent) s → knows s i ≡ true → phase (b .ctl j) ≤ 1 → knows (((commitV b j (voteArrives s (b .ctl j))) .ctl j) .votes) i ≡ true
   unfolding commitV
-  known-after b i j s e h = rw (upd-same (b .ctl) j ((voteArrives s (b .ctl j)) .controller)) learned
+  known-after b i j s o p e h = rw (upd-same (b .ctl) j ((voteArrives s (b .ctl j)) .controller)) learned
     where
       learned : knows ((voteArrives s (b .ctl j)) .controller .votes) i ≡ true
-      learned = unfold voteArrives becomes learn in rw (le-leb (phase (b .ctl j)) 1 h) (join-knows ((b .ctl j) .votes) s i ∙ or-r (knows ((b .ctl j) .votes) i) (knows s i) e)
+      learned = unfold voteArrives becomes learn in rw (le-leb (phase (b .ctl j)) 1 h) (ap (λ (x : VoteSet). knows x i) (joined-is (b .state .sent) ((b .ctl j) .votes) ((b .ctl j) .votes) s o p) ∙ union-knows ((b .ctl j) .votes) s i ∙ or-r (knows ((b .ctl j) .votes) i) (knows s i) e)
 
   -- an acknowledgement that arrives before the second timeout is held
   record Holds (i : ℕ) (a : Answer) : Type 0 where
@@ -158,7 +159,7 @@ module _ (n f : ℕ) where
       record { cast = told-after b i w t lo (omega arith) .0; will = told-after b i w t lo (omega arith) .1; ran = (search (ask-l, ask-r, and-l, and-r) depth 14); begun = begun-after b i w t }
   perform-new s b (Deliver i j Vote) inv q =
       let sent : has ((b .state .sent i) .vote .to) j ≡ true = (search (ask-l, ask-r, and-l, and-r) depth 14) in
-      record { ran = (search (ask-l, ask-r, and-l, and-r) depth 14); route = inv .lines i .vote-to j sent .1; known = known-after b i j _ (inv .lines i .vote-to j sent .0) }
+      record { ran = (search (ask-l, ask-r, and-l, and-r) depth 14); route = inv .lines i .vote-to j sent .1; known = known-after b i j _ (inv .ctls j .votes-ok) (vote-ok (b .state .sent) f i (inv .lines i)) (inv .lines i .vote-to j sent .0) }
   perform-new s b (Deliver i j Ack) inv q =
       let sent : has ((b .state .sent i) .ack .to) j ≡ true = (search (ask-l, ask-r, and-l, and-r) depth 14) in
       let lo : 1 ≤ i = leb-true _ _ (search (ask-l, ask-r, and-l, and-r) depth 14) in let hi : i ≤ n = leb-true _ _ (search (ask-l, ask-r, and-l, and-r) depth 14) in

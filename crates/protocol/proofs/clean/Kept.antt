@@ -1,14 +1,14 @@
 -- What an accepted event other than order and stop does to a running controller: the frames that the clean order needs.
 use Prim.Native.Nat.{ℕ, suc, _≤_}
-use mathlib.Core.Path.{_≡_, refl, sym, _∙_}
+use mathlib.Core.Path.{_≡_, refl, sym}
 use mathlib.Core.Bool.{Bool, true, false, not, _&&_, cond, false≢true}
 use lib.Dec.{leb, eqb}
 use mathlib.Core.Logic.{_⊎_, inl, inr}
 use borrow.Author.Tests.{leb-true, eqb-true}
-use Rattle.ground.specs.Tests.{no-both, by-cond, and-l, and-r, or-l}
+use Rattle.ground.specs.Tests.{no-both, by-cond, and-l, and-r}
 use Rattle.ground.specs.MaskLaws.{insert-keeps}
 use Rattle.votes.specs.VoteSets.{knows, single}
-use Rattle.votes.specs.VoteLaws.{join-knows}
+use Rattle.votes.specs.JoinLaws.{keeps-known}
 use Rattle.votes.specs.declared.VoteSet.{VoteSet}
 use Rattle.ground.specs.Limit.{limit}
 use Rattle.model.specs.Ranges.{isController, isBackup}
@@ -29,7 +29,7 @@ use Rattle.protocol.specs.declared.Identity.{Identity}
 use Rattle.protocol.specs.declared.Saved.{Saved}
 use Rattle.protocol.specs.declared.Saved.the-variants.{Nothing, Newest}
 use Rattle.protocol.specs.Calls.{arrives, restore}
-use Rattle.protocol.specs.Steps.{restoreFrom}
+use Rattle.protocol.specs.Events.{restoreFrom}
 use Rattle.protocol.specs.Benches.{sentAfter}
 use Rattle.protocol.specs.Questions.{firstNo}
 use Rattle.protocol.proofs.view.RuleCases.{timeout-cases, vote-cases, ack-cases, help-cases, helped-cases, sufficient-cases, second-cases}
@@ -89,7 +89,7 @@ module _ (n f : ℕ) where
     arrives-live e Vote i j s c l a b = vote-cases (KeptBy e j c l) s c (λ q. becomes-kept e j c _ l learned) (passed-over-kept e j c l)
       where
         learned : Kept e j c (learn c s) l l
-        learned = unfold learn in record { running = refl; votes = λ r k h. join-knows (c .votes) s k ∙ or-l (knows (c .votes) k) (knows s k) h; acks = λ r k h. h; phase = λ r. stays refl; acked = λ h. inl (h, refl) }
+        learned = unfold learn in record { running = refl; votes = λ r k h. keeps-known (c .votes) s k h; acks = λ r k h. h; phase = λ r. stays refl; acked = λ h. inl (h, refl) }
     arrives-live e Ack i j s c l a b = ack-cases (KeptBy e j c l) n f i s c
         (λ q. settle-live e j c l _ (becomes-kept e j c _ l (keep-live e i j s c l a b))) (λ q. passed-over-kept e j c l)
     arrives-live e Help i j s c l a b = help-cases (KeptBy e j c l) i c (λ p. keeps) (λ p q. answers) (λ q. passed-over-kept e j c l)
@@ -117,7 +117,7 @@ module _ (n f : ℕ) where
 
     vote-live : (j : ℕ) (w : Bool) (t : ℕ) (c : Controller) (l : Sent) → runs c ≡ true → phase c ≡ 0 → KeptBy (Cast j w t) j c l (voteRule n f j w t c)
     unfolding voteRule sentAfter advance aim learn
-    vote-live j w t c l r₀ st = record { live = record { running = sym r₀; votes = λ r k h. join-knows (c .votes) (single j w) k ∙ or-l (knows (c .votes) k) (knows (single j w) k) h; acks = λ r k h. h; phase = λ r. voted w t refl st refl; acked = λ h. inl (h, refl) } }
+    vote-live j w t c l r₀ st = record { live = record { running = sym r₀; votes = λ r k h. keeps-known (c .votes) (single j w) k h; acks = λ r k h. h; phase = λ r. voted w t refl st refl; acked = λ h. inl (h, refl) } }
 
   decide-live : (e : Event) (j : ℕ) (o : Outcome) (c : Controller) (l : Sent) → KeptBy e j c l (becomes (conclude c o))
   unfolding becomes sentAfter conclude

@@ -20,12 +20,13 @@ use Rattle.model.specs.declared.Event.the-variants.{Lock, Order, Cast, Deliver,
 use Rattle.protocol.specs.declared.Controller.{Controller}
 use Rattle.protocol.specs.declared.Sent.{Sent}
 use Rattle.protocol.specs.Controllers.{runs, phase, outcome, hasAck, ackOf, advance, freeze, conclude}
-use Rattle.protocol.specs.Rules.{verdict, ackJoin, backupsComplete, secondKnows, decides, frozen, ready, secondTimeout}
+use Rattle.protocol.specs.Rules.{verdict, backupsComplete, secondKnows, decides, frozen, ready, secondTimeout}
+use Rattle.protocol.specs.NoContradiction.{acksUnion}
 use Rattle.protocol.proofs.view.View.{View, accepts}
 use Rattle.protocol.proofs.view.Performed.{stepV}
 use Rattle.protocol.proofs.invariant.Invariant.{willBy, ackOn, Truthful, AllWilling, HeldAck, Inv}
 use Rattle.protocol.proofs.invariant.TrueVotes.{move-all, all-move}
-use Rattle.protocol.proofs.invariant.Waiting.{acks-true}
+use Rattle.protocol.proofs.invariant.Waiting.{acks-true, acks-word}
 
 abbrev pub In : Event → List Event → Type 0
 In e [] = ⊥
@@ -118,22 +119,21 @@ module _ (n f : ℕ) where
               or-r (not (leb i f)) _ (and-i (hasAck c (suc f)) (complete f (ackOf c (suc f))) (s .0) (rw (fact (suc f) (s .0) .copy) (knows-complete f (ackOn (L (suc f))) (s .1))))
         ])
 
-    join-known : (k : ℕ) → 1 ≤ k → k ≤ n → knows (ackJoin n c) k ≡ true
-    unfolding ackJoin
-    join-known k x y = knows-in-all n (c .acks .from) (c .acks .sets) 1 (omega arith) (omega arith) (held 1 (omega arith) 1≤f) k (rw (fact 1 (held 1 (omega arith) 1≤f) .copy) (whole 1 (omega arith) 1≤f k x y))
+    union-known : (k : ℕ) → 1 ≤ k → k ≤ n → knows (acksUnion n c) k ≡ true
+    union-known k x y = knows-in-all n (c .acks .from) (c .acks .sets) 1 (omega arith) (omega arith) (held 1 (omega arith) 1≤f) k (rw (fact 1 (held 1 (omega arith) 1≤f) .copy) (whole 1 (omega arith) 1≤f k x y))
 
-    join-ok : Truthful L (ackJoin n c)
-    join-ok = acks-true n f L (inv .lines) i c (inv .ctls i .acks-ok)
+    union-ok : Truthful L (acksUnion n c)
+    union-ok = acks-true n f L (inv .lines) i c (inv .ctls i .acks-ok)
 
     none-yet : outcome c ≡ None
     none-yet = inv .owns i .phased .undecided ran (omega arith)
 
-    concludes : outcome ((secondTimeout n f i c) .controller) ≡ wordOf (unanimous n (ackJoin n c))
+    concludes : outcome ((secondTimeout n f i c) .controller) ≡ wordOf (unanimous n (acksUnion n c))
     unfolding secondTimeout ready conclude frozen freeze advance verdict
-    concludes = rw is-direct (rw none-yet)
+    concludes = rw is-direct (rw none-yet (ap wordOf (acks-word n f L (inv .lines) i c (inv .ctls i .acks-ok))))
 
     pub decides-move : AllWilling n f L → outcome ((secondTimeout n f i c) .controller) ≡ wordOf true
-    decides-move w = concludes ∙ ap wordOf (all-move L n f (ackJoin n c) join-ok w (knows-complete n (ackJoin n c) join-known))
+    decides-move w = concludes ∙ ap wordOf (all-move L n f (acksUnion n c) union-ok w (knows-complete n (acksUnion n c) union-known))
 
     pub decides-stay : (k : ℕ) → 1 ≤ k → k ≤ n → willBy k (L k) ≡ false → outcome ((secondTimeout n f i c) .controller) ≡ wordOf false
-    decides-stay k x y e = concludes ∙ ap wordOf (refuted (unanimous n (ackJoin n c)) (λ m. no-both (willBy k (L k)) (move-all L n f (ackJoin n c) join-ok m k x y .1) e))
+    decides-stay k x y e = concludes ∙ ap wordOf (refuted (unanimous n (acksUnion n c)) (λ m. no-both (willBy k (L k)) (move-all L n f (acksUnion n c) union-ok m k x y .1) e))

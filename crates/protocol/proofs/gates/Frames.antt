@@ -5,7 +5,7 @@ use mathlib.Core.Bool.{Bool, true, false, not, _&&_, true≢false, false≢true}
 use lib.Dec.{eqb}
 use mathlib.Core.Logic.{_⊎_, inl, inr}
 use Rattle.ground.specs.Tests.{by-cond, and-l, and-r}
-use Rattle.votes.specs.VoteSets.{unanimous}
+use Rattle.votes.specs.Joining.{unanimousIn}
 use Rattle.votes.specs.declared.VoteSet.{VoteSet}
 use Rattle.model.specs.Ranges.{isBackup}
 use Rattle.model.specs.Numbers.{wordOf, isNone, isMove}
@@ -23,7 +23,7 @@ use Rattle.protocol.specs.Rules.{keepsCall, answersCall, passedOver, bec
 use Rattle.protocol.specs.declared.Identity.{Identity}
 use Rattle.protocol.specs.declared.Saved.{Saved}
 use Rattle.protocol.specs.Calls.{arrives, restore}
-use Rattle.protocol.specs.Steps.{restoreFrom}
+use Rattle.protocol.specs.Events.{restoreFrom}
 use Rattle.protocol.specs.Benches.{sentAfter}
 use Rattle.protocol.proofs.view.RuleCases.{vote-cases, ack-cases, help-cases, helped-cases, sufficient-cases, second-cases, restore-cases}
 use Rattle.protocol.proofs.view.Performed.{timeoutRule}
@@ -138,9 +138,9 @@ module _ (n f : ℕ) where
   second-framed i c l q = second-cases (Framed c l) n f i c (λ d. direct) (λ e. put) (λ e. settle-framed c l _ waits)
     where
       direct : Framed c l (ready (helpVotes n c) (conclude (frozen n c) (verdict n (ackJoin n c))))
-      direct = unfold ready verdict sentAfter in record { vote = refl; taken = λ h. conclude-taken (frozen n c) (unanimous n (ackJoin n c)); gate = gate (conclude-gate (frozen n c) (wordOf (unanimous n (ackJoin n c)))) }
+      direct = unfold ready verdict sentAfter in record { vote = refl; taken = λ h. conclude-taken (frozen n c) (unanimousIn n (ackJoin n c)); gate = gate (conclude-gate (frozen n c) (wordOf (unanimousIn n (ackJoin n c)))) }
         where
-          gate : ((conclude (frozen n c) (wordOf (unanimous n (ackJoin n c)))) .gate .position ≡ (frozen n c) .gate .position) ⊎ Moved (frozen n c) (conclude (frozen n c) (wordOf (unanimous n (ackJoin n c)))) → ((conclude (frozen n c) (wordOf (unanimous n (ackJoin n c)))) .gate .position ≡ c .gate .position) ⊎ Moved c (conclude (frozen n c) (wordOf (unanimous n (ackJoin n c))))
+          gate : ((conclude (frozen n c) (wordOf (unanimousIn n (ackJoin n c)))) .gate .position ≡ (frozen n c) .gate .position) ⊎ Moved (frozen n c) (conclude (frozen n c) (wordOf (unanimousIn n (ackJoin n c)))) → ((conclude (frozen n c) (wordOf (unanimousIn n (ackJoin n c)))) .gate .position ≡ c .gate .position) ⊎ Moved c (conclude (frozen n c) (wordOf (unanimousIn n (ackJoin n c))))
           gate (inl p) = unfold frozen freeze advance in inl p
           gate (inr m) = unfold frozen freeze advance in inr (record { ran = q; free = m .free; taken = m .taken })
 

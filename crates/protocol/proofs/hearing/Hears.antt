@@ -56,7 +56,7 @@ module _ (es : List Event) (h : HeardAt (after es) (logAt es)) (m : (p : Premise
 
   own : (i : ℕ) → Own n f i (controller b i) (sentBy b i)
   unfolding view
-  own i = h .alive .inv .owns i
+  own i = h .sound .inv .owns i
 
   at-3 : (i : ℕ) → RunsAt es i → 3 ≤ phase (controller b i)
   at-3 i r = let q : phase (controller b i) ≡ 3 = sym (stage-is ((controller b i) .condition) (r .running)) ∙ m at-stage-3 i r in omega arith

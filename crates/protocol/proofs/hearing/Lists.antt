@@ -84,11 +84,11 @@ module _ (n f : ℕ) (sized : sizesInRange n f ≡ true) where
 
   moment₀ : At es₀
   moment₀ = record {
-    sound = heard₀ .alive .sound;
+    sound = heard₀ .sound;
     is-n = is-n₀;
     is-f = is-f₀;
     is-order = order;
-    inv = subst (λ (x : ℕ). Inv x f (viewAt es₀)) is-n₀ (subst (λ (x : ℕ). Inv ((after es₀) .shared .n) x (viewAt es₀)) is-f₀ (heard₀ .alive .inv));
+    inv = subst (λ (x : ℕ). Inv x f (viewAt es₀)) is-n₀ (subst (λ (x : ℕ). Inv ((after es₀) .shared .n) x (viewAt es₀)) is-f₀ (heard₀ .sound .inv));
     heard = subst (λ (x : ℕ). Heard x f (viewAt es₀) (logAt es₀)) is-n₀ (subst (λ (x : ℕ). Heard ((after es₀) .shared .n) x (viewAt es₀) (logAt es₀)) is-f₀ (heard₀ .heard));
   }
     where

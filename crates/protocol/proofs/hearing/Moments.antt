@@ -22,34 +22,34 @@ use Rattle.protocol.specs.Steps.{step, run}
 use Rattle.protocol.specs.Claim.{after}
 use Rattle.protocol.proofs.view.View.{View, accepts}
 use Rattle.protocol.proofs.view.Performed.{stepV}
-use Rattle.protocol.proofs.view.Simulation.{view, Ranges, ranges, Steps, step-steps, reply-sim, step-sim}
+use Rattle.protocol.proofs.view.Simulation.{view, Sound, Ranges, ranges, Steps, step-steps, reply-sim, step-sim}
 use Rattle.protocol.proofs.invariant.Words.{none-word}
 use Rattle.protocol.proofs.invariant.Decisions.{Blank}
 use Rattle.protocol.proofs.claim.Moments.{push, logOf, logAt}
 use Rattle.protocol.proofs.claim.Start.{Opened, all-of-copies, freshes}
-use Rattle.protocol.proofs.claim.Reach.{Alive, alive-step, locked-alive}
+use Rattle.protocol.proofs.claim.Reach.{locked-sound}
 use Rattle.protocol.proofs.hearing.Events.{Heard, perform-heard}
 
 pub record HeardAt (b : Bench) (log : List Event) : Type 0 where
-  pub alive : Alive b
+  pub sound : Sound b
   pub heard : Heard (b .shared .n) (b .shared .f) (view b) log
 
 pub step-heard : (b : Bench) (e : Event) (log : List Event) → HeardAt b log → HeardAt (step b e) (push b e log)
 step-heard b e log h =
-    let s : Steps b (h .alive .sound) (step b e) = step-steps b (h .alive .sound) e in
+    let s : Steps b (h .sound) (step b e) = step-steps b (h .sound) e in
     record {
-      alive = alive-step b e (h .alive);
+      sound = s .sound;
       heard = subst (λ (x : ℕ). Heard x ((step b e) .shared .f) (view (step b e)) (push b e log)) (sym (s .same-n))
           (subst (λ (x : ℕ). Heard (b .shared .n) x (view (step b e)) (push b e log)) (sym (s .same-f))
-          (subst (λ (v : View). Heard (b .shared .n) (b .shared .f) v (push b e log)) (sym (step-sim b (h .alive .sound) e)) core));
+          (subst (λ (v : View). Heard (b .shared .n) (b .shared .f) v (push b e log)) (sym (step-sim b (h .sound) e)) core));
     }
   where
     core : Heard (b .shared .n) (b .shared .f) (stepV (b .shared .n) (b .shared .f) (view b) e) (push b e log)
     core = unfold stepV push in elim (split (accepts (b .shared .n) (b .shared .f) (view b) e)) [
-      | inl q ↦ rw (reply-sim b (h .alive .sound) e, q)
-          (let r : Ranges (b .shared .n) (b .shared .f) = ranges (b .shared .n) (b .shared .f) (h .alive .sound .sized) in
-          perform-heard (b .shared .n) (b .shared .f) (r .high) (r .low) (r .small) (view b) (h .alive .inv) log (h .heard) e q)
-      | inr q ↦ rw (reply-sim b (h .alive .sound) e, q) (h .heard)
+      | inl q ↦ rw (reply-sim b (h .sound) e, q)
+          (let r : Ranges (b .shared .n) (b .shared .f) = ranges (b .shared .n) (b .shared .f) (h .sound .sized) in
+          perform-heard (b .shared .n) (b .shared .f) (r .high) (r .low) (r .small) (view b) (h .sound .inv) log (h .heard) e q)
+      | inr q ↦ rw (reply-sim b (h .sound) e, q) (h .heard)
     ]
 
 pub run-heard : (es : List Event) (b : Bench) (log : List Event) → HeardAt b log → HeardAt (run b es) (logOf b log es)
@@ -86,7 +86,7 @@ pub heard-at : (es : List Event) → Opened es → HeardAt (after es) (logAt es)
 heard-at es o = subst (λ (b : Bench). HeardAt b (logAt es)) (sym (o .is)) (subst (HeardAt (run (benchOf true (o .n) (o .f)) (o .post))) (sym (o .silent)) from-lock)
   where
     locked : HeardAt (benchOf true (o .n) (o .f)) []
-    locked = unfold benchOf in record { alive = locked-alive _ (record { n = o .n; f = o .f; sized = o .sized; is = refl }); heard = lock-heard (o .n) (o .f) }
+    locked = unfold benchOf in record { sound = locked-sound _ (record { n = o .n; f = o .f; sized = o .sized; is = refl }); heard = lock-heard (o .n) (o .f) }
 
     from-lock : HeardAt (run (benchOf true (o .n) (o .f)) (o .post)) (logOf (benchOf true (o .n) (o .f)) [] (o .post))
     from-lock = run-heard (o .post) (benchOf true (o .n) (o .f)) [] locked

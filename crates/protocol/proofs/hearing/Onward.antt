@@ -488,10 +488,10 @@ module _ (es : List Event) (h : HeardAt (after es) (logAt es)) (opened : 1 ≤ (
   o = (after es) .shared .order
 
   range : Ranges n f
-  range = ranges n f (h .alive .sound .sized)
+  range = ranges n f (h .sound .sized)
 
   now : Moment n f o (range .high) (range .low) (range .small) es
-  now = record { sound = h .alive .sound; is-n = refl; is-f = refl; is-order = refl; inv = h .alive .inv; heard = h .heard }
+  now = record { sound = h .sound; is-n = refl; is-f = refl; is-order = refl; inv = h .sound .inv; heard = h .heard }
 
   there : Brought n f o (range .high) (range .low) (range .small) opened es (Settled n f o (range .high) (range .low) (range .small) opened)
   there = settle n f o (range .high) (range .low) (range .small) opened es now
@@ -499,7 +499,7 @@ module _ (es : List Event) (h : HeardAt (after es) (logAt es)) (opened : 1 ≤ (
   onward-at : Onward es
   onward-at = record {
     more = there .later .more;
-    same = number-same (there .later .more) (after es) (h .alive .sound .locked) same-order;
+    same = number-same (there .later .more) (after es) (h .sound .locked) same-order;
     running = λ i. unfold view in (subst (λ (x : List Event). runs ((viewAt x) .ctl i) ≡ runs ((viewAt es) .ctl i)) (there .later .parts) (there .later .running i));
     stopped = λ i. unfold view in (subst (λ (x : List Event). isStopped (((viewAt x) .ctl i) .condition) ≡ isStopped (((viewAt es) .ctl i) .condition)) (there .later .parts) (there .later .stopped i));
     meets = λ p. subst (Meets p) (there .later .parts) (settled-meets n f o (range .high) (range .low) (range .small) opened es (there .to) (there .later) (there .holds) (unfold view in few) p);

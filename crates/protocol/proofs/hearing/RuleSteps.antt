@@ -10,7 +10,7 @@ use Rattle.ground.specs.Limit.{limit}
 use Rattle.ground.specs.Tests.{no-both, by-cond, or-l, or-r}
 use Rattle.ground.specs.Mask.{width, has}
 use Rattle.ground.specs.MaskLaws.{insert-own, insert-keeps}
-use Rattle.votes.specs.VoteSets.{unanimous}
+use Rattle.votes.specs.Joining.{unanimousIn}
 use Rattle.votes.specs.declared.VoteSet.{VoteSet}
 use Rattle.model.specs.Ranges.{isBackup}
 use Rattle.model.specs.Routes.{helpRoute, route}
@@ -73,7 +73,7 @@ module _ (n f : ℕ) where
   -- the test: either a word is put, or the counts are short
   settle-follows : (e : Event) (i : ℕ) (c : Controller) (l : Sent) (a : Answer) → Nearly n f e i c l a → Follows n f e i c l (proposeIfSufficient n f a)
   unfolding verdict
-  settle-follows e i c l a t = sufficient-cases (Follows n f e i c l) n f a (λ q. put-follows e i c l a (unanimous n (answersJoin n (a .controller))) t) (λ q. record { nearly = t; short = λ w. few w q })
+  settle-follows e i c l a t = sufficient-cases (Follows n f e i c l) n f a (λ q. put-follows e i c l a (unanimousIn n (answersJoin n (a .controller))) t) (λ q. record { nearly = t; short = λ w. few w q })
     where
       few : a .controller .help .waiting ≡ true → sufficient n f (a .controller) ≡ false → Short n f (a .controller)
       few w q = unfold sufficient in leb-false n (a .controller .acks .cnt .0 + a .controller .helped .«cnt_help» .0 + f) (rw w at q)
@@ -269,15 +269,15 @@ module _ (n f : ℕ) where
         stands = record { waits = λ x. unfold conclude in absurd (false≢true x); ended = λ x o q. absurd (no-both _ o taken); acked = λ x y k a b d. past k a b y d };
       })
         where
-          taken : isNone (outcome (conclude (frozen n c) (wordOf (unanimous n (ackJoin n c))))) ≡ false
-          taken = conclude-taken (frozen n c) (unanimous n (ackJoin n c)) (unfold conclude frozen freeze advance in refl)
+          taken : isNone (outcome (conclude (frozen n c) (wordOf (unanimousIn n (ackJoin n c))))) ≡ false
+          taken = conclude-taken (frozen n c) (unanimousIn n (ackJoin n c)) (unfold conclude frozen freeze advance in refl)
 
       puts : Follows n f (Timeout i) i c l (proposing (ready (helpVotes n c) (frozen n c)) (verdict n (ackJoin n c)))
       puts = unfold proposing ready propose verdict frozen freeze advance sentAfter in record {
         nearly = record {
           forth = record { callers = λ k e. e; helped = λ k e. e; acks = λ k e. e; low = λ x. absurd (omega arith); waits = λ x. absurd (false≢true x); outcome = λ x. x };
           adds = tt;
-          stands = record { waits = λ x. absurd (false≢true x); ended = λ x o q. absurd (no-both (isNone (wordOf (unanimous n (ackJoin n c)))) q (some-word (unanimous n (ackJoin n c)))); acked = λ x y k a b d. past k a b y d };
+          stands = record { waits = λ x. absurd (false≢true x); ended = λ x o q. absurd (no-both (isNone (wordOf (unanimousIn n (ackJoin n c)))) q (some-word (unanimousIn n (ackJoin n c)))); acked = λ x y k a b d. past k a b y d };
         };
         short = λ x. absurd (false≢true x);
       }

@@ -15,7 +15,8 @@ use Rattle.ground.specs.MaskLaws.{has-none, has-or, insert-own, insert-keeps, i
 use Rattle.ground.specs.Collect.{has-collect}
 use Rattle.ground.specs.Update.{upd, upd-same}
 use Rattle.votes.specs.VoteSets.{knows, single}
-use Rattle.votes.specs.VoteLaws.{single-knows, single-wills, join-knows}
+use Rattle.votes.specs.VoteLaws.{single-knows, single-wills, union-knows}
+use Rattle.votes.specs.JoinLaws.{keeps-known}
 use Rattle.votes.specs.declared.VoteSet.{VoteSet}
 use Rattle.ground.specs.Limit.{limit}
 use Rattle.model.specs.Ranges.{isBackup}
@@ -35,14 +36,14 @@ use Rattle.protocol.specs.Benches.{sentAfter}
 use Rattle.protocol.specs.declared.Saved.{Saved}
 use Rattle.protocol.specs.declared.Saved.the-variants.{Nothing, Newest}
 use Rattle.protocol.specs.Calls.{restore}
-use Rattle.protocol.specs.Steps.{restoreFrom}
+use Rattle.protocol.specs.Events.{restoreFrom}
 use Rattle.protocol.proofs.view.RuleCases.{vote-cases, ack-cases, helped-cases, help-cases}
 use Rattle.protocol.proofs.view.View.{View, savedOrder, savedOutcome}
 use Rattle.protocol.proofs.view.Performed.{identityV}
 use Rattle.protocol.proofs.invariant.Words.{none-word}
 use Rattle.protocol.proofs.invariant.Invariant.{votedBy, willBy, ackOn, ackedBy, helpOn, frozenBy, Truthful, SentSound, Grown, Grows, OutcomeGrounds, Own, HeldAck, HeldSound, Inv}
 use Rattle.protocol.proofs.invariant.Growth.{sent-mono, ctl-mono}
-use Rattle.protocol.proofs.invariant.TrueVotes.{empty-ok, vote-ok, join-ok}
+use Rattle.protocol.proofs.invariant.TrueVotes.{empty-ok, vote-ok, joined-is, joined-ok}
 use Rattle.protocol.proofs.invariant.Commit.{Fits, grows-upd, becomes-fits, passed-over-fits}
 use Rattle.protocol.proofs.invariant.Waiting.{settle-fits}
 use Rattle.protocol.proofs.invariant.Keeping.{own-ack-kept, ctl-ack-kept, own-help-kept, ctl-help-kept}
@@ -135,14 +136,14 @@ module _ (n f : ℕ) (small : n ≤ limit) (b : View) (inv : Inv n f b) (i : ℕ
           fresh1 = o .phased .fresh1;
           fresh2 = o .phased .fresh2;
           undecided = o .phased .undecided;
-          own = λ x. join-knows (c .votes) ((L j) .vote .votes) i ∙ or-l (knows (c .votes) i) (knows ((L j) .vote .votes) i) (o .phased .own x);
+          own = λ x. keeps-known (c .votes) ((L j) .vote .votes) i (o .phased .own x);
           same = λ x. absurd (omega arith);
           late = o .phased .late;
         };
         helping = o .helping;
         counted = o .counted;
       })
-      (record { votes-ok = join-ok L (c .votes) ((L j) .vote .votes) (k .votes-ok) (vote-ok L f j (inv .lines j)); acks-ok = k .acks-ok; helps-ok = k .helps-ok; helped-ok = k .helped-ok; calls-ok = k .calls-ok; outcome-ok = k .outcome-ok }))
+      (record { votes-ok = joined-ok L (c .votes) ((L j) .vote .votes) (k .votes-ok) (vote-ok L f j (inv .lines j)); acks-ok = k .acks-ok; helps-ok = k .helps-ok; helped-ok = k .helped-ok; calls-ok = k .calls-ok; outcome-ok = k .outcome-ok }))
       (passed-over-fits n f b inv i)
 
   -- an acknowledgement arrives
@@ -314,6 +315,10 @@ module _ (n f : ℕ) (small : n ≤ limit) (b : View) (inv : Inv n f b) (i : ℕ
           vote-only = λ k e. eqb-true k i (sym (single-knows i w k lo (omega arith)) ∙ e);
         }
 
+    -- the vote set of the own vote tells it
+    single-true : Truthful (upd L i lv) (single i w)
+    single-true = subst (λ (s : Sent). Truthful (upd L i lv) (s .vote .votes)) (upd-same L i lv) (vote-ok (upd L i lv) f i (subst (SentSound f (upd L i lv) i) (sym (upd-same L i lv)) vote-lines))
+
     pub vote-fits : Fits n f b i (voteRule n f i w t c)
     unfolding voteRule sentAfter advance aim learn
     vote-fits =
@@ -328,7 +333,7 @@ module _ (n f : ℕ) (small : n ≤ limit) (b : View) (inv : Inv n f b) (i : ℕ
               fresh1 = λ x e. o .phased .fresh1 r (omega arith);
               fresh2 = λ x e. o .phased .fresh2 r (omega arith);
               undecided = λ x e. o .phased .undecided r (omega arith);
-              own = λ e. join-knows (c .votes) (single i w) i ∙ or-r (knows (c .votes) i) (knows (single i w) i) own-voted;
+              own = λ e. ap (λ (s : VoteSet). knows s i) (joined-is (upd L i lv) (c .votes) (c .votes) (single i w) (k .votes-ok) single-true) ∙ union-knows (c .votes) (single i w) i ∙ or-r (knows (c .votes) i) (knows (single i w) i) own-voted;
               same = λ x e. absurd (no-both (ackedBy i l) e (o .phased .fresh1 r (omega arith)));
               late = λ e. absurd (omega (arith, bounds (leb i (suc f))));
             };
@@ -347,7 +352,7 @@ module _ (n f : ℕ) (small : n ≤ limit) (b : View) (inv : Inv n f b) (i : ℕ
             };
           };
           ctl-ok = record {
-            votes-ok = join-ok (upd L i lv) (c .votes) (single i w) (k .votes-ok) (subst (λ (s : Sent). Truthful (upd L i lv) (s .vote .votes)) (upd-same L i lv) (vote-ok (upd L i lv) f i (subst (SentSound f (upd L i lv) i) (sym (upd-same L i lv)) vote-lines)));
+            votes-ok = joined-ok (upd L i lv) (c .votes) (single i w) (k .votes-ok) single-true;
             acks-ok = k .acks-ok;
             helps-ok = k .helps-ok;
             helped-ok = k .helped-ok;

@@ -12,8 +12,8 @@ use Rattle.ground.specs.MaskLaws.{has-insert, insert-is, insert-keeps}
 use Rattle.ground.specs.Update.{upd-all}
 use Rattle.ground.specs.Sizes.{insert-size}
 use Rattle.ground.specs.Lists.{nth-put, length-put, nth}
-use Rattle.votes.specs.VoteSets.{empty, wills, join}
-use Rattle.votes.specs.VoteLaws.{join-wills}
+use Rattle.votes.specs.VoteSets.{empty, wills, union}
+use Rattle.votes.specs.VoteLaws.{union-wills}
 use Rattle.votes.specs.declared.VoteSet.{VoteSet}
 use Rattle.ground.specs.Limit.{limit}
 use Rattle.model.specs.declared.Outcome.{Outcome}
@@ -21,11 +21,11 @@ use Rattle.protocol.specs.declared.Controller.{Controller}
 use Rattle.protocol.specs.declared.Sent.{Sent}
 use Rattle.protocol.specs.Controllers.{bump, phase, hasAck, hasHelped, keepAck, keepHelped}
 use Rattle.protocol.proofs.invariant.Invariant.{helpOn, frozenBy, Truthful, Own, HeldAck, HeldHelp, HeldSound}
-use Rattle.protocol.proofs.invariant.TrueVotes.{join-ok}
+use Rattle.protocol.proofs.invariant.TrueVotes.{union-ok, joined-is}
 use Rattle.protocol.proofs.invariant.Commit.{upd-all₂}
 
 -- a byte counts the senders of a lock
-bumped : (n k m : ℕ) → n ≤ limit → k ≡ countTo n (has m) → bump k ≡ suc k
+pub bumped : (n k m : ℕ) → n ≤ limit → k ≡ countTo n (has m) → bump k ≡ suc k
 bumped n k m s e = let h : countTo n (has m) ≤ n = count-le n (has m) in rw (lt-ltb k 255 (omega arith))
 
 module _ (n f : ℕ) (small : n ≤ limit) where
@@ -79,9 +79,9 @@ module _ (n f : ℕ) (small : n ≤ limit) where
     acks-ok = o .acks-ok;
     outcome-ok = o .outcome-ok;
     calls-ok = o .calls-ok;
-    helped-ok = join-ok L (c .helped .votes) (helpOn (L j)) (o .helped-ok) ok;
-    helps-ok = λ k e. upd-all (λ k x. x ≡ true → HeldHelp n f L (join (c .helped .votes) (helpOn (L j))) k) (has (c .helped .from)) j true
-        (λ q. record { helped = h; beyond = far; covers = λ x y. join-wills (c .helped .votes) (helpOn (L j)) x ∙ or-r (wills (c .helped .votes) x) (wills (helpOn (L j)) x) y })
-        (λ k e. let t : HeldHelp n f L (c .helped .votes) k = o .helps-ok k e in record { helped = t .helped; beyond = t .beyond; covers = λ x y. join-wills (c .helped .votes) (helpOn (L j)) x ∙ or-l (wills (c .helped .votes) x) (wills (helpOn (L j)) x) (t .covers x y) })
-        k (sym (has-insert (c .helped .from) j k a (omega arith)) ∙ e);
+    helped-ok = rw (joined-is L (c .helped .votes) (c .helped .votes) (helpOn (L j)) (o .helped-ok) ok) (union-ok L (c .helped .votes) (helpOn (L j)) (o .helped-ok) ok);
+    helps-ok = λ k e. rw (joined-is L (c .helped .votes) (c .helped .votes) (helpOn (L j)) (o .helped-ok) ok) (upd-all (λ k x. x ≡ true → HeldHelp n f L (union (c .helped .votes) (helpOn (L j))) k) (has (c .helped .from)) j true
+        (λ q. record { helped = h; beyond = far; covers = λ x y. union-wills (c .helped .votes) (helpOn (L j)) x ∙ or-r (wills (c .helped .votes) x) (wills (helpOn (L j)) x) y })
+        (λ k e. let t : HeldHelp n f L (c .helped .votes) k = o .helps-ok k e in record { helped = t .helped; beyond = t .beyond; covers = λ x y. union-wills (c .helped .votes) (helpOn (L j)) x ∙ or-l (wills (c .helped .votes) x) (wills (helpOn (L j)) x) (t .covers x y) })
+        k (sym (has-insert (c .helped .from) j k a (omega arith)) ∙ e));
   }

@@ -8,13 +8,14 @@ use lib.Bits.{bitOr}
 use lib.Dec.{leb, ltb}
 use mathlib.Core.Logic.{inl, inr}
 use borrow.Author.Tests.{leb-true, le-leb}
-use Rattle.ground.specs.Tests.{no-both, refuted, and-l, and-r, or-l}
+use Rattle.ground.specs.Tests.{no-both, refuted, and-l, and-r, or-r}
 use Rattle.ground.specs.Quantify.{Found, allTo, all-at, countTo}
 use Rattle.ground.specs.Mask.{has}
 use Rattle.ground.specs.MaskLaws.{has-none, has-or}
 use Rattle.ground.specs.Update.{upd, upd-same}
-use Rattle.votes.specs.VoteSets.{empty, knows, complete, unanimous}
-use Rattle.votes.specs.VoteLaws.{join-knows, join-unanimous-r, knows-in-all, complete-knows}
+use Rattle.votes.specs.VoteSets.{empty, knows, union, complete, unanimous}
+use Rattle.votes.specs.Joining.{unanimousIn}
+use Rattle.votes.specs.VoteLaws.{union-knows, union-unanimous, knows-in-all, complete-knows}
 use Rattle.votes.specs.declared.VoteSet.{VoteSet}
 use Rattle.ground.specs.Limit.{limit}
 use Rattle.model.specs.Routes.{recipients}
@@ -27,14 +28,15 @@ use Rattle.protocol.specs.declared.Sent.{Sent}
 use Rattle.protocol.specs.Controllers.{runs, phase, outcome, hasAck, ackOf, hasHelped, hasCalled, advance, freeze, await, keepHelped, conclude}
 use Rattle.protocol.specs.Rules.{verdict, ackJoin, backupsComplete, secondKnows, decides, helpVotes, frozen, ready, proposing, callsHelp, secondTimeout}
 use Rattle.protocol.specs.Benches.{sentAfter}
+use Rattle.protocol.specs.NoContradiction.{acksUnion}
 use Rattle.protocol.proofs.view.RuleCases.{second-cases}
 use Rattle.protocol.proofs.view.View.{View}
 use Rattle.protocol.proofs.invariant.Words.{or-else-is}
 use Rattle.protocol.proofs.invariant.Invariant.{helpOn, frozenBy, Truthful, SentSound, Grown, Grows, SecondAck, DirectMove, StayGrounds, OutcomeGrounds, Own, HeldAck, HeldSound, Inv}
 use Rattle.protocol.proofs.invariant.Growth.{truthful-mono, sent-mono, all-mono, stay-mono, out-mono, ctl-mono}
-use Rattle.protocol.proofs.invariant.TrueVotes.{join-ok, move-all, all-move, stay-unwilling}
+use Rattle.protocol.proofs.invariant.TrueVotes.{union-ok, move-all, all-move, stay-unwilling}
 use Rattle.protocol.proofs.invariant.Commit.{Fits, grows-upd}
-use Rattle.protocol.proofs.invariant.Waiting.{acks-true, ack-stay, move-put, stay-put, own-put, ctl-put, settle-fits, count-some, not-above}
+use Rattle.protocol.proofs.invariant.Waiting.{acks-true, acks-word, help-is, ack-stay, move-put, stay-put, own-put, ctl-put, settle-fits, count-some, not-above}
 use Rattle.protocol.proofs.invariant.Keeping.{own-help-kept, ctl-help-kept}
 
 module _ (n f : ℕ) where
@@ -81,13 +83,15 @@ module _ (n f : ℕ) (f<n : f < n) (1≤f : 1 ≤ f) (small : n ≤ limit) (b : 
   abbrev L′ : Outgoing → ℕ → Sent
   L′ h = upd L i (l′ h)
 
+  -- own vote set and acknowledgements agree: the help vote set is their union
+  s-is : s ≡ union (acksUnion n c) (c .votes)
+  s-is = help-is n f L (inv .lines) i c (inv .ctls i .votes-ok) (inv .ctls i .acks-ok)
+
   s-ok : Truthful L s
-  unfolding helpVotes
-  s-ok = join-ok L (c .votes) (ackJoin n c) (inv .ctls i .votes-ok) (acks-true n f L (inv .lines) i c (inv .ctls i .acks-ok))
+  s-ok = subst (Truthful L) (sym s-is) (union-ok L (acksUnion n c) (c .votes) (acks-true n f L (inv .lines) i c (inv .ctls i .acks-ok)) (inv .ctls i .votes-ok))
 
   s-knows : (k : ℕ) → knows (c .votes) k ≡ true → knows s k ≡ true
-  unfolding helpVotes
-  s-knows k e = join-knows (c .votes) (ackJoin n c) k ∙ or-l (knows (c .votes) k) (knows (ackJoin n c) k) e
+  s-knows k e = ap (λ (x : VoteSet). knows x k) s-is ∙ union-knows (acksUnion n c) (c .votes) k ∙ or-r (knows (acksUnion n c) k) (knows (c .votes) k) e
 
   s-own : knows s i ≡ true
   s-own = s-knows i (inv .owns i .phased .own (omega arith))
@@ -161,8 +165,11 @@ module _ (n f : ℕ) (f<n : f < n) (1≤f : 1 ≤ f) (small : n ≤ limit) (b : 
   unfolding frozen freeze advance
   ctl-frozen h = let o : HeldSound n f (L′ h) (b .state .consensus .decision) i c = old-ok h in record { votes-ok = o .votes-ok; acks-ok = o .acks-ok; helps-ok = o .helps-ok; helped-ok = o .helped-ok; calls-ok = o .calls-ok; outcome-ok = o .outcome-ok }
 
-  acks-ok : Truthful L (ackJoin n c)
+  acks-ok : Truthful L (acksUnion n c)
   acks-ok = acks-true n f L (inv .lines) i c (inv .ctls i .acks-ok)
+
+  word : unanimousIn n (ackJoin n c) ≡ unanimous n (acksUnion n c)
+  word = acks-word n f L (inv .lines) i c (inv .ctls i .acks-ok)
 
   abbrev h₀ : Outgoing
   h₀ = (L i) .help
@@ -172,15 +179,14 @@ module _ (n f : ℕ) (f<n : f < n) (1≤f : 1 ≤ f) (small : n ≤ limit) (b : 
     got-ack : (j : ℕ) → 1 ≤ j → j ≤ f → (hasAck c j ≡ true) × (complete n (ackOf c j) ≡ true)
     unfolding decides backupsComplete
     got-ack j a h =
-        let all : allTo f (λ j. hasAck c j && complete n (ackOf c j)) ≡ true = search (and-l, and-r) in
+        let all : allTo f (λ j. hasAck c j && complete n (ackOf c j)) ≡ true = search (and-l) in
         let e : hasAck c j && complete n (ackOf c j) ≡ true = all-at f (λ j. hasAck c j && complete n (ackOf c j)) all j a h in
         (and-l (hasAck c j) (complete n (ackOf c j)) e, and-r (hasAck c j) (complete n (ackOf c j)) e)
 
     ack-fact : (j : ℕ) → 1 ≤ j → j ≤ f → HeldAck n f L i (ackOf c j) j
     ack-fact j a h = inv .ctls i .acks-ok j (got-ack j a h .0)
 
-    all-known : (k : ℕ) → 1 ≤ k → k ≤ n → knows (ackJoin n c) k ≡ true
-    unfolding ackJoin
+    all-known : (k : ℕ) → 1 ≤ k → k ≤ n → knows (acksUnion n c) k ≡ true
     all-known k x y = knows-in-all n (c .acks .from) (c .acks .sets) 1 (omega arith) (omega arith) (got-ack 1 (omega arith) 1≤f .0) k (complete-knows n (ackOf c 1) (got-ack 1 (omega arith) 1≤f .1) k x y)
 
     second : i ≤ f → SecondAck n f L
@@ -191,11 +197,11 @@ module _ (n f : ℕ) (f<n : f < n) (1≤f : 1 ≤ f) (small : n ≤ limit) (b : 
         let t : HeldAck n f L i (ackOf c (suc f)) (suc f) = inv .ctls i .acks-ok (suc f) (and-l (hasAck c (suc f)) _ e′) in
         record { acked = t .acked; knows = λ k x y. rw (← t .copy) (complete-knows f (ackOf c (suc f)) (and-r (hasAck c (suc f)) _ e′) k x y) }
 
-    moves : unanimous n (ackJoin n c) ≡ true → DirectMove n f (L′ h₀)
+    moves : unanimous n (acksUnion n c) ≡ true → DirectMove n f (L′ h₀)
     moves e = record {
       acks = λ j a h. let t : HeldAck n f L i (ackOf c j) j = ack-fact j a h in (
         grows h₀ j .acked (t .acked),
-        rw (grows h₀ j .ack (t .acked), ← t .copy) (all-move L n f (ackOf c j) (rw (t .copy) (inv .lines j .ack-ok (t .acked))) (move-all L n f (ackJoin n c) acks-ok e) (got-ack j a h .1)),
+        rw (grows h₀ j .ack (t .acked), ← t .copy) (all-move L n f (ackOf c j) (rw (t .copy) (inv .lines j .ack-ok (t .acked))) (move-all L n f (acksUnion n c) acks-ok e) (got-ack j a h .1)),
       );
       more = elim (decLe i f) [
         | yes h ↦ let t : SecondAck n f L = second h in inr (record { acked = grows h₀ (suc f) .acked (t .acked); knows = λ k x y. rw (grows h₀ (suc f) .ack (t .acked)) (t .knows k x y) })
@@ -203,12 +209,12 @@ module _ (n f : ℕ) (f<n : f < n) (1≤f : 1 ≤ f) (small : n ≤ limit) (b : 
       ];
     }
       where
-        help-moves : unanimous n (ackJoin n c) ≡ true → unanimous n s ≡ true
-        help-moves e = unfold helpVotes in join-unanimous-r n (c .votes) (ackJoin n c) e
+        help-moves : unanimous n (acksUnion n c) ≡ true → unanimous n s ≡ true
+        help-moves e = ap (unanimous n) s-is ∙ union-unanimous n (acksUnion n c) (c .votes) e
 
-    grounds : (v : Bool) → unanimous n (ackJoin n c) ≡ v → OutcomeGrounds n f (L′ h₀) (b .state .consensus .decision) v
-    grounds true e = (all-mono L (L′ h₀) (grows h₀) n f (move-all L n f (ackJoin n c) acks-ok e), inl (moves e))
-    grounds false e = out-mono L (L′ h₀) (grows h₀) (b .state .consensus .decision) (b .state .consensus .decision) (λ v e. e) n f false (inl (stay-unwilling L n f (ackJoin n c) acks-ok all-known e))
+    grounds : (v : Bool) → unanimousIn n (ackJoin n c) ≡ v → OutcomeGrounds n f (L′ h₀) (b .state .consensus .decision) v
+    grounds true e = let u : unanimous n (acksUnion n c) ≡ true = sym word ∙ e in (all-mono L (L′ h₀) (grows h₀) n f (move-all L n f (acksUnion n c) acks-ok u), inl (moves u))
+    grounds false e = let u : unanimous n (acksUnion n c) ≡ false = sym word ∙ e in out-mono L (L′ h₀) (grows h₀) (b .state .consensus .decision) (b .state .consensus .decision) (λ v e. e) n f false (inl (stay-unwilling L n f (acksUnion n c) acks-ok all-known u))
 
     direct-fits : Fits n f b i (ready (helpVotes n c) (conclude (frozen n c) (verdict n (ackJoin n c))))
     unfolding ready sentAfter conclude frozen freeze advance verdict
@@ -243,7 +249,7 @@ module _ (n f : ℕ) (f<n : f < n) (1≤f : 1 ≤ f) (small : n ≤ limit) (b : 
             helps-ok = k .helps-ok;
             helped-ok = k .helped-ok;
             calls-ok = k .calls-ok;
-            outcome-ok = λ v e. or-else-is (outcome c) (unanimous n (ackJoin n c)) v (k .outcome-ok v) (grounds v) e;
+            outcome-ok = λ v e. or-else-is (outcome c) (unanimousIn n (ackJoin n c)) v (k .outcome-ok v) (grounds v) e;
           };
           move-ok = λ e. absurd (false≢true e);
           stay-ok = λ e. absurd (false≢true e);
@@ -255,13 +261,13 @@ module _ (n f : ℕ) (f<n : f < n) (1≤f : 1 ≤ f) (small : n ≤ limit) (b : 
   put-fits e = record {
     grown = grown h₀;
     sent-ok = sent-ok h₀;
-    own-ok = own-put n f i (frozen n c) (l′ h₀) (wordOf (unanimous n (ackJoin n c))) (own-frozen h₀);
-    ctl-ok = ctl-put n f (L′ h₀) (b .state .consensus .decision) i (frozen n c) (wordOf (unanimous n (ackJoin n c))) (ctl-frozen h₀);
-    move-ok = λ p. all-mono L (L′ h₀) (grows h₀) n f (move-all L n f (ackJoin n c) acks-ok (move-put n (unanimous n (ackJoin n c)) p));
-    stay-ok = λ p. stay-mono L (L′ h₀) (grows h₀) n f (stays (stay-put n (unanimous n (ackJoin n c)) p));
+    own-ok = own-put n f i (frozen n c) (l′ h₀) (wordOf (unanimousIn n (ackJoin n c))) (own-frozen h₀);
+    ctl-ok = ctl-put n f (L′ h₀) (b .state .consensus .decision) i (frozen n c) (wordOf (unanimousIn n (ackJoin n c))) (ctl-frozen h₀);
+    move-ok = λ p. all-mono L (L′ h₀) (grows h₀) n f (move-all L n f (acksUnion n c) acks-ok (sym word ∙ move-put n (unanimousIn n (ackJoin n c)) p));
+    stay-ok = λ p. stay-mono L (L′ h₀) (grows h₀) n f (stays (sym word ∙ stay-put n (unanimousIn n (ackJoin n c)) p));
   }
     where
-      stays : unanimous n (ackJoin n c) ≡ false → StayGrounds n f L
+      stays : unanimous n (acksUnion n c) ≡ false → StayGrounds n f L
       stays q = elim (decLe i f) [
         | yes h ↦ let o : hasAck c i ≡ true = inv .owns i .counted .own-ack (omega arith) h in
             ack-stay n f L (inv .lines) i c i low h high o (inv .ctls i .acks-ok i o) q

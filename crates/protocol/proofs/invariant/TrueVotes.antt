@@ -1,6 +1,6 @@
 -- Vote sets that tell the votes as they were cast: joins of such vote sets are such vote sets, and what their words say of the votes.
 use Prim.Native.Nat.{ℕ, _≤_}
-use mathlib.Core.Path.{_≡_, sym, _∙_}
+use mathlib.Core.Path.{_≡_, sym, _∙_, ap, subst}
 use mathlib.Core.Bool.{true, false, not, _&&_}
 use mathlib.Core.List.{List}
 use mathlib.Core.Logic.{_⊎_, inl, inr}
@@ -10,9 +10,13 @@ use Rattle.ground.specs.Quantify.{Found, not-all}
 use Rattle.ground.specs.Mask.{has}
 use Rattle.ground.specs.MaskLaws.{has-none}
 use Rattle.ground.specs.Lists.{nth}
-use Rattle.votes.specs.VoteSets.{empty, knows, wills, join, joinAll, complete, unanimous}
-use Rattle.votes.specs.VoteLaws.{join-knows, join-wills, knows-in-all, wills-in-all, all-known-by, all-willed-by, complete-knows, unanimous-known, unanimous-willing, votes-unanimous, unanimous-is}
+use Rattle.votes.specs.VoteSets.{empty, knows, wills, union, unionAll, complete, unanimous}
+use Rattle.votes.specs.VoteLaws.{union-knows, union-wills, knows-in-all, wills-in-all, all-known-by, all-willed-by, complete-knows, unanimous-known, unanimous-willing, votes-unanimous, unanimous-is}
+use Rattle.votes.specs.Joining.{contradicts, join, joinAll, agreedOr}
+use Rattle.votes.specs.JoinLaws.{at-agree, join-agreed, all-agreed}
 use Rattle.votes.specs.declared.VoteSet.{VoteSet}
+use Rattle.votes.specs.declared.Joined.{Joined}
+use Rattle.votes.specs.declared.Joined.the-variants.{Agreed}
 use Rattle.protocol.specs.declared.Sent.{Sent}
 use Rattle.protocol.proofs.invariant.Invariant.{votedBy, willBy, Truthful, SentSound, AllWilling, Unwilling}
 
@@ -32,40 +36,53 @@ module _ (L : ℕ → Sent) where
     within = o .vote-within;
   }
 
-  pub join-ok : (s t : VoteSet) → Truthful L s → Truthful L t → Truthful L (join s t)
-  join-ok s t p q = record {
+  pub union-ok : (s t : VoteSet) → Truthful L s → Truthful L t → Truthful L (union s t)
+  union-ok s t p q = record {
     cast = λ k e. elim (either k e) [ inl h ↦ p .cast k h | inr h ↦ q .cast k h ];
-    true-to = λ k e. same-test (wills (join s t) k) (willBy k (L k))
-        (λ h. elim (or-e (wills s k) (wills t k) (sym (join-wills s t k) ∙ h)) [ inl y ↦ sym (p .true-to k (p .within k y)) ∙ y | inr y ↦ sym (q .true-to k (q .within k y)) ∙ y ])
-        (λ h. join-wills s t k ∙ elim (either k e) [ inl y ↦ or-l (wills s k) (wills t k) (p .true-to k y ∙ h) | inr y ↦ or-r (wills s k) (wills t k) (q .true-to k y ∙ h) ]);
-    within = λ k e. join-knows s t k ∙ elim (or-e (wills s k) (wills t k) (sym (join-wills s t k) ∙ e)) [ inl y ↦ or-l (knows s k) (knows t k) (p .within k y) | inr y ↦ or-r (knows s k) (knows t k) (q .within k y) ];
+    true-to = λ k e. same-test (wills (union s t) k) (willBy k (L k))
+        (λ h. elim (or-e (wills s k) (wills t k) (sym (union-wills s t k) ∙ h)) [ inl y ↦ sym (p .true-to k (p .within k y)) ∙ y | inr y ↦ sym (q .true-to k (q .within k y)) ∙ y ])
+        (λ h. union-wills s t k ∙ elim (either k e) [ inl y ↦ or-l (wills s k) (wills t k) (p .true-to k y ∙ h) | inr y ↦ or-r (wills s k) (wills t k) (q .true-to k y ∙ h) ]);
+    within = λ k e. union-knows s t k ∙ elim (or-e (wills s k) (wills t k) (sym (union-wills s t k) ∙ e)) [ inl y ↦ or-l (knows s k) (knows t k) (p .within k y) | inr y ↦ or-r (knows s k) (knows t k) (q .within k y) ];
   }
     where
-      either : (k : ℕ) → knows (join s t) k ≡ true → (knows s k ≡ true) ⊎ (knows t k ≡ true)
-      either k e = or-e (knows s k) (knows t k) (sym (join-knows s t k) ∙ e)
+      either : (k : ℕ) → knows (union s t) k ≡ true → (knows s k ≡ true) ⊎ (knows t k ≡ true)
+      either k e = or-e (knows s k) (knows t k) (sym (union-knows s t k) ∙ e)
+
+  -- two vote sets that tell the votes as they were cast do not contradict each other: their join is the union
+  pub true-agree : (s t : VoteSet) → Truthful L s → Truthful L t → contradicts s t ≡ false
+  true-agree s t p q = at-agree s t (λ k x y. p .true-to k x ∙ sym (q .true-to k y))
+
+  pub joined-is : (other s t : VoteSet) → Truthful L s → Truthful L t → agreedOr other (join s t) ≡ union s t
+  joined-is other s t p q = ap (λ (j : Joined). agreedOr other j) (join-agreed s t (true-agree s t p q))
+
+  pub joined-ok : (s t : VoteSet) → Truthful L s → Truthful L t → Truthful L (agreedOr s (join s t))
+  joined-ok s t p q = subst (Truthful L) (sym (joined-is s s t p q)) (union-ok s t p q)
+
+  pub all-joined : (m from : ℕ) (l : List VoteSet) → ((j : ℕ) → has from j ≡ true → Truthful L (nth empty l j)) → joinAll m from l ≡ Agreed (unionAll m from l)
+  all-joined = all-agreed (Truthful L) empty-ok union-ok true-agree
 
   module _ (m : ℕ) (from : ℕ) (l : List VoteSet) where
     abbrev of : ℕ → VoteSet
     of j = nth empty l j
 
-    pub all-ok : ((j : ℕ) → has from j ≡ true → Truthful L (nth empty l j)) → Truthful L (joinAll m from l)
-    all-ok ok = record { cast = castOf; true-to = λ k e. same-test (wills (joinAll m from l) k) (willBy k (L k)) (up k) (down k (all-known-by m from l k e)); within = withinOf }
+    pub all-ok : ((j : ℕ) → has from j ≡ true → Truthful L (nth empty l j)) → Truthful L (unionAll m from l)
+    all-ok ok = record { cast = castOf; true-to = λ k e. same-test (wills (unionAll m from l) k) (willBy k (L k)) (up k) (down k (all-known-by m from l k e)); within = withinOf }
       where
-        castOf : (k : ℕ) → knows (joinAll m from l) k ≡ true → votedBy k (L k) ≡ true
+        castOf : (k : ℕ) → knows (unionAll m from l) k ≡ true → votedBy k (L k) ≡ true
         castOf k e = let r : Found m (λ x. has from x && knows (of x) k) = all-known-by m from l k e in
             ok (r .at) (and-l (has from (r .at)) (knows (of (r .at)) k) (r .holds)) .cast k (and-r (has from (r .at)) (knows (of (r .at)) k) (r .holds))
 
-        up : (k : ℕ) → wills (joinAll m from l) k ≡ true → willBy k (L k) ≡ true
+        up : (k : ℕ) → wills (unionAll m from l) k ≡ true → willBy k (L k) ≡ true
         up k e = let r : Found m (λ x. has from x && wills (of x) k) = all-willed-by m from l k e in
             let o : Truthful L (of (r .at)) = ok (r .at) (and-l (has from (r .at)) (wills (of (r .at)) k) (r .holds)) in
             let y : wills (of (r .at)) k ≡ true = and-r (has from (r .at)) (wills (of (r .at)) k) (r .holds) in
             sym (o .true-to k (o .within k y)) ∙ y
 
-        down : (k : ℕ) → Found m (λ x. has from x && knows (of x) k) → willBy k (L k) ≡ true → wills (joinAll m from l) k ≡ true
+        down : (k : ℕ) → Found m (λ x. has from x && knows (of x) k) → willBy k (L k) ≡ true → wills (unionAll m from l) k ≡ true
         down k r h = let a : has from (r .at) ≡ true = and-l (has from (r .at)) (knows (of (r .at)) k) (r .holds) in
             wills-in-all m from l (r .at) (r .low) (r .high) a k (ok (r .at) a .true-to k (and-r (has from (r .at)) (knows (of (r .at)) k) (r .holds)) ∙ h)
 
-        withinOf : (k : ℕ) → wills (joinAll m from l) k ≡ true → knows (joinAll m from l) k ≡ true
+        withinOf : (k : ℕ) → wills (unionAll m from l) k ≡ true → knows (unionAll m from l) k ≡ true
         withinOf k e = let r : Found m (λ x. has from x && wills (of x) k) = all-willed-by m from l k e in
             let a : has from (r .at) ≡ true = and-l (has from (r .at)) (wills (of (r .at)) k) (r .holds) in
             knows-in-all m from l (r .at) (r .low) (r .high) a k (ok (r .at) a .within k (and-r (has from (r .at)) (wills (of (r .at)) k) (r .holds)))

@@ -1,6 +1,6 @@
 -- The waiting rule: where the answer without it fits, the answer with it does.
 use Prim.Native.Nat.{ℕ, zero, suc, _+_, _≤_, _<_}
-use mathlib.Core.Path.{_≡_, refl, sym}
+use mathlib.Core.Path.{_≡_, refl, sym, _∙_, ap}
 use mathlib.Core.Bool.{Bool, true, false, not, _&&_, false≢true}
 use native.Mathlib.Omega.{arith}
 use lib.Dec.{leb, ltb}
@@ -10,7 +10,11 @@ use Rattle.ground.specs.Tests.{refuted, no-both, split, and-l, and-r, and-i}
 use Rattle.ground.specs.Quantify.{Found, countTo, count-all}
 use Rattle.ground.specs.Mask.{has}
 use Rattle.ground.specs.Update.{upd}
-use Rattle.votes.specs.VoteSets.{knows, wills, joinAll, unanimous}
+use Rattle.votes.specs.VoteSets.{knows, wills, union, unionAll, unanimous}
+use Rattle.votes.specs.Joining.{joinNext, unanimousIn, agreedOr}
+use Rattle.votes.specs.declared.VoteSet.{VoteSet}
+use Rattle.votes.specs.declared.Joined.{Joined}
+use Rattle.votes.specs.declared.Joined.the-variants.{Agreed}
 use Rattle.votes.specs.VoteLaws.{all-unanimous}
 use Rattle.model.specs.Numbers.{wordOf, isMove, isStay}
 use Rattle.model.specs.declared.Outcome.{Outcome}
@@ -18,12 +22,13 @@ use Rattle.protocol.specs.declared.Controller.{Controller}
 use Rattle.protocol.specs.declared.Answer.{Answer}
 use Rattle.protocol.specs.declared.Sent.{Sent}
 use Rattle.protocol.specs.Controllers.{hasAck, ackOf, hasHelped, propose}
-use Rattle.protocol.specs.Rules.{verdict, ackJoin, sufficient, answersJoin, proposing, proposeIfSufficient}
+use Rattle.protocol.specs.Rules.{verdict, ackJoin, sufficient, answersJoin, proposing, proposeIfSufficient, helpVotes}
 use Rattle.protocol.specs.Benches.{sentAfter}
+use Rattle.protocol.specs.NoContradiction.{acksUnion}
 use Rattle.protocol.proofs.view.RuleCases.{sufficient-cases}
 use Rattle.protocol.proofs.view.View.{View}
 use Rattle.protocol.proofs.invariant.Invariant.{ackOn, helpOn, Truthful, SentSound, AllWilling, StayGrounds, Own, HeldAck, HeldHelp, HeldSound, Inv}
-use Rattle.protocol.proofs.invariant.TrueVotes.{all-ok, move-all, stay-lacks}
+use Rattle.protocol.proofs.invariant.TrueVotes.{all-ok, joined-is, all-joined, move-all, stay-lacks}
 use Rattle.protocol.proofs.invariant.Commit.{Fits, lines-after}
 
 -- a count above 0 has a member
@@ -41,19 +46,33 @@ not-above (suc m) e = absurd (no-both (ltb 0 (suc m)) (le-leb 1 (suc m) (omega a
 
 module _ (n f : ℕ) (L : ℕ → Sent) (ok : (k : ℕ) → SentSound f L k (L k)) where
   -- the acknowledgements held tell the votes
-  pub acks-true : (i : ℕ) (c : Controller) → ((j : ℕ) → hasAck c j ≡ true → HeldAck n f L i (ackOf c j) j) → Truthful L (ackJoin n c)
+  pub ack-true : (i : ℕ) (c : Controller) → ((j : ℕ) → hasAck c j ≡ true → HeldAck n f L i (ackOf c j) j) → (j : ℕ) → hasAck c j ≡ true → Truthful L (ackOf c j)
+  ack-true i c h j e = rw (h j e .copy) (ok j .ack-ok (h j e .acked))
+
+  pub acks-true : (i : ℕ) (c : Controller) → ((j : ℕ) → hasAck c j ≡ true → HeldAck n f L i (ackOf c j) j) → Truthful L (acksUnion n c)
+  acks-true i c h = all-ok L n (c .acks .from) (c .acks .sets) (ack-true i c h)
+
+  -- so they agree: their join is the union
+  pub acks-joined : (i : ℕ) (c : Controller) → ((j : ℕ) → hasAck c j ≡ true → HeldAck n f L i (ackOf c j) j) → ackJoin n c ≡ Agreed (acksUnion n c)
   unfolding ackJoin
-  acks-true i c h = all-ok L n (c .acks .from) (c .acks .sets) (λ j e. rw (h j e .copy) (ok j .ack-ok (h j e .acked)))
+  acks-joined i c h = all-joined L n (c .acks .from) (c .acks .sets) (ack-true i c h)
+
+  pub acks-word : (i : ℕ) (c : Controller) → ((j : ℕ) → hasAck c j ≡ true → HeldAck n f L i (ackOf c j) j) → unanimousIn n (ackJoin n c) ≡ unanimous n (acksUnion n c)
+  acks-word i c h = ap (λ (j : Joined). unanimousIn n j) (acks-joined i c h)
+
+  -- and so does the own vote set with them: the help vote set is their union
+  pub help-is : (i : ℕ) (c : Controller) → Truthful L (c .votes) → ((j : ℕ) → hasAck c j ≡ true → HeldAck n f L i (ackOf c j) j) → helpVotes n c ≡ union (acksUnion n c) (c .votes)
+  unfolding helpVotes
+  help-is i c o h = ap (λ (j : Joined). agreedOr (c .votes) (joinNext j (c .votes))) (acks-joined i c h) ∙ joined-is L (c .votes) (acksUnion n c) (c .votes) (acks-true i c h) o
 
   -- Stay put over a join of acknowledgements that has a backup's
-  pub ack-stay : (i : ℕ) (c : Controller) (j : ℕ) → 1 ≤ j → j ≤ f → j ≤ n → hasAck c j ≡ true → HeldAck n f L i (ackOf c j) j → unanimous n (ackJoin n c) ≡ false → StayGrounds n f L
-  unfolding ackJoin
+  pub ack-stay : (i : ℕ) (c : Controller) (j : ℕ) → 1 ≤ j → j ≤ f → j ≤ n → hasAck c j ≡ true → HeldAck n f L i (ackOf c j) j → unanimous n (acksUnion n c) ≡ false → StayGrounds n f L
   ack-stay i c j a b b′ e h s = inl (record {
     at = j;
     low = a;
     high = b;
     acked = h .acked;
-    stays = refuted (unanimous n (ackOn (L j))) (λ m. no-both (unanimous n (joinAll n (c .acks .from) (c .acks .sets))) (all-unanimous n (c .acks .from) (c .acks .sets) n j a b′ e (rw (h .copy) m)) s);
+    stays = refuted (unanimous n (ackOn (L j))) (λ m. no-both (unanimous n (unionAll n (c .acks .from) (c .acks .sets))) (all-unanimous n (c .acks .from) (c .acks .sets) n j a b′ e (rw (h .copy) m)) s);
   })
 
   -- Stay put over all help answers
@@ -105,21 +124,21 @@ module _ (n f : ℕ) where
   ctl-put L ch i c v o = record { votes-ok = o .votes-ok; acks-ok = o .acks-ok; helps-ok = o .helps-ok; helped-ok = o .helped-ok; calls-ok = o .calls-ok; outcome-ok = o .outcome-ok }
 
 module _ (n f : ℕ) (f<n : f < n) (L : ℕ → Sent) (ok : (k : ℕ) → SentSound f L k (L k)) (ch : Outcome) (i : ℕ) (c : Controller) (l : Sent) (w : Own n f i c l) (o : HeldSound n f L ch i c) where
-  settled-move : unanimous n (answersJoin n c) ≡ true → AllWilling n f L
+  settled-move : unanimousIn n (answersJoin n c) ≡ true → AllWilling n f L
   unfolding answersJoin
   settled-move e = elim (split (ltb 0 (c .acks .cnt .0))) [
-    | inl h ↦ move-all L n f (ackJoin n c) (acks-true n f L ok i c (o .acks-ok)) (rw h at e)
+    | inl h ↦ move-all L n f (acksUnion n c) (acks-true n f L ok i c (o .acks-ok)) (sym (acks-word n f L ok i c (o .acks-ok)) ∙ (rw h at e))
     | inr h ↦ move-all L n f (c .helped .votes) (o .helped-ok) (rw h at e)
   ]
 
-  settled-stay : f < i → n ≤ c .acks .cnt .0 + c .helped .«cnt_help» .0 + f → unanimous n (answersJoin n c) ≡ false → StayGrounds n f L
+  settled-stay : f < i → n ≤ c .acks .cnt .0 + c .helped .«cnt_help» .0 + f → unanimousIn n (answersJoin n c) ≡ false → StayGrounds n f L
   unfolding answersJoin
   settled-stay a q e = elim (split (ltb 0 (c .acks .cnt .0))) [
     | inl h ↦ let x : 1 ≤ c .acks .cnt .0 = leb-true 1 (c .acks .cnt .0) h in
         let y : c .acks .cnt .0 ≡ countTo n (has (c .acks .from)) = w .counted .ack-count in
         let r : Found n (has (c .acks .from)) = count-some n (has (c .acks .from)) (omega arith) in
         let t : HeldAck n f L i (ackOf c (r .at)) (r .at) = o .acks-ok (r .at) (r .holds) in
-        ack-stay n f L ok i c (r .at) (r .low) (t .backup a) (r .high) (r .holds) t (rw h at e)
+        ack-stay n f L ok i c (r .at) (r .low) (t .backup a) (r .high) (r .holds) t (sym (acks-word n f L ok i c (o .acks-ok)) ∙ (rw h at e))
     | inr h ↦ let z : c .acks .cnt .0 ≡ 0 = not-above (c .acks .cnt .0) h in
         let y : c .helped .«cnt_help» .0 ≡ countTo n (has (c .helped .from)) = w .counted .help-count in
         help-stay n f L ok c (o .helped-ok) (o .helps-ok) (count-all n f (has (c .helped .from)) (λ k x. o .helps-ok k x .beyond) (omega arith)) (rw h at e)
@@ -136,12 +155,12 @@ module _ (n f : ℕ) (f<n : f < n) (b : View) (inv : Inv n f b) (i : ℕ) where
       (λ e. record {
         grown = t .grown;
         sent-ok = t .sent-ok;
-        own-ok = own-put n f i c (sentAfter (b .state .sent i) (a .sends)) (wordOf (unanimous n (answersJoin n c))) (t .own-ok);
-        ctl-ok = ctl-put n f L′ (b .state .consensus .decision) i c (wordOf (unanimous n (answersJoin n c))) (t .ctl-ok);
-        move-ok = λ p. settled-move n f f<n L′ ok (b .state .consensus .decision) i c (sentAfter (b .state .sent i) (a .sends)) (t .own-ok) (t .ctl-ok) (move-put n (unanimous n (answersJoin n c)) p);
+        own-ok = own-put n f i c (sentAfter (b .state .sent i) (a .sends)) (verdict n (answersJoin n c)) (t .own-ok);
+        ctl-ok = ctl-put n f L′ (b .state .consensus .decision) i c (verdict n (answersJoin n c)) (t .ctl-ok);
+        move-ok = λ p. settled-move n f f<n L′ ok (b .state .consensus .decision) i c (sentAfter (b .state .sent i) (a .sends)) (t .own-ok) (t .ctl-ok) (move-put n (unanimousIn n (answersJoin n c)) p);
         stay-ok = λ p. settled-stay n f f<n L′ ok (b .state .consensus .decision) i c (sentAfter (b .state .sent i) (a .sends)) (t .own-ok) (t .ctl-ok)
             (t .own-ok .helping .waiter (and-l (c .help .waiting) _ e))
             (let reached = at-least (c .help .waiting) _ (c .acks .cnt .0 + c .helped .«cnt_help» .0 + f) e in omega arith)
-            (stay-put n (unanimous n (answersJoin n c)) p);
+            (stay-put n (unanimousIn n (answersJoin n c)) p);
       })
       (λ e. t)

@@ -4,12 +4,14 @@ use Rattle.protocol.specs.Computing.{wholeRun}
 use Rattle.protocol.specs.Sequence.{members, messagesOfKind, messagesOf}
 use Rattle.protocol.specs.CleanOrders.{casts, timeouts, deliveriesOf, deliveries, allVoted, allAcked, allEnded, cleanOrder}
 use Rattle.protocol.specs.Rows.{answersTo, openAfter, each, same, shows, passes, sendsAs}
+use Rattle.protocol.specs.Alone.{called, calledAll}
+use Rattle.protocol.specs.StrayTrials.{numbersOf, answersAs, strays}
 use Rattle.protocol.specs.Trials.{table, sequences, allPass, TrialsHold}
 use Rattle.protocol.proofs.trials_hold.Statement.{statement}
 use Rattle.protocol.proofs.trials_hold.Tie as tie
 
 trials : TrialsHold
-unfolding allPass table sequences cleanOrder allEnded allAcked allVoted deliveries deliveriesOf timeouts casts passes sendsAs messagesOf messagesOfKind members shows same each answersTo openAfter wholeRun
+unfolding allPass table sequences cleanOrder allEnded allAcked allVoted deliveries deliveriesOf timeouts casts passes sendsAs messagesOf messagesOfKind members shows same each answersTo openAfter answersAs strays numbersOf called calledAll wholeRun
 trials = refl
 
 returns : tie.Need-returns

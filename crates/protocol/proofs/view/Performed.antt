@@ -2,7 +2,7 @@
 -- arguments about orders go by its cases.
 use Prim.Native.Nat.{ℕ, _≤_}
 use mathlib.Core.Path.{_≡_, refl, _∙_, ap}
-use mathlib.Core.Bool.{Bool, true, false, _&&_, _||_, cond, false≢true}
+use mathlib.Core.Bool.{Bool, true, false, _&&_, _||_, cond, false≢true, and-false}
 use mathlib.Core.List.{List, [], _∷_}
 use lib.Dec.{eqb, leb}
 use mathlib.Core.Logic.{inl, inr}
@@ -14,6 +14,8 @@ use Rattle.model.specs.Routes.{route}
 use Rattle.model.specs.Numbers.{wordOf, isMove, isStay}
 use Rattle.model.specs.declared.Kind.{Kind}
 use Rattle.model.specs.declared.Checkpoint.{Checkpoint}
+use Rattle.votes.specs.VoteSets.{single}
+use Rattle.message_record.specs.Messages.{suits}
 use Rattle.model.specs.declared.Event.{Event}
 use Rattle.model.specs.declared.Event.the-variants.{Lock, Order, Cast, Deliver, Timeout, Decide, Stop, Save, Restore}
 use Rattle.protocol.specs.declared.Condition.the-variants.{Stopped}
@@ -21,14 +23,14 @@ use Rattle.protocol.specs.declared.Controller.{Controller}
 use Rattle.protocol.specs.declared.Answer.{Answer}
 use Rattle.protocol.specs.declared.Identity.{Identity}
 use Rattle.protocol.specs.declared.Saved.the-variants.{Newest}
-use Rattle.protocol.specs.Controllers.{runs, standsBy, phase, outcome, cleared, conclude}
+use Rattle.protocol.specs.Controllers.{runs, standsBy, phase, outcome, cleared, dropContradicting, conclude}
 use Rattle.protocol.specs.Rules.{passedOver, becomes, voteRule, firstTimeout, secondTimeout}
-use Rattle.protocol.specs.Calls.{validIdentity, vote, addressed, arrives, receive, timeout, awaitsDecision, decide, stop, checkpointOf, save}
+use Rattle.protocol.specs.Calls.{validIdentity, vote, addressed, arrives, contradictsHeld, tested, receive, timeout, awaitsDecision, decide, stop, checkpointOf, save}
 use Rattle.protocol.specs.Counts.{countsAfter}
 use Rattle.protocol.specs.Benches.{identity, message, ofKind, sentAfter}
-use Rattle.protocol.specs.Events.{concernsOne, subject, source}
+use Rattle.protocol.specs.Events.{concernsOne, subject, source, restoreFrom, answerTo}
 use Rattle.protocol.specs.Questions.{firstNo}
-use Rattle.protocol.specs.Steps.{answerTo, proposedTo, decidedAs, stationAfter, answering, keeping, restoreFrom, effect}
+use Rattle.protocol.specs.Steps.{proposedTo, decidedAs, stationAfter, answering, keeping, effectOf}
 use Rattle.protocol.proofs.view.View.{View, stationV, putBackV, sharedV, openedV, accepts, playV, ask-l, ask-r}
 
 -- one controller's answer put back
@@ -144,7 +146,7 @@ module _ (n f : ℕ) where
         }
 
     saved-back : (i : ℕ) → (runs (v .ctl i) || standsBy (v .ctl i)) ≡ true → playV n f v (Save i) ≡ savedV v i (checkpointAt v i)
-    unfolding playV effect putBackV keeping savedV
+    unfolding playV effectOf putBackV keeping savedV
     saved-back i p = λ t. record {
       order = v .order;
       state = record { sent = upd-id (v .state .sent) i t; consensus = v .state .consensus };
@@ -162,18 +164,20 @@ module _ (n f : ℕ) where
       unfolding validIdentity
       valid i e = rw (sized, e, open′)
 
-      vote-is : (i : ℕ) (w : Bool) (t : ℕ) (c : Controller) → isController n i ≡ true → runs c ≡ true → eqb (phase c) 0 ≡ true → vote (identityV v i) w t c ≡ voteRule n f i w t c
+      vote-is : (i : ℕ) (w : Bool) (t : ℕ) (c : Controller) → isController n i ≡ true → runs c ≡ true → eqb (phase c) 0 ≡ true
+          → dropContradicting n (single i w) c ≡ c → vote (identityV v i) w t c ≡ voteRule n f i w t c
       unfolding vote
-      vote-is i w t c m r p = rw (valid i m, r, p)
+      vote-is i w t c m r p k = rw (valid i m, r, p) (ap (λ (x : Controller). voteRule n f i w t x) k)
 
       addressed-is : (kind : Kind) (i j : ℕ) → isController n i ≡ true → route f kind i j ≡ true → addressed (identityV v j) (message (sharedV n f v) kind i j (v .state .sent i)) ≡ true
       unfolding addressed
       addressed-is kind i j m r = rw (eqb-same (v .order), eqb-same n, eqb-same f, eqb-same j, m, r)
 
       receive-is : (kind : Kind) (i j : ℕ) (c : Controller) → isController n i ≡ true → isController n j ≡ true → route f kind i j ≡ true → runs c ≡ true
+          → suits (message (sharedV n f v) kind i j (v .state .sent i)) ≡ true → contradictsHeld n c ((ofKind kind (v .state .sent i)) .votes) ≡ false
           → receive (identityV v j) (message (sharedV n f v) kind i j (v .state .sent i)) c ≡ arrives kind n f i ((ofKind kind (v .state .sent i)) .votes) c
-      unfolding receive
-      receive-is kind i j c m m′ r q = rw (valid j m′, q, addressed-is kind i j m r)
+      unfolding receive tested
+      receive-is kind i j c m m′ r q s t = rw (valid j m′, q, addressed-is kind i j m r, s, t, and-false)
 
       timeout-is : (i : ℕ) (c : Controller) → isController n i ≡ true → runs c ≡ true → (eqb (phase c) 1 || eqb (phase c) 2) ≡ true → timeout (identityV v i) c ≡ timeoutRule i c
       unfolding timeout timeoutRule
@@ -201,29 +205,41 @@ module _ (n f : ℕ) where
   abbrev pub answerV : View → Event → Answer
   answerV v e = answerTo (sharedV n f v) e (v .state .sent (source e)) (stationV v (subject e))
 
-  pub answered-by-rule : sizesInRange n f ≡ true → (v : View) (e : Event) → accepts n f v e ≡ true → answerV v e ≡ ruleAnswer v e
-  unfolding answerTo ruleAnswer accepts firstNo
-  answered-by-rule z v (Lock a c) q = refl
-  answered-by-rule z v (Order o) q = refl
-  answered-by-rule z v (Cast i w t) q = vote-is v z (search (ask-l, ask-r) depth 14) i w t _ (search (ask-l, ask-r) depth 14) (search (ask-l, ask-r) depth 14) (search (ask-l, ask-r) depth 14)
-  answered-by-rule z v (Deliver i j k) q = receive-is v z (search (ask-l, ask-r) depth 14) k i j _ (search (ask-l, ask-r, and-l, and-r) depth 14) (search (ask-l, ask-r, and-l, and-r) depth 14) (search (ask-l, ask-r) depth 14) (search (ask-l, ask-r) depth 14)
-  answered-by-rule z v (Timeout i) q = timeout-is v z (search (ask-l, ask-r) depth 14) i _ (search (ask-l, ask-r) depth 14) (search (ask-l, ask-r) depth 14) (search (ask-l, ask-r) depth 14)
-  answered-by-rule z v (Decide i w) q = decide-is w _ (search (ask-l, ask-r) depth 14) (search (ask-l, ask-r) depth 14)
-  answered-by-rule z v (Stop i) q = stop-is _ (search (ask-l, ask-r) depth 14)
-  answered-by-rule z v (Save i) q = refl
-  answered-by-rule z v (Restore i) q = refl
+  -- what the test of vote sets looks at: no acknowledgement held contradicts the own vote; a delivered vote set suits its kind and contradicts none held
+  abbrev pub Clear : View → Event → Type 0
+  Clear v (Lock a c) = Unit {0}
+  Clear v (Order o) = Unit {0}
+  Clear v (Cast i w t) = dropContradicting n (single i w) (v .ctl i) ≡ v .ctl i
+  Clear v (Deliver i j k) = (suits (message (sharedV n f v) k i j (v .state .sent i)) ≡ true) × (contradictsHeld n (v .ctl j) ((ofKind k (v .state .sent i)) .votes) ≡ false)
+  Clear v (Timeout i) = Unit {0}
+  Clear v (Decide i w) = Unit {0}
+  Clear v (Stop i) = Unit {0}
+  Clear v (Save i) = Unit {0}
+  Clear v (Restore i) = Unit {0}
 
-  pub performed : sizesInRange n f ≡ true → (v : View) (e : Event) → accepts n f v e ≡ true → playV n f v e ≡ performV v e
-  unfolding playV effect performV ruleAnswer
-  performed z v (Lock a c) q = refl
-  performed z v (Order o) q = refl
-  performed z v (Cast i w t) q = answer-back v i _ _ (answered-by-rule z v (Cast i w t) q)
-  performed z v (Deliver i j k) q = answer-back v j _ _ (answered-by-rule z v (Deliver i j k) q)
-  performed z v (Timeout i) q = answer-back v i _ _ (answered-by-rule z v (Timeout i) q)
-  performed z v (Decide i w) q = decision-back v i w _ _ (answered-by-rule z v (Decide i w) q)
-  performed z v (Stop i) q = answer-back v i _ _ (answered-by-rule z v (Stop i) q)
-  performed z v (Save i) q = saved-back v i (unfold accepts firstNo in search (ask-l, ask-r) depth 14)
-  performed z v (Restore i) q = answer-back v i _ _ (answered-by-rule z v (Restore i) q)
+  pub answered-by-rule : sizesInRange n f ≡ true → (v : View) (e : Event) → Clear v e → accepts n f v e ≡ true → answerV v e ≡ ruleAnswer v e
+  unfolding answerTo ruleAnswer accepts firstNo
+  answered-by-rule z v (Lock a c) k q = refl
+  answered-by-rule z v (Order o) k q = refl
+  answered-by-rule z v (Cast i w t) k q = vote-is v z (search (ask-l, ask-r) depth 14) i w t _ (search (ask-l, ask-r) depth 14) (search (ask-l, ask-r) depth 14) (search (ask-l, ask-r) depth 14) k
+  answered-by-rule z v (Deliver i j kind) k q = receive-is v z (search (ask-l, ask-r) depth 14) kind i j _ (search (ask-l, ask-r, and-l, and-r) depth 14) (search (ask-l, ask-r, and-l, and-r) depth 14) (search (ask-l, ask-r) depth 14) (search (ask-l, ask-r) depth 14) (k .0) (k .1)
+  answered-by-rule z v (Timeout i) k q = timeout-is v z (search (ask-l, ask-r) depth 14) i _ (search (ask-l, ask-r) depth 14) (search (ask-l, ask-r) depth 14) (search (ask-l, ask-r) depth 14)
+  answered-by-rule z v (Decide i w) k q = decide-is w _ (search (ask-l, ask-r) depth 14) (search (ask-l, ask-r) depth 14)
+  answered-by-rule z v (Stop i) k q = stop-is _ (search (ask-l, ask-r) depth 14)
+  answered-by-rule z v (Save i) k q = refl
+  answered-by-rule z v (Restore i) k q = refl
+
+  pub performed : sizesInRange n f ≡ true → (v : View) (e : Event) → Clear v e → accepts n f v e ≡ true → playV n f v e ≡ performV v e
+  unfolding playV effectOf performV ruleAnswer
+  performed z v (Lock a c) k q = refl
+  performed z v (Order o) k q = refl
+  performed z v (Cast i w t) k q = answer-back v i _ _ (answered-by-rule z v (Cast i w t) k q)
+  performed z v (Deliver i j kind) k q = answer-back v j _ _ (answered-by-rule z v (Deliver i j kind) k q)
+  performed z v (Timeout i) k q = answer-back v i _ _ (answered-by-rule z v (Timeout i) k q)
+  performed z v (Decide i w) k q = decision-back v i w _ _ (answered-by-rule z v (Decide i w) k q)
+  performed z v (Stop i) k q = answer-back v i _ _ (answered-by-rule z v (Stop i) k q)
+  performed z v (Save i) k q = saved-back v i (unfold accepts firstNo in search (ask-l, ask-r) depth 14)
+  performed z v (Restore i) k q = answer-back v i _ _ (answered-by-rule z v (Restore i) k q)
 
   -- a delivered message has a receiver among the controllers, and so on: the controller that an accepted event concerns is one of them
   pub place : (v : View) (e : Event) → concernsOne e ≡ true → accepts n f v e ≡ true → (1 ≤ subject e) × (subject e ≤ n)

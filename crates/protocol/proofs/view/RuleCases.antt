@@ -15,7 +15,7 @@ use Rattle.protocol.specs.declared.Saved.the-variants.{Nothing, Newest}
 use Rattle.protocol.specs.Controllers.{phase, hasAck, hasHelped, hasCalled, learn, keepAck, keepHelped, conclude}
 use Rattle.protocol.specs.Rules.{passedOver, becomes, proposing, verdict, voteArrives, firstTimeout, ackJoin, decides, sufficient, answersJoin, proposeIfSufficient, helpVotes, frozen, ready, callsHelp, secondTimeout, ackArrives, helpedArrives, keepsCall, answersCall, helpArrives}
 use Rattle.protocol.specs.Calls.{restore}
-use Rattle.protocol.specs.Steps.{restoreFrom}
+use Rattle.protocol.specs.Events.{restoreFrom}
 use Rattle.protocol.proofs.view.Performed.{timeoutRule}
 
 module _ (P : Answer → Type 0) where

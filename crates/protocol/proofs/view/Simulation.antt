@@ -1,11 +1,12 @@
--- The bench of the declared types steps as its view does: one list of stations changed at one place is three functions changed at one place.
+-- The bench of the declared types steps as its view does: one list of stations changed at one place is three functions changed at one place; and the test
+-- of vote sets, which the view does not make, finds nothing (Clear).
 use Prim.Native.Nat.{ℕ, _≤_, _<_}
-use mathlib.Core.Path.{_≡_, refl, sym, _∙_, ap}
-use mathlib.Core.Bool.{true, false, false≢true}
+use mathlib.Core.Path.{_≡_, refl, sym, _∙_, ap, subst}
+use mathlib.Core.Bool.{Bool, true, false, not, cond, true≢false, false≢true}
 use mathlib.Core.List.{List, [], _∷_, map}
 use native.Mathlib.Omega.{arith}
 use lib.ListN.{length, length-map}
-use lib.Dec.{eqb, leb}
+use lib.Dec.{leb}
 use mathlib.Core.Logic.{inl, inr}
 use borrow.Author.Tests.{leb-true}
 use Rattle.ground.specs.Limit.{limit}
@@ -13,20 +14,30 @@ use Rattle.ground.specs.Tests.{split, by-cond, and-l, and-r}
 use Rattle.ground.specs.Update.{upd, fun-ext}
 use Rattle.ground.specs.Lists.{nth, put, nth-put, length-put, map-at}
 use Rattle.model.specs.Ranges.{sizesInRange, isController}
+use Rattle.model.specs.declared.Kind.{Kind}
 use Rattle.model.specs.declared.Event.{Event}
 use Rattle.model.specs.declared.Event.the-variants.{Lock, Order, Cast, Deliver, Timeout, Decide, Stop, Save, Restore}
+use Rattle.protocol.specs.declared.Answer.{Answer}
 use Rattle.protocol.specs.declared.Station.{Station}
 use Rattle.protocol.specs.declared.Effect.{Effect}
 use Rattle.protocol.specs.declared.Sent.{Sent}
 use Rattle.protocol.specs.declared.Bench.{Bench}
 use Rattle.protocol.specs.Controllers.{cleared}
+use Rattle.protocol.specs.Rules.{isContradicted}
 use Rattle.protocol.specs.Calls.{renew}
 use Rattle.protocol.specs.Benches.{fresh, freshStation, station, controller, sentBy}
-use Rattle.protocol.specs.Events.{subject, source}
-use Rattle.protocol.specs.Questions.{isAccepted, firstNo, reply}
-use Rattle.protocol.specs.Steps.{renewed, orderOpened, proposedTo, decidedAs, answering, effect, putBack, performOne, perform, step, run}
-use Rattle.protocol.proofs.view.View.{View, putBackV, openedV, accepts, playOneV, playV, ask-l, ask-r}
-use Rattle.protocol.proofs.view.Performed.{performed, stepV, runV}
+use Rattle.protocol.specs.Events.{subject, source, answerTo}
+use Rattle.protocol.specs.Questions.{Reply, accepted, refused, isAccepted, firstNo, mayOpen, agreesAt, questionsOf, factsOf, reply}
+use Rattle.protocol.specs.QuestionLaws.{asked-last}
+use Rattle.protocol.specs.NoContradiction.{untestedReply}
+use Rattle.protocol.specs.Steps.{renewed, orderOpened, proposedTo, decidedAs, answering, effectOf, effect, putBack, performOne, perform, step, run}
+use Rattle.protocol.proofs.view.View.{View, putBackV, openedV, accepts, playOneV, playV, ask-l, ask-r, part}
+use Rattle.protocol.proofs.view.Performed.{Clear, answerV, ruleAnswer, answered-by-rule, performed, stepV, runV}
+use Rattle.protocol.proofs.view.Refusals.{arrives-unrefused}
+use Rattle.protocol.proofs.invariant.Invariant.{Inv}
+use Rattle.protocol.proofs.invariant.Orders.{step-next, next-inv}
+use Rattle.protocol.proofs.claim.Ranges.{Given, AllIn, step-in}
+use Rattle.protocol.proofs.claim.Clear.{clear}
 
 unfoldable pub view : Bench → View
 view b = record {
@@ -36,11 +47,6 @@ view b = record {
   saved = λ k. (station b k) .saved;
   counts = b .shared .counts;
 }
-
--- a part of a function changed at one place
-pub part : {A B : Type 0} (g : A → B) (F : ℕ → A) (i : ℕ) (a : A) → (λ (k : ℕ). g (upd F i a k)) ≡ upd (λ k. g (F k)) i (g a)
-unfolding upd
-part g F i a = fun-ext (λ k. g (upd F i a k)) (upd (λ k. g (F k)) i (g a)) (λ k. elim (split (eqb k i)) [ inl e ↦ rw e | inr e ↦ rw e ])
 
 -- a part of the stations after one is changed
 field : (b : Bench) (i : ℕ) → 1 ≤ i → i ≤ length (b .stations) → {B : Type 0} (g : Station → B) (s : Station)
@@ -66,11 +72,32 @@ renewed-at : {B : Type 0} (g : Station → B) (b : Bench) → _≡_ {A = ℕ →
 unfolding station
 renewed-at g b = fun-ext _ _ (λ k. ap g (map-at renewed (freshStation []) renewed-fresh (b .stations) k))
 
--- a bench with its lock
+-- what stays in range, whatever the events bring
+abbrev pub Any : ℕ → Type 0
+Any x = Unit {0}
+
+given-any : (e : Event) → Given Any Any tt e
+given-any (Lock a c) = tt
+given-any (Order o) = tt
+given-any (Cast i w t) = tt
+given-any (Deliver i j k) = tt
+given-any (Timeout i) = tt
+given-any (Decide i w) = tt
+given-any (Stop i) = tt
+given-any (Save i) = tt
+given-any (Restore i) = tt
+
+-- a bench with its lock, which keeps the invariant
 pub record Sound (b : Bench) : Type 0 where
   pub locked : b .shared .locked ≡ true
   pub size : length (b .stations) ≡ limit
   pub sized : sizesInRange (b .shared .n) (b .shared .f) ≡ true
+  pub inv : Inv (b .shared .n) (b .shared .f) (view b)
+  pub ranged : AllIn Any Any tt (b .shared .n) (b .shared .f) (view b)
+
+refused-before : (r x : Reply) → isAccepted r ≡ false → cond (isAccepted r) x r ≡ r
+refused-before accepted x e = absurd (true≢false e)
+refused-before (refused q) x e = refl
 
 pub record Ranges (n f : ℕ) : Type 0 where
   pub low : 1 ≤ f
@@ -96,10 +123,43 @@ module _ (b : Bench) (ok : Sound b) where
   unfolding isController
   place i e = let p : length (b .stations) ≡ limit = ok .size in let q : n ≤ limit = ranges n f (ok .sized) .small in let h : i ≤ n = leb-true i n (and-r (leb 1 i) (leb i n) e) in omega arith
 
-  -- with a lock the view's questions are the bench's
+  -- behind the questions the test finds nothing
+  clear-at : (e : Event) → accepts n f (view b) e ≡ true → Clear n f (view b) e
+  clear-at e q = clear Any Any tt n f (ranges n f (ok .sized) .small) (view b) (ok .inv) (ok .ranged) e q
+
+  -- the answer that an accepted event is given is the rule's
+  pub rule-sim : (e : Event) → accepts n f (view b) e ≡ true → answerTo (b .shared) e (sentBy b (source e)) (station b (subject e)) ≡ ruleAnswer n f (view b) e
+  rule-sim e q = same ∙ answered-by-rule n f (ok .sized) (view b) e (clear-at e q) q
+    where
+      same : answerTo (b .shared) e (sentBy b (source e)) (station b (subject e)) ≡ answerV n f (view b) e
+      same = unfold view in rw (ok .locked)
+
+  -- with a lock the view's questions are the bench's, but for 24
+  untested-sim : (e : Event) → isAccepted (untestedReply b e) ≡ accepts n f (view b) e
+  unfolding accepts view
+  untested-sim e = rw (ok .locked)
+
+  agrees : (i j : ℕ) (kind : Kind) → accepts n f (view b) (Deliver i j kind) ≡ true → agreesAt (b .shared) (Deliver i j kind) (sentBy b i) (station b j) ≡ true
+  unfolding ruleAnswer view
+  agrees i j kind q = ap (λ (a : Answer). not (isContradicted (a .reception))) (rule-sim (Deliver i j kind) q) ∙ ap not (arrives-unrefused kind n f i _ _ .is)
+
+  pub reply-untested : (e : Event) → reply b e ≡ untestedReply b e
+  unfolding reply
+  reply-untested (Lock a c) = refl
+  reply-untested (Order o) = refl
+  reply-untested (Cast i w t) = refl
+  reply-untested (Deliver i j kind) = elim (split (accepts n f (view b) (Deliver i j kind))) [
+    | inl q ↦ ap (λ (t : Bool). firstNo (questionsOf (factsOf (b .shared) (Deliver i j kind) (station b j) (sentBy b i) (mayOpen (b .shared)) t) (Deliver i j kind))) (agrees i j kind q)
+    | inr q ↦ asked-last (b .shared) i j kind (station b j) (sentBy b i) (mayOpen (b .shared)) (agreesAt (b .shared) (Deliver i j kind) (sentBy b i) (station b j)) ∙ refused-before _ _ (untested-sim (Deliver i j kind) ∙ q)
+  ]
+  reply-untested (Timeout i) = refl
+  reply-untested (Decide i w) = refl
+  reply-untested (Stop i) = refl
+  reply-untested (Save i) = refl
+  reply-untested (Restore i) = refl
+
   pub reply-sim : (e : Event) → isAccepted (reply b e) ≡ accepts n f (view b) e
-  unfolding reply accepts view
-  reply-sim e = rw (ok .locked)
+  reply-sim e = ap (λ (r : Reply). isAccepted r) (reply-untested e) ∙ untested-sim e
 
   view-open : (o : ℕ) → view (perform b (Order o)) ≡ openedV n f (view b) o
   unfolding view perform openedV station renewed orderOpened
@@ -136,6 +196,13 @@ module _ (b : Bench) (ok : Sound b) where
     pub same-n : b′ .shared .n ≡ b .shared .n
     pub same-f : b′ .shared .f ≡ b .shared .f
 
+  -- of it, the lock and the stations
+  record Placed (b′ : Bench) : Type 0 where
+    locked : b′ .shared .locked ≡ true
+    size : length (b′ .stations) ≡ limit
+    same-n : b′ .shared .n ≡ b .shared .n
+    same-f : b′ .shared .f ≡ b .shared .f
+
   -- an effect keeps the lock
   record Locked (t : Effect) : Type 0 where
     locked : t .shared .locked ≡ b .shared .locked
@@ -143,7 +210,7 @@ module _ (b : Bench) (ok : Sound b) where
     same-f : t .shared .f ≡ b .shared .f
 
   one-locked : (e : Event) (sent : Sent) (s : Station) → Locked (effect (b .shared) e sent s)
-  unfolding effect answering proposedTo decidedAs
+  unfolding effectOf answering proposedTo decidedAs
   one-locked (Lock a c) sent s = record { locked = refl; same-n = refl; same-f = refl }
   one-locked (Order o) sent s = record { locked = refl; same-n = refl; same-f = refl }
   one-locked (Cast i w t) sent s = record { locked = refl; same-n = refl; same-f = refl }
@@ -154,33 +221,56 @@ module _ (b : Bench) (ok : Sound b) where
   one-locked (Save i) sent s = record { locked = refl; same-n = refl; same-f = refl }
   one-locked (Restore i) sent s = record { locked = refl; same-n = refl; same-f = refl }
 
-  one-steps : (e : Event) → Steps (performOne b e)
-  one-steps e =
+  one-placed : (e : Event) → Placed (performOne b e)
+  one-placed e =
       let t : Locked (effect (b .shared) e (sentBy b (source e)) (station b (subject e))) = one-locked e _ _ in
-      record { sound = record { locked = t .locked ∙ ok .locked; size = length-put (b .stations) (subject e) _ ∙ ok .size; sized = rw (t .same-n, t .same-f) (ok .sized) }; same-n = t .same-n; same-f = t .same-f }
+      record { locked = t .locked ∙ ok .locked; size = length-put (b .stations) (subject e) _ ∙ ok .size; same-n = t .same-n; same-f = t .same-f }
 
-  perform-steps : (e : Event) → accepts n f (view b) e ≡ true → Steps (perform b e)
+  perform-placed : (e : Event) → accepts n f (view b) e ≡ true → Placed (perform b e)
   unfolding perform
-  perform-steps (Lock a c) q = unfold accepts firstNo in absurd (false≢true (ask-l _ _ _ (ask-r _ _ _ q)))
-  perform-steps (Order o) q = unfold orderOpened in record { sound = record { locked = ok .locked; size = length-map (b .stations) renewed ∙ ok .size; sized = ok .sized }; same-n = refl; same-f = refl }
-  perform-steps (Cast i w t) q = one-steps (Cast i w t)
-  perform-steps (Deliver i j k) q = one-steps (Deliver i j k)
-  perform-steps (Timeout i) q = one-steps (Timeout i)
-  perform-steps (Decide i w) q = one-steps (Decide i w)
-  perform-steps (Stop i) q = one-steps (Stop i)
-  perform-steps (Save i) q = one-steps (Save i)
-  perform-steps (Restore i) q = one-steps (Restore i)
+  perform-placed (Lock a c) q = unfold accepts firstNo in absurd (false≢true (ask-l _ _ _ (ask-r _ _ _ q)))
+  perform-placed (Order o) q = unfold orderOpened in record { locked = ok .locked; size = length-map (b .stations) renewed ∙ ok .size; same-n = refl; same-f = refl }
+  perform-placed (Cast i w t) q = one-placed (Cast i w t)
+  perform-placed (Deliver i j k) q = one-placed (Deliver i j k)
+  perform-placed (Timeout i) q = one-placed (Timeout i)
+  perform-placed (Decide i w) q = one-placed (Decide i w)
+  perform-placed (Stop i) q = one-placed (Stop i)
+  perform-placed (Save i) q = one-placed (Save i)
+  perform-placed (Restore i) q = one-placed (Restore i)
 
-  pub step-steps : (e : Event) → Steps (step b e)
+  step-placed : (e : Event) → Placed (step b e)
   unfolding step
-  step-steps e = by-cond Steps (isAccepted (reply b e)) (perform b e) b (λ q. perform-steps e (sym (reply-sim e) ∙ q)) (λ q. record { sound = ok; same-n = refl; same-f = refl })
+  step-placed e = by-cond Placed (isAccepted (reply b e)) (perform b e) b (λ q. perform-placed e (sym (reply-sim e) ∙ q)) (λ q. record { locked = ok .locked; size = ok .size; same-n = refl; same-f = refl })
 
   pub step-sim : (e : Event) → view (step b e) ≡ stepV n f (view b) e
   unfolding step stepV
   step-sim e = elim (split (accepts n f (view b) e)) [
-    | inl q ↦ rw (reply-sim e, q) (perform-sim e q ∙ performed n f (ok .sized) (view b) e q)
+    | inl q ↦ rw (reply-sim e, q) (perform-sim e q ∙ performed n f (ok .sized) (view b) e (clear-at e q) q)
     | inr q ↦ rw (reply-sim e, q)
   ]
+
+  pub step-steps : (e : Event) → Steps (step b e)
+  step-steps e =
+      let t : Placed (step b e) = step-placed e in
+      let r : Ranges n f = ranges n f (ok .sized) in
+      let i : Inv n f (stepV n f (view b) e) = next-inv n f (r .high) (r .low) (r .small) (view b) _ (step-next n f (r .high) (r .low) (r .small) (view b) e (ok .inv)) in
+      let a : AllIn Any Any tt n f (stepV n f (view b) e) = step-in Any Any tt n f (r .small) (view b) e (ok .inv) (λ q. given-any e) (ok .ranged) in
+      record {
+        sound = record {
+          locked = t .locked;
+          size = t .size;
+          sized = rw (t .same-n, t .same-f) (ok .sized);
+          inv = back Inv t i;
+          ranged = back (AllIn Any Any tt) t a;
+        };
+        same-n = t .same-n;
+        same-f = t .same-f;
+      }
+    where
+      -- from the view's step to the bench's
+      back : (P : ℕ → ℕ → View → Type 0) → Placed (step b e) → P n f (stepV n f (view b) e) → P ((step b e) .shared .n) ((step b e) .shared .f) (view (step b e))
+      back P t p = subst (λ (x : ℕ). P x ((step b e) .shared .f) (view (step b e))) (sym (t .same-n))
+          (subst (λ (x : ℕ). P n x (view (step b e))) (sym (t .same-f)) (subst (P n f) (sym (step-sim e)) p))
 
 pub record Runs (b b′ : Bench) (v : View) : Type 0 where
   pub sound : Sound b′

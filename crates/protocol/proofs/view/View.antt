@@ -3,9 +3,12 @@
 -- Performed.antt which rule an accepted event comes down to.
 use Prim.Native.Nat.{ℕ}
 use mathlib.Core.Path.{_≡_, refl, sym}
+use mathlib.Core.Logic.{inl, inr}
+use lib.Dec.{eqb}
+use Rattle.ground.specs.Tests.{split}
 use native.Mathlib.Omega.{arith}
 use mathlib.Core.Bool.{Bool, true, false}
-use Rattle.ground.specs.Update.{upd}
+use Rattle.ground.specs.Update.{upd, fun-ext}
 use Rattle.model.specs.declared.Outcome.{Outcome}
 use Rattle.model.specs.declared.Outcome.the-variants.{None}
 use Rattle.model.specs.declared.Event.{Event}
@@ -65,8 +68,9 @@ module _ (n f : ℕ) where
   abbrev pub sharedV : View → Shared
   sharedV v = record { locked = true; n = n; f = f; order = v .order; consensus = v .state .consensus; counts = v .counts }
 
+  -- the questions, but for 24: that it is answered yes is shown in Simulation
   unfoldable pub accepts : View → Event → Bool
-  accepts v e = isAccepted (firstNo (questionsOf (factsOf (sharedV v) e (stationV v (subject e)) (v .state .sent (source e)) (mayOpen (sharedV v))) e))
+  accepts v e = isAccepted (firstNo (questionsOf (factsOf (sharedV v) e (stationV v (subject e)) (v .state .sent (source e)) (mayOpen (sharedV v)) true) e))
 
   -- a new order
   unfoldable pub openedV : View → ℕ → View
@@ -92,6 +96,11 @@ module _ (n f : ℕ) where
   playV v (Stop i) = playOneV v (Stop i)
   playV v (Save i) = playOneV v (Save i)
   playV v (Restore i) = playOneV v (Restore i)
+
+-- a part of a function changed at one place
+pub part : {A B : Type 0} (g : A → B) (F : ℕ → A) (i : ℕ) (a : A) → (λ (k : ℕ). g (upd F i a k)) ≡ upd (λ k. g (F k)) i (g a)
+unfolding upd
+part g F i a = fun-ext (λ k. g (upd F i a k)) (upd (λ k. g (F k)) i (g a)) (λ k. elim (split (eqb k i)) [ inl e ↦ rw e | inr e ↦ rw e ])
 
 -- an accepted event passed each test: one premise each, so that `search` finds them
 pub ask-l : (q : ℕ) (t : Bool) (rest : Reply) → isAccepted (unless q t rest) ≡ true → t ≡ true

@@ -1,12 +1,20 @@
--- `votes::join` meets its contract: the code is the definition.
-use mathlib.Core.Path.{refl}
-use Rattle.votes.specs.VoteSets.{join}
+-- `votes::join` meets its contract, by what `contradicts` ensures.
+use Rattle.votes.specs.VoteSets.{union}
+use Rattle.votes.specs.Joining.{join}
+use borrow.Author.Needs.{needs}
 use Rattle.votes.proofs.join.Statement.{statement}
 use Rattle.votes.proofs.join.Tie as tie
 
+contradicts-requires : tie.Need-contradicts-requires
+contradicts-requires c κs = search needs
+
 returns : tie.Need-returns
-unfolding join
-returns c = refl
+unfolding join union
+returns c = simp (← c .before .contradicts .ensures, c .if1 .taken)
+
+returns-2 : tie.Need-returns-2
+unfolding join union
+returns-2 c = simp (← c .before .before .before .before .before .contradicts .ensures, c .before .before .before .before .if1 .left)
 
 pub join-spec : {M : Type 1} → statement M
-join-spec = tie.close (tie.spec returns)
+join-spec = tie.close (tie.spec contradicts-requires returns returns-2)

@@ -1,18 +1,19 @@
--- `votes::join_all` meets its contract. The invariant: after k senders the set is the join of the vote sets of those of 1..k. The array has no more
+-- `votes::join_all` meets its contract. The invariant: after k senders the vote sets of those of 1..k agree, and the set is their join. The array has no more
 -- than 16, so the senders after that add nothing.
-use Rattle.votes.proofs.Computed.{joined-all}
-use Prim.Native.Nat.{ℕ, _-_, _≤_, min}
-use mathlib.Core.Path.{_≡_, _∙_, ap}
+use Rattle.votes.proofs.Computed.{skipped, added, joined-all, contradicted-all}
+use Prim.Native.Nat.{ℕ, _+_, _-_, _≤_, min}
+use mathlib.Core.Path.{_≡_, sym, _∙_, ap}
 use native.Mathlib.Omega.{arith}
-use native.Mathlib.Numerals.{add-one}
+use borrow.Author.Tests.{not-true, not-false}
 use borrow.Author.Needs.{needs}
 use Rattle.ground.specs.Lists.{nth}
-use Rattle.votes.specs.VoteSets.{joinAll}
+use Rattle.votes.specs.Joining.{joinAll}
+use Rattle.votes.specs.declared.Joined.the-variants.{Agreed}
 use Rattle.votes.proofs.join_all.Statement.{statement}
 use Rattle.votes.proofs.join_all.Tie as tie
 
 abbrev Inv-loop : tie.InvT-loop
-Inv-loop m from sets joined₀ end k₀ joined k = (k ≤ end) × (joined ≡ joinAll k from sets)
+Inv-loop m from sets joined₀ end k₀ joined k = (k ≤ end) × (joinAll k from sets ≡ Agreed joined)
 
 abbrev μ-loop : tie.MeasureT-loop
 μ-loop m from sets joined₀ end k₀ joined k = end - k
@@ -25,7 +26,7 @@ up-to-limit-requires c κs = search needs
 
 loop-holds : tie.Need-loop-holds Inv-loop μ-loop
 unfolding joinAll
-loop-holds c = (omega arith, c .before .empty-set .ensures)
+loop-holds c = (omega arith, ap Agreed (sym (c .before .empty-set .ensures)))
 
 cast-at : tie.Need-cast-at Inv-loop μ-loop
 cast-at c = search needs
@@ -39,21 +40,48 @@ array-copy-out-s c = omega arith
 add-k : tie.Need-add-k Inv-loop μ-loop
 add-k c = omega arith
 
-join-if-requires : tie.Need-join-if-requires Inv-loop μ-loop
-join-if-requires c κs = search needs
+has-requires : tie.Need-has-requires Inv-loop μ-loop
+has-requires c κs = search needs
 
 loop-less : tie.Need-loop-less Inv-loop μ-loop
 loop-less c = omega arith
 
 loop-again : tie.Need-loop-again Inv-loop μ-loop
-unfolding joinAll nth
-loop-again c = (omega arith, c .join-if .ensures ∙ rw (add-one, c .before .before .before .loop .inv .1))
+loop-again c = (omega arith, skipped _ _ _ _ (sym (c .before .has .ensures) ∙ not-true _ (c .if1 .taken)) (c .before .before .before .before .loop .inv .1))
+
+join-requires : tie.Need-join-requires Inv-loop μ-loop
+join-requires c κs = search needs
+
+enum-known-next : tie.Need-enum-known-next Inv-loop μ-loop
+enum-known-next c = search needs
+
+enum-told : tie.Need-enum-told Inv-loop μ-loop
+enum-told c = search needs
 
 returns : tie.Need-returns Inv-loop μ-loop
+unfolding nth
 returns c =
+    let start = c .before .before .before .before .before .before .before .before .before .before .args in
+    let loop = c .before .before .before .before .before .before .before .loop in
+    sym (contradicted-all (loop .k + 1) (start .m) 16 (start .from) (start .t3) (search needs) (omega arith)
+    (added _ _ _ _ _ (sym (c .before .before .before .before .has .ensures) ∙ not-false _ (c .before .before .before .if1 .left)) (loop .inv .1) (sym (c .enum-told .given .1) ∙ c .before .before .join .ensures)))
+
+loop-less-2 : tie.Need-loop-less-2 Inv-loop μ-loop
+loop-less-2 c = omega arith
+
+loop-again-2 : tie.Need-loop-again-2 Inv-loop μ-loop
+unfolding nth
+loop-again-2 c = (
+  omega arith,
+  added _ _ _ _ _ (sym (c .before .before .before .before .before .has .ensures) ∙ not-false _ (c .before .before .before .before .if1 .left))
+      (c .before .before .before .before .before .before .before .before .loop .inv .1) (sym (c .before .next .given .1) ∙ c .before .before .before .join .ensures),
+)
+
+returns-2 : tie.Need-returns-2 Inv-loop μ-loop
+returns-2 c =
     let start = c .before .before .before .before .args in
     let e : c .before .loop .k ≡ min (start .m) 16 = omega arith in
-    c .before .loop .inv .1
+    sym (c .before .loop .inv .1)
     ∙ (ap (λ (x : ℕ). joinAll x (start .from) (start .t3)) e ∙ joined-all (start .m) 16 (start .from) (start .t3) (search needs))
 
 pub join-all-spec : {M : Type 1} → statement M
@@ -69,7 +97,13 @@ join-all-spec =
     mul-s
     array-copy-out-s
     add-k
-    join-if-requires
+    has-requires
     loop-less
     loop-again
-    returns)
+    join-requires
+    enum-known-next
+    enum-told
+    returns
+    loop-less-2
+    loop-again-2
+    returns-2)

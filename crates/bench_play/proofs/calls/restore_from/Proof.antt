@@ -1,4 +1,4 @@
-use Rattle.protocol.specs.Steps.{restoreFrom}
+use Rattle.protocol.specs.Events.{restoreFrom}
 use borrow.Author.Needs.{needs}
 use Rattle.bench_play.proofs.calls.restore_from.Statement.{statement}
 use Rattle.bench_play.proofs.calls.restore_from.Tie as tie

@@ -1,5 +1,4 @@
 use Rattle.protocol.specs.Steps.{decidedAs}
-use borrow.Author.Tests.{le-leb, lt-leb, lt-ltb, le-ltb, eq-eqb, ne-eqb}
 use borrow.Author.Needs.{needs}
 use Rattle.bench_play.proofs.effects.decided_as.Statement.{statement}
 use Rattle.bench_play.proofs.effects.decided_as.Tie as tie

@@ -1,4 +1,3 @@
-use borrow.Author.Tests.{le-leb, lt-leb, lt-ltb, le-ltb, eq-eqb, ne-eqb}
 use borrow.Author.Needs.{needs}
 use Rattle.bench_play.proofs.plays.answer_of_one.Statement.{statement}
 use Rattle.bench_play.proofs.plays.answer_of_one.Tie as tie

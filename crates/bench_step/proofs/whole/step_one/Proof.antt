@@ -37,7 +37,7 @@ returns : tie.Need-returns
 returns c =
     let s = c .before .before .before .before .before .before in
     let p = c .before .play .result in
-    refuses (s .args .b) (s .args .e) (p .answer) (one-answer (s .args .b) (s .args .e) (s .pre) p (played (c .before))) (c .if1 .taken)
+    refuses (s .args .b) (s .args .e) (p .answer) (one-answer (s .args .b) (s .args .e) (sixteen s) (s .pre) p (played (c .before))) (c .if1 .taken)
 
 cast-if2 : tie.Need-cast-if2
 cast-if2 c = search needs
@@ -46,12 +46,12 @@ returns-2 : tie.Need-returns-2
 returns-2 c =
     let s = c .before .before .before .before .before .before .before .before .before in
     let h = rw (c .before .before .before .before .before .before .before .before .subject .ensures) at (c .if2 .taken) in
-    one-past (s .args .b) (s .args .e) (s .pre) _ (played (c .before .before .before .before)) (sixteen s) (c .before .before .before .if1 .left) h
+    one-past (s .args .b) (s .args .e) (sixteen s) (s .pre) _ (played (c .before .before .before .before)) (c .before .before .before .if1 .left) h
 
 sub-at : tie.Need-sub-at
 sub-at c =
     let s = c .before .before .before .before .before .before .before .before .before in
-    let h = one-first (s .args .b) (s .args .e) (s .pre) _ (played (c .before .before .before .before)) (c .before .before .before .if1 .left) in
+    let h = one-first (s .args .b) (s .args .e) (sixteen s) (s .pre) _ (played (c .before .before .before .before)) (c .before .before .before .if1 .left) in
     rw (c .before .before .before .before .before .before .before .before .subject .ensures) h
 
 cast-at : tie.Need-cast-at
@@ -69,7 +69,7 @@ returns-3 c =
     let s = c .before .before .before .before .before .before .before .before .before .before in
     let i = c .before .before .before .before .before .before .before .before .before .subject .ensures in
     let h = rw i at (c .before .if2 .left) in
-    rw i (one-within (s .args .b) (s .args .e) (s .pre) _ (played (c .before .before .before .before .before)) (sixteen s) (c .before .before .before .before .if1 .left) h)
+    rw i (one-within (s .args .b) (s .args .e) (sixteen s) (s .pre) _ (played (c .before .before .before .before .before)) (c .before .before .before .before .if1 .left) h)
 
 pub step-one-spec : {M : Type 1} → statement M
 step-one-spec =

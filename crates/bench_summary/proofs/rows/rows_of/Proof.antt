@@ -1,6 +1,6 @@
 -- `bench_summary::rows::rows_of` meets its contract. The invariant: the first i rows are those of the stations, the others blank.
 use Prim.Native.Nat.{_≤_, _<_, _-_}
-use mathlib.Core.List.{List, [], _++_, map}
+use mathlib.Core.List.{[], _++_, map}
 use mathlib.Core.Path.{_≡_, refl, sym, _∙_}
 use native.Mathlib.Omega.{arith}
 use lib.ListN.{length, take, drop, replicate, length-map, length-replicate, List·getD-map}

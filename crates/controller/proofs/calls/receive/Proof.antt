@@ -1,3 +1,4 @@
+-- `receive` meets its contract: behind the tests of identity, condition, address and vote set it is the rule's answer, tested.
 use borrow.Author.Tests.{not-false, not-true}
 use Rattle.protocol.specs.Calls.{receive}
 use borrow.Author.Needs.{needs}
@@ -24,12 +25,25 @@ returns-2 : tie.Need-returns-2
 unfolding receive
 returns-2 c = simp (← c .before .before .before .before .takes-part .ensures, not-false (c .before .before .before .before .takes-part .result) (c .before .before .before .if1 .left), ← c .before .before .addressed .ensures, not-true (c .before .before .addressed .result) (c .before .if2 .taken), c .passed-over2 .ensures)
 
-arrives-requires : tie.Need-arrives-requires
-arrives-requires c κs = search needs
+suits-requires : tie.Need-suits-requires
+suits-requires c κs = search needs
+
+passed-over-requires-3 : tie.Need-passed-over-requires-3
+passed-over-requires-3 c κs = search needs
 
 returns-3 : tie.Need-returns-3
 unfolding receive
-returns-3 c = simp (← c .before .before .before .before .takes-part .ensures, not-false (c .before .before .before .before .takes-part .result) (c .before .before .before .if1 .left), ← c .before .before .addressed .ensures, not-false (c .before .before .addressed .result) (c .before .if2 .left), c .arrives .ensures)
+returns-3 c = simp (← c .before .before .before .before .before .before .takes-part .ensures, not-false (c .before .before .before .before .before .before .takes-part .result) (c .before .before .before .before .before .if1 .left), ← c .before .before .before .before .addressed .ensures, not-false (c .before .before .before .before .addressed .result) (c .before .before .before .if2 .left), ← c .before .before .suits .ensures, not-true (c .before .before .suits .result) (c .before .if3 .taken), c .passed-over3 .ensures)
+
+arrives-requires : tie.Need-arrives-requires
+arrives-requires c κs = search needs
+
+tested-requires : tie.Need-tested-requires
+tested-requires c κs = search needs
+
+returns-4 : tie.Need-returns-4
+unfolding receive
+returns-4 c = simp (← c .before .before .before .before .before .before .before .before .takes-part .ensures, not-false (c .before .before .before .before .before .before .before .before .takes-part .result) (c .before .before .before .before .before .before .before .if1 .left), ← c .before .before .before .before .before .before .addressed .ensures, not-false (c .before .before .before .before .before .before .addressed .result) (c .before .before .before .before .before .if2 .left), ← c .before .before .before .before .suits .ensures, not-false (c .before .before .before .before .suits .result) (c .before .before .before .if3 .left), c .before .arrives .ensures, c .tested .ensures)
 
 pub receive-spec : {M : Type 1} → statement M
 receive-spec =
@@ -41,5 +55,9 @@ receive-spec =
     addressed-requires
     passed-over-requires-2
     returns-2
+    suits-requires
+    passed-over-requires-3
+    returns-3
     arrives-requires
-    returns-3)
+    tested-requires
+    returns-4)

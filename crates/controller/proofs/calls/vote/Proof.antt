@@ -24,12 +24,18 @@ returns-2 : tie.Need-returns-2
 unfolding vote
 returns-2 c = simp (← c .before .before .before .before .takes-part .ensures, not-false (c .before .before .before .before .takes-part .result) (c .before .before .before .if1 .left), ← c .before .before .phase-in .ensures, ne-eqb _ _ (c .before .if2 .taken), c .passed-over2 .ensures)
 
+single-requires : tie.Need-single-requires
+single-requires c κs = search needs
+
+drop-contradicting-requires : tie.Need-drop-contradicting-requires
+drop-contradicting-requires c κs = search needs
+
 vote-rule-requires : tie.Need-vote-rule-requires
 vote-rule-requires c κs = search needs
 
 returns-3 : tie.Need-returns-3
 unfolding vote
-returns-3 c = simp (← c .before .before .before .before .takes-part .ensures, not-false (c .before .before .before .before .takes-part .result) (c .before .before .before .if1 .left), ← c .before .before .phase-in .ensures, eq-eqb _ _ (c .before .if2 .left), c .vote-rule .ensures)
+returns-3 c = simp (← c .before .before .before .before .before .before .takes-part .ensures, not-false (c .before .before .before .before .before .before .takes-part .result) (c .before .before .before .before .before .if1 .left), ← c .before .before .before .before .phase-in .ensures, eq-eqb _ _ (c .before .before .before .if2 .left), ← c .before .before .single .ensures, ← c .before .drop-contradicting .ensures, c .vote-rule .ensures)
 
 pub vote-spec : {M : Type 1} → statement M
 vote-spec =
@@ -41,5 +47,7 @@ vote-spec =
     phase-in-requires
     passed-over-requires-2
     returns-2
+    single-requires
+    drop-contradicting-requires
     vote-rule-requires
     returns-3)

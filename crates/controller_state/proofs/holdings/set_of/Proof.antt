@@ -4,8 +4,8 @@ use lib.ListN.{length}
 use Rattle.ground.specs.Lists.{nth, nth-at, nth-past}
 use Rattle.votes.specs.VoteSets.{empty}
 use borrow.Author.Needs.{needs}
-use Rattle.controller_verdicts.proofs.deciding.set_of.Statement.{statement}
-use Rattle.controller_verdicts.proofs.deciding.set_of.Tie as tie
+use Rattle.controller_state.proofs.holdings.set_of.Statement.{statement}
+use Rattle.controller_state.proofs.holdings.set_of.Tie as tie
 
 empty-set-requires : tie.Need-empty-set-requires
 empty-set-requires c κs = search needs

@@ -1,0 +1,61 @@
+-- `drop_if` meets its contract: both tests are the definition's, of the vote set that the list has of j.
+use mathlib.Core.Path.{sym, _∙_, ap}
+use Rattle.votes.specs.Joining.{contradicts}
+use Rattle.votes.specs.declared.VoteSet.{VoteSet}
+use Rattle.protocol.specs.Controllers.{dropIf}
+use borrow.Author.Tests.{not-true, not-false}
+use borrow.Author.Needs.{needs}
+use Rattle.controller_state.proofs.holdings.drop_if.Statement.{statement}
+use Rattle.controller_state.proofs.holdings.drop_if.Tie as tie
+
+has-requires : tie.Need-has-requires
+has-requires c κs = search needs
+
+returns : tie.Need-returns
+unfolding dropIf
+returns c = rw (sym (c .before .has .ensures) ∙ not-true _ (c .if1 .taken))
+
+set-of-requires : tie.Need-set-of-requires
+set-of-requires c κs = search needs
+
+contradicts-requires : tie.Need-contradicts-requires
+contradicts-requires c κs = search needs
+
+returns-2 : tie.Need-returns-2
+unfolding dropIf
+returns-2 c =
+    let start = c .before .before .before .before .before .before .args in
+    rw (
+      sym (c .before .before .before .before .before .has .ensures) ∙ not-false _ (c .before .before .before .before .if1 .left),
+      ap (λ (x : VoteSet). contradicts x (start .s)) (sym (c .before .before .set-of .ensures)) ∙ sym (c .before .contradicts .ensures) ∙ not-true _ (c .if2 .taken),
+    )
+
+remove-requires : tie.Need-remove-requires
+remove-requires c κs = search needs
+
+lower-requires : tie.Need-lower-requires
+lower-requires c κs = search needs
+
+returns-3 : tie.Need-returns-3
+unfolding dropIf
+returns-3 c =
+    let start = c .before .before .before .before .before .before .before .before .args in
+    rw (
+      sym (c .before .before .before .before .before .before .before .has .ensures) ∙ not-false _ (c .before .before .before .before .before .before .if1 .left),
+      ap (λ (x : VoteSet). contradicts x (start .s)) (sym (c .before .before .before .before .set-of .ensures)) ∙ sym (c .before .before .before .contradicts .ensures) ∙ not-false _ (c .before .before .if2 .left),
+      c .before .remove .ensures,
+      c .lower .ensures,
+    )
+
+pub drop-if-spec : {M : Type 1} → statement M
+drop-if-spec =
+    tie.close
+    (tie.spec
+    has-requires
+    returns
+    set-of-requires
+    contradicts-requires
+    returns-2
+    remove-requires
+    lower-requires
+    returns-3)
