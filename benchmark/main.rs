@@ -1,5 +1,9 @@
-//! Events per second of the proved bench beside the reference implementation, on the same schedules, in one process.
+//! The proved bench beside two others on the same schedules, in one process: the reference implementation, written for clarity, and the
+//! fast one beside this file, written for speed. What the three print is compared before anything is timed.
 //! benchmark SCHEDULES: a file of schedules, each after its length in four bytes.
+
+mod fast;
+mod schedules;
 
 use reference::text::bench_report;
 use std::hint::black_box;
@@ -18,41 +22,61 @@ mod proved {
     }
 }
 
-const ROUNDS: u32 = 7;
+/// A schedule is timed as often as it takes to play so many events, at least so many times; its best time counts.
+const EVENTS_TIMED: usize = 4_000_000;
+const LEAST_ROUNDS: usize = 30;
+
+/// Schedules whose times are added up.
+struct Set<'a> {
+    name: &'a str,
+    schedules: Vec<&'a [u8]>,
+}
 
 fn main() {
     let path = std::env::args().nth(1).expect("usage: benchmark SCHEDULES");
     let file = std::fs::read(path).expect("the file of schedules is read");
-    let schedules = split(&file);
-    let events: usize = schedules.iter().map(|schedule| schedule.len() / 10).sum();
+    let clean_16 = schedules::clean_orders(16, 15);
+    let clean_4 = schedules::clean_orders(4, 2);
+    let repeated = schedules::repeated_deliveries();
+    let refused = schedules::refused();
+    let one = |name, schedule| Set { name, schedules: vec![schedule] };
+    let sets = [
+        Set { name: "generated mix", schedules: split(&file) },
+        one("clean orders, n = 16, f = 15", &clean_16),
+        one("clean orders, n = 4, f = 2", &clean_4),
+        one("repeated deliveries", &repeated),
+        one("all refused", &refused),
+    ];
     let mut out = vec![0u8; 100_000];
-    for schedule in &schedules {
+    let mut other = vec![0u8; 100_000];
+    for schedule in sets.iter().flat_map(|set| &set.schedules) {
         let length = proved::report(schedule, &mut out);
-        assert_eq!(&out[..length], bench_report(schedule).as_bytes(), "the two print the same");
+        let expected = bench_report(schedule);
+        assert!(out[..length] == *expected.as_bytes(), "the proved bench and the reference print the same");
+        let length = fast::report(schedule, &mut other);
+        assert!(other[..length] == *expected.as_bytes(), "the fast one and the reference print the same");
     }
-    let (mut ours, mut theirs) = (f64::MAX, f64::MAX);
-    for _ in 0..ROUNDS {
-        ours = ours.min(seconds(|| {
-            for schedule in &schedules {
-                black_box(proved::report(black_box(schedule), &mut out));
+    println!("| nanoseconds an event | events | proved | fast | ratio | clear | ratio |");
+    println!("|---|---|---|---|---|---|---|");
+    for set in &sets {
+        let events: usize = set.schedules.iter().map(|schedule| schedule.len().div_ceil(10)).sum();
+        let rounds = LEAST_ROUNDS.max(EVENTS_TIMED / events);
+        let mut times = vec![[f64::MAX; 3]; set.schedules.len()];
+        for _ in 0..rounds {
+            for (schedule, best) in set.schedules.iter().zip(&mut times) {
+                best[0] = best[0].min(seconds(|| proved::report(black_box(schedule), &mut out)));
+                best[1] = best[1].min(seconds(|| fast::report(black_box(schedule), &mut out)));
+                best[2] = best[2].min(seconds(|| bench_report(black_box(schedule)).len()));
             }
-        }));
-        theirs = theirs.min(seconds(|| {
-            for schedule in &schedules {
-                black_box(bench_report(black_box(schedule)));
-            }
-        }));
+        }
+        let [proved, fast, clear] = [0, 1, 2].map(|k| times.iter().map(|best| best[k]).sum::<f64>() * 1e9 / events as f64);
+        println!("| {} | {events} | {proved:.1} | {fast:.1} | {:.2} | {clear:.1} | {:.2} |", set.name, fast / proved, clear / proved);
     }
-    let rate = |time: f64| events as f64 / time;
-    println!("{} schedules, {events} events, best of {ROUNDS} rounds", schedules.len());
-    println!("proved bench   {:>12.0} events per second", rate(ours));
-    println!("reference      {:>12.0} events per second", rate(theirs));
-    println!("ratio          {:>12.2} (proved over reference)", rate(ours) / rate(theirs));
 }
 
-fn seconds(work: impl FnOnce()) -> f64 {
+fn seconds(report: impl FnOnce() -> usize) -> f64 {
     let start = Instant::now();
-    work();
+    black_box(report());
     start.elapsed().as_secs_f64()
 }
 

@@ -1,5 +1,5 @@
 #!/usr/bin/env bash
-# Measures the proved bench beside the reference implementation, then an order event alone: ./benchmark/run.sh
+# Measures the proved bench beside the reference implementation and beside one written for speed, then an order event alone: ./benchmark/run.sh
 set -euo pipefail
 cd "$(dirname "$0")/.."
 ref=target/reference

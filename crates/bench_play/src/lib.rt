@@ -5,6 +5,7 @@ mod effects;
 mod plays;
 mod sends;
 
+pub use effects::untested_effect;
 pub use plays::play;
 use protocol::Shared;
 use protocol::Station;

@@ -1,1 +1,3 @@
 mod Fitting
+mod Short
+mod Counting

@@ -5,3 +5,4 @@ pub mod Report
 pub mod Listing
 -- how long it can be
 pub mod Room
+pub mod Digits

@@ -34,6 +34,14 @@ pub const LONGEST_OUTPUT: usize = MOST_ANSWERS * ANSWER_LINE
     + LIMIT * CONTROLLER_LINE
     + MESSAGE_LINE;
 
+// The last four digits of a number, as they are printed.
+pub struct Digits {
+    pub thousands: u8,
+    pub hundreds: u8,
+    pub tens: u8,
+    pub ones: u8,
+}
+
 // What a C line shows of a controller.
 pub struct Row {
     pub stage: u8,

@@ -12,7 +12,7 @@ ghost use mathlib.Core.List.{map};
 ghost use Rattle.model.specs.declared.Event.the-variants.{Order};
 ghost use Rattle.protocol.specs.Counts.{openGates};
 ghost use Rattle.protocol.specs.Questions.{mayOpen};
-ghost use Rattle.protocol.specs.Steps.{renewed, perform};
+ghost use Rattle.protocol.specs.Steps.{renewed, orderOpened, perform};
 
 // How many gates are still open: the number that the bench keeps, for the panel.
 pub fn open_gates(m: Shared) -> u8
@@ -22,7 +22,7 @@ pub fn open_gates(m: Shared) -> u8
 }
 
 // 13: no order yet, or no gate still open.
-pub(crate) fn may_open(m: Shared) -> bool
+pub fn may_open(m: Shared) -> bool
     ensures { λ r. ⌜ r ≡ mayOpen m ⌝ }
 {
     if m.order == 0 {
@@ -32,7 +32,7 @@ pub(crate) fn may_open(m: Shared) -> bool
 }
 
 // A station in a new order: old messages are gone, the checkpoint remains.
-fn renewed(s: Station) -> Station
+pub fn renewed(s: Station) -> Station
     ensures { λ r. ⌜ r ≡ renewed s ⌝ }
 {
     let saved = s.saved;
@@ -56,19 +56,25 @@ fn renew_all(stations: [Station; LIMIT]) -> [Station; LIMIT]
     all
 }
 
-// The bench in a new order: words put and the arbiter's choice are gone too.
-pub(crate) fn opened(b: Bench, order: u32) -> Bench
-    ensures { λ r. ⌜ r ≡ perform b (Order order) ⌝ }
+// What is shared, in a new order: words put and the arbiter's choice are gone too.
+pub fn order_opened(m: Shared, order: u32) -> Shared
+    ensures { λ r. ⌜ r ≡ orderOpened m order ⌝ }
 {
-    let m = b.shared;
     let consensus = no_consensus();
     let counts = all_undecided(m.counts.present);
-    let shared = Shared {
+    Shared {
         order,
         consensus,
         counts,
         ..m
-    };
+    }
+}
+
+// The bench in a new order.
+pub(crate) fn opened(b: Bench, order: u32) -> Bench
+    ensures { λ r. ⌜ r ≡ perform b (Order order) ⌝ }
+{
+    let shared = order_opened(b.shared, order);
     let stations = b.stations;
     let renewed = renew_all(stations);
     Bench {

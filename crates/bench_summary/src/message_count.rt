@@ -1,9 +1,10 @@
 // How many messages were sent in this order.
 ghost use mathlib.Core.Path.{_≡_};
-ghost use mathlib.Core.List.{[]};
-ghost use Prim.Native.Nat.{suc};
-ghost use Rattle.ground.specs.Lists.{nth};
-ghost use Rattle.protocol.specs.Benches.{freshStation, ofKind};
+ghost use mathlib.Core.Bool.{cond};
+ghost use Prim.Native.Nat.{_<_};
+ghost use lib.Dec.{ltb};
+ghost use Rattle.ground.specs.Limit.{limit};
+ghost use Rattle.protocol.specs.Benches.{ofKind};
 ghost use Rattle.protocol.specs.Display.{messageCount};
 use ground::LIMIT;
 use ground::size;
@@ -24,29 +25,38 @@ fn receivers(kind: Kind, sent: Sent) -> u32
     }
 }
 
-// The same of the controller at an index of the bench's stations; beyond the last there is none.
-fn receivers_at(stations: [Station; LIMIT], kind: Kind, i: usize) -> u32
-    ensures { λ r. ⌜ r ≡ (ofKind kind ((nth (freshStation []) stations (suc i)) .sent)) .to ⌝ }
+// The index itself, or 0 past the last station.
+fn place_of(i: usize) -> usize
+    ensures { λ r. ⌜ (r < limit) × (i < limit → r ≡ i) ⌝ }
 {
-    if LIMIT <= i {
-        return 0;
+    if i < LIMIT {
+        return i;
     }
-    let s = stations[i];
-    let sent = s.sent;
-    receivers(kind, sent)
+    0
+}
+
+// To whom the controller at an index has sent messages of this kind, its station given; past the last station there is none.
+fn receivers_at(i: usize, kind: Kind, s: Station) -> u32
+    ensures { λ r. ⌜ r ≡ cond (ltb i limit) ((ofKind kind (s .sent)) .to) 0 ⌝ }
+{
+    if i < LIMIT {
+        return receivers(kind, s.sent);
+    }
+    0
 }
 
 // The messages of one kind: each sender's receivers, counted.
 pub(crate) fn message_count(b: Bench, kind: Kind) -> u32
     ensures { λ r. ⌜ r ≡ messageCount b kind ⌝ }
 {
-    let n = b.shared.n;
-    let end = n as usize;
+    let end = b.shared.n as usize;
+    let stations = b.stations;
     let mut total: u32 = 0;
     let mut i: usize = 0;
     while i < end {
-        let stations = b.stations;
-        total += size(receivers_at(stations, kind, i), n) as u32;
+        let at = place_of(i);
+        let s = stations[at];
+        total += size(receivers_at(i, kind, s), b.shared.n) as u32;
         i += 1;
     }
     total

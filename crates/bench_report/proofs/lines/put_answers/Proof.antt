@@ -1,9 +1,11 @@
--- `bench_report::lines::put_answers` meets its contract. The invariant: the lines of the first i answers are written.
+-- `bench_report::lines::put_answers` meets its contract. The invariant: the lines of the first i answers are written, and the digits are those of i.
 use Prim.Native.Nat.{_≤_, _*_, _-_}
+use mathlib.Core.Path.{_≡_, refl}
 use native.Mathlib.Omega.{arith}
 use lib.ListN.{length}
 use borrow.Author.Needs.{needs}
 use Rattle.text.specs.Text.{lines}
+use Rattle.bench_report.specs.Digits.{digitsOf}
 use Rattle.bench_report.specs.Lines.{answerLine}
 use Rattle.text.specs.Writing.{Put}
 use Rattle.text.specs.WritingLaws.{put-none, put-line, put-lines, put-length}
@@ -11,13 +13,13 @@ use Rattle.bench_report.proofs.lines.put_answers.Statement.{statement}
 use Rattle.bench_report.proofs.lines.put_answers.Tie as tie
 
 abbrev Inv-loop : tie.InvT-loop
-Inv-loop out₀ answers next₀ i₀ out next i = (i ≤ length answers) × Put out₀ out 0 next (lines i (answerLine answers))
+Inv-loop out₀ answers next₀ i₀ d₀ out next i d = (i ≤ length answers) × Put out₀ out 0 next (lines i (answerLine answers)) × (d ≡ digitsOf i)
 
 abbrev μ-loop : tie.MeasureT-loop
-μ-loop out₀ answers next₀ i₀ out next i = length answers - i
+μ-loop out₀ answers next₀ i₀ d₀ out next i d = length answers - i
 
 loop-holds : tie.Need-loop-holds Inv-loop μ-loop
-loop-holds c = (omega arith, put-none _ 0 _ (omega arith) (omega arith))
+loop-holds c = (omega arith, put-none _ 0 _ (omega arith) (omega arith), refl)
 
 cast-put-answer : tie.Need-cast-put-answer Inv-loop μ-loop
 cast-put-answer c = search needs
@@ -26,7 +28,10 @@ shared-slice-read-put-answer : tie.Need-shared-slice-read-put-answer Inv-loop μ
 shared-slice-read-put-answer c = search needs
 
 put-answer-requires : tie.Need-put-answer-requires Inv-loop μ-loop
-put-answer-requires c κs = search needs
+put-answer-requires c κs = c .before .before .before .loop .inv .2
+
+more-requires : tie.Need-more-requires Inv-loop μ-loop
+more-requires c κs = search needs
 
 add-i : tie.Need-add-i Inv-loop μ-loop
 add-i c = omega arith
@@ -36,9 +41,8 @@ loop-less c = omega arith
 
 loop-again : tie.Need-loop-again Inv-loop μ-loop
 loop-again c =
-    let call = c .before .before in
-    let l = call .before .before .before .before .loop in
-    (omega arith, put-line (l .i) _ (l .inv .1) (call .put-answer .ensures))
+    let l = c .before .before .before .before .before .before .before .loop in
+    (omega arith, put-line (l .i) _ (l .inv .1) (c .before .before .before .put-answer .ensures), c .more .ensures (l .i) (l .inv .2))
 
 same-length : tie.Need-same-length Inv-loop μ-loop
 same-length c = put-length (c .before .loop .inv .1)
@@ -58,6 +62,7 @@ put-answers-spec =
     cast-put-answer
     shared-slice-read-put-answer
     put-answer-requires
+    more-requires
     add-i
     loop-less
     loop-again
