@@ -7,11 +7,11 @@ use native.Mathlib.Decide.{decLe, ℕ-discrete}
 use lib.Pow.{pow-pos, pow-lt}
 use lib.Dec.{leb, ltb}
 use lib.Bits.{bitOr, or-lt}
-use borrow.Author.Tests.{lt-leb, ltb-true, ne-eqb, le-leb, leb-true}
+use borrow.Author.Tests.{lt-leb, ltb-true, le-leb, leb-true}
 use Rattle.ground.specs.Tests.{by-cond, and-l, and-r}
-use Rattle.ground.specs.Update.{upd-same, upd-other, fun-ext}
+use Rattle.ground.specs.Update.{fun-ext}
 use Rattle.ground.specs.Mask.{width, has, insert, noneAbove, collect}
-use Rattle.ground.specs.MaskLaws.{has-none, has-insert}
+use Rattle.ground.specs.MaskLaws.{has-none, insert-own, insert-other}
 use Rattle.ground.specs.Inclusion.{le-none-above}
 
 has-zero : (m : ℕ) → has m 0 ≡ false
@@ -19,26 +19,25 @@ unfolding has
 has-zero m = refl
 
 -- none above n is in it
-pub collect-past : (n : ℕ) (p : ℕ → Bool) (k : ℕ) → n ≤ width → n < k → has (collect n p) k ≡ false
+pub collect-past : (n : ℕ) (p : ℕ → Bool) (k : ℕ) → n < k → has (collect n p) k ≡ false
 unfolding collect
-collect-past zero p k w h = has-none k
-collect-past (suc n) p k w h =
-    let ih : has (collect n p) k ≡ false = collect-past n p k (omega arith) (omega arith) in
+collect-past zero p k h = has-none k
+collect-past (suc n) p k h =
     by-cond (λ (m : ℕ). has m k ≡ false) (p (suc n)) (insert (collect n p) (suc n)) (collect n p)
-    (λ _. has-insert (collect n p) (suc n) k (omega arith) w ∙ (upd-other (has (collect n p)) (suc n) true k (ne-eqb k (suc n) (λ e. omega arith)) ∙ ih))
-    (λ _. ih)
+    (λ _. insert-other (collect n p) (suc n) k (λ e. omega arith) ∙ collect-past n p k (omega arith))
+    (λ _. collect-past n p k (omega arith))
 
--- one of 1..n is in it exactly if it passes
-pub collect-at : (n : ℕ) (p : ℕ → Bool) (k : ℕ) → n ≤ width → 1 ≤ k → k ≤ n → has (collect n p) k ≡ p k
+-- one of 1..n that has a bit is in it exactly if it passes
+pub collect-at : (n : ℕ) (p : ℕ → Bool) (k : ℕ) → k ≤ width → 1 ≤ k → k ≤ n → has (collect n p) k ≡ p k
 unfolding collect
 collect-at zero p k w a b = absurd (omega arith)
 collect-at (suc n) p k w a b = elim (ℕ-discrete k (suc n)) [
   | yes q ↦ rw q (by-cond (λ (m : ℕ). has m (suc n) ≡ p (suc n)) (p (suc n)) (insert (collect n p) (suc n)) (collect n p)
-      (λ e. has-insert (collect n p) (suc n) (suc n) (omega arith) w ∙ (upd-same (has (collect n p)) (suc n) true ∙ sym e))
-      (λ e. collect-past n p (suc n) (omega arith) (omega arith) ∙ sym e))
-  | no q ↦ let ih : has (collect n p) k ≡ p k = collect-at n p k (omega arith) a (omega arith) in
+      (λ e. insert-own (collect n p) (suc n) (omega arith) (omega arith) ∙ sym e)
+      (λ e. collect-past n p (suc n) (omega arith) ∙ sym e))
+  | no q ↦ let ih : has (collect n p) k ≡ p k = collect-at n p k w a (omega arith) in
       by-cond (λ (m : ℕ). has m k ≡ p k) (p (suc n)) (insert (collect n p) (suc n)) (collect n p)
-      (λ _. has-insert (collect n p) (suc n) k (omega arith) w ∙ (upd-other (has (collect n p)) (suc n) true k (ne-eqb k (suc n) q) ∙ ih))
+      (λ _. insert-other (collect n p) (suc n) k q ∙ ih)
       (λ _. ih)
 ]
 
@@ -46,8 +45,8 @@ collect-at (suc n) p k w a b = elim (ℕ-discrete k (suc n)) [
 pub has-collect : (n : ℕ) (p : ℕ → Bool) (k : ℕ) → n ≤ width → has (collect n p) k ≡ (leb 1 k && leb k n && p k)
 has-collect n p zero w = has-zero (collect n p)
 has-collect n p (suc k) w = elim (decLe (suc k) n) [
-  | yes h ↦ rw (collect-at n p (suc k) w (omega arith) h, le-leb 1 (suc k) (omega arith), le-leb (suc k) n h)
-  | no h ↦ rw (collect-past n p (suc k) w (omega arith), le-leb 1 (suc k) (omega arith), lt-leb (suc k) n (omega arith))
+  | yes h ↦ rw (collect-at n p (suc k) (omega arith) (omega arith) h, le-leb 1 (suc k) (omega arith), le-leb (suc k) n h)
+  | no h ↦ rw (collect-past n p (suc k) (omega arith), le-leb 1 (suc k) (omega arith), lt-leb (suc k) n (omega arith))
 ]
 
 -- the same as functions of the number

@@ -7,4 +7,5 @@ pub mod Mask
 pub mod MaskLaws
 pub mod Inclusion
 pub mod Collect
+pub mod UpTo
 pub mod Sizes

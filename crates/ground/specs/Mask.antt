@@ -1,6 +1,6 @@
 -- Sets of controllers as 32-bit masks. Document 01, "Records": "Bit k − 1, counted from the lowest, is controller k."
 use Prim.Native.Nat.{ℕ, zero, suc, _-_, _^_, _/_, _%_}
-use mathlib.Core.Bool.{Bool, false, cond}
+use mathlib.Core.Bool.{Bool, true, false, cond}
 use lib.Dec.{eqb, ltb}
 use lib.Bits.{bitAnd, bitOr, bitXor}
 
@@ -38,3 +38,7 @@ within a b = eqb (bitOr a b) b
 unfoldable pub collect : ℕ → (ℕ → Bool) → ℕ
 collect zero p = 0
 collect (suc m) p = cond (p (suc m)) (insert (collect m p) (suc m)) (collect m p)
+
+-- the set of 1..n, as far as masks have bits
+unfoldable pub upTo : ℕ → ℕ
+upTo n = collect n (λ k. true)

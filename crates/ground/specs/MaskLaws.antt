@@ -1,7 +1,7 @@
 -- Laws of masks, for any n: what is in a union, in a set with one more, in a full set.
 use Prim.Native.Nat.{ℕ, zero, suc, _+_, _*_, _^_, _/_, _%_, _-_, _≤_, _<_, min, max}
 use mathlib.Core.Path.{_≡_, refl, sym, _∙_}
-use mathlib.Core.Bool.{Bool, true, false, not, _&&_, _||_, cond}
+use mathlib.Core.Bool.{Bool, true, false, not, _&&_, _||_, cond, or-false}
 use native.Mathlib.Omega.{arith}
 use native.Mathlib.Nat.{mod-lt, div-self, div-eq-of-lt, pow-suc}
 use native.Mathlib.Numerals.{one-add}
@@ -181,6 +181,15 @@ insert-only m (suc i) k e =
     either (inl q) = inr q
     either (inr q) = inl (eqb-true k (suc i) (sym (has-pow i k) ∙ q))
 
+-- and no other is changed
+pub insert-other : (m i k : ℕ) → (k ≡ i → ⊥) → has (insert m i) k ≡ has m k
+unfolding insert
+insert-other m zero k d = refl
+insert-other m (suc i) k d =
+    by-cond (λ (x : ℕ). has x k ≡ has m k) (ltb i width) (bitOr m (2 ^ i)) m
+    (λ _. has-or m (2 ^ i) k ∙ rw (has-pow i k, ne-eqb k (suc i) d) (or-false (has m k)))
+    (λ _. refl)
+
 -- whom the set of one alone has, any set has with that one
 pub insert-from : (m i k : ℕ) → has (insert 0 i) k ≡ true → has (insert m i) k ≡ true
 insert-from m i k e = elim (insert-only 0 i k e) [
@@ -201,6 +210,23 @@ unfolding remove upd
 has-remove m i k a b = rw (has-and m (bitXor m (insert 0 i)) k, has-xor m (insert 0 i) k, has-insert 0 i k a b, has-none k) (without (has m k) (eqb k i))
   where
     without : (x y : Bool) → (x && cond (cond y true false) (not x) x) ≡ cond y false x
+    without true true = refl
+    without true false = refl
+    without false true = refl
+    without false false = refl
+
+-- and for any i, as far as masks have bits
+pub has-remove-low : (m i k : ℕ) → 1 ≤ k → k ≤ width → has (remove m i) k ≡ (not (eqb i k) && has m k)
+unfolding remove
+has-remove-low m i k a b = rw (has-and m (bitXor m (insert 0 i)) k, has-xor m (insert 0 i) k, alone) (without (has m k) (eqb i k))
+  where
+    alone : has (insert 0 i) k ≡ eqb i k
+    alone = elim (ℕ-discrete k i) [
+      | yes e ↦ rw (← e, insert-own 0 k a b, eqb-same k)
+      | no e ↦ rw (insert-other 0 i k e, has-none k, ne-eqb i k (λ q. e (sym q)))
+    ]
+
+    without : (x y : Bool) → (x && cond y (not x) x) ≡ (not y && x)
     without true true = refl
     without true false = refl
     without false true = refl

@@ -10,6 +10,7 @@ pub use mask::insert;
 pub use mask::none_above;
 pub use mask::remove;
 pub use mask::size;
+pub use mask::up_to;
 pub use mask::within;
 
 // The most controllers that a lock has.

@@ -1,7 +1,7 @@
 // Sets of controllers as masks: bit k - 1 is controller k. Numbers that have no bit are in no set.
 ghost use mathlib.Core.Path.{_≡_};
 ghost use Prim.Native.Nat.{_≤_, _^_};
-ghost use Rattle.ground.specs.Mask.{width, has, insert, remove, fullTo, noneAbove, within};
+ghost use Rattle.ground.specs.Mask.{width, has, insert, remove, fullTo, noneAbove, within, upTo};
 ghost use Rattle.ground.specs.Quantify.{countTo};
 
 // Is controller k in the set?
@@ -35,6 +35,16 @@ pub fn remove(m: u32, k: u8) -> u32
     ensures { λ r. ⌜ r ≡ remove m k ⌝ }
 {
     m & (m ^ insert(0, k))
+}
+
+// The set of 1..n, as far as masks have bits.
+pub fn up_to(n: u8) -> u32
+    ensures { λ r. ⌜ r ≡ upTo n ⌝ }
+{
+    if 32 <= n {
+        return 0xFFFFFFFF;
+    }
+    (1u32 << n) - 1
 }
 
 // Does the set hold all of 1..n?

@@ -2,7 +2,7 @@
 use Prim.Native.Nat.{ℕ}
 use mathlib.Core.Bool.{Bool, not, _&&_, _||_}
 use lib.Dec.{eqb, ltb}
-use Rattle.ground.specs.Mask.{collect}
+use Rattle.ground.specs.Mask.{has, collect}
 use Rattle.model.specs.Ranges.{isBackup, isSecondBackup}
 use Rattle.model.specs.declared.Kind.{Kind}
 use Rattle.model.specs.declared.Kind.the-variants.{Vote, Ack, Help, Helped}
@@ -28,3 +28,7 @@ route f Helped from to = helpRoute f from to
 -- all to whom a kind may travel from a controller
 unfoldable pub recipients : ℕ → ℕ → Kind → ℕ → ℕ
 recipients n f kind from = collect n (route f kind from)
+
+-- what the routes of one sender have in common: it sends to all others of a set
+unfoldable pub othersOf : ℕ → ℕ → ℕ → Bool
+othersOf set from to = not (eqb from to) && has set to

@@ -3,9 +3,9 @@ use crate::Kind;
 use crate::ranges::is_backup;
 use crate::ranges::is_second_backup;
 ghost use mathlib.Core.Path.{_≡_};
-ghost use mathlib.Core.Bool.{cond};
-ghost use Rattle.ground.specs.Mask.{insert};
-ghost use Rattle.model.specs.Routes.{voteRoute, ackRoute, helpRoute, route, recipients};
+ghost use Prim.Native.Nat.{suc};
+ghost use Rattle.ground.specs.Mask.{collect, upTo};
+ghost use Rattle.model.specs.Routes.{voteRoute, ackRoute, helpRoute, route, recipients, othersOf};
 
 fn vote_route(f: u8, from: u8, to: u8) -> bool
     ensures { λ r. ⌜ r ≡ voteRoute f from to ⌝ }
@@ -52,25 +52,62 @@ pub fn route(f: u8, kind: Kind, from: u8, to: u8) -> bool
     }
 }
 
-// The set with k, if the kind may go there.
-fn with_recipient(found: u32, f: u8, kind: Kind, from: u8, k: u8) -> u32
-    ensures { λ r. ⌜ r ≡ cond (route f kind from k) (insert found k) found ⌝ }
+// Those of the set that are of 1..n, without the sender.
+fn others(n: u8, set: u32, from: u8) -> u32
+    ensures { λ r. ⌜ r ≡ collect n (othersOf set from) ⌝ }
 {
-    if route(f, kind, from, k) {
-        return ground::insert(found, k);
+    ground::remove(set & ground::up_to(n), from)
+}
+
+// The backups and the second backup, 1 to f + 1. That number need not fit a u8, and has no bit then.
+fn up_to_second_backup(f: u8) -> u32
+    ensures { λ r. ⌜ r ≡ upTo (suc f) ⌝ }
+{
+    if 255 <= f {
+        return ground::up_to(f);
     }
-    found
+    ground::up_to(f + 1)
+}
+
+fn vote_recipients(n: u8, f: u8, from: u8) -> u32
+    ensures { λ r. ⌜ r ≡ collect n (voteRoute f from) ⌝ }
+{
+    if is_backup(f, from) {
+        return others(n, up_to_second_backup(f), from);
+    }
+    others(n, ground::up_to(f), from)
+}
+
+fn ack_recipients(n: u8, f: u8, from: u8) -> u32
+    ensures { λ r. ⌜ r ≡ collect n (ackRoute f from) ⌝ }
+{
+    if is_backup(f, from) {
+        return others(n, ground::up_to(n), from);
+    }
+    if is_second_backup(f, from) {
+        return others(n, ground::up_to(f), from);
+    }
+    0
+}
+
+// Those above f are where, within 1..n, the sets of 1..n and of 1..f differ.
+fn help_recipients(n: u8, f: u8, from: u8) -> u32
+    ensures { λ r. ⌜ r ≡ collect n (helpRoute f from) ⌝ }
+{
+    if f < from {
+        return others(n, ground::up_to(n) ^ ground::up_to(f), from);
+    }
+    0
 }
 
 // All to whom a kind may travel from a controller.
 pub fn recipients(n: u8, f: u8, kind: Kind, from: u8) -> u32
     ensures { λ r. ⌜ r ≡ recipients n f kind from ⌝ }
 {
-    let mut found: u32 = 0;
-    let mut k: u8 = 0;
-    while k < n {
-        k += 1;
-        found = with_recipient(found, f, kind, from, k);
+    match kind {
+        Kind::Vote => vote_recipients(n, f, from),
+        Kind::Ack => ack_recipients(n, f, from),
+        Kind::Help => help_recipients(n, f, from),
+        Kind::Helped => help_recipients(n, f, from),
     }
-    found
 }

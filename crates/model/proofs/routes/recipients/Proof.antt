@@ -1,47 +1,62 @@
--- After k turns the set holds those of 1..k to whom the kind may travel.
-use Prim.Native.Nat.{ℕ, _≤_, _-_, _+_}
-use mathlib.Core.Path.{_≡_, refl, ap, _∙_}
-use mathlib.Core.Bool.{Bool, cond}
-use native.Mathlib.Numerals.{add-one}
-use native.Mathlib.Omega.{arith}
-use Rattle.ground.specs.Mask.{insert, collect}
+-- Each kind by its own set.
 use Rattle.model.specs.Routes.{route, recipients}
+use borrow.Author.Needs.{needs}
 use Rattle.model.proofs.routes.recipients.Statement.{statement}
 use Rattle.model.proofs.routes.recipients.Tie as tie
 
-abbrev Inv-loop : tie.InvT-loop
-Inv-loop n f kind from found₀ k₀ found k = (k ≤ n) × (found ≡ collect k (route f kind from))
+enum-told : tie.Need-enum-told
+enum-told c = search needs
 
-abbrev μ-loop : tie.MeasureT-loop
-μ-loop n f kind from found₀ k₀ found k = n - k
+vote-recipients-requires : tie.Need-vote-recipients-requires
+vote-recipients-requires c κs = search needs
 
-loop-holds : tie.Need-loop-holds Inv-loop μ-loop
-unfolding collect
-loop-holds c = (omega arith, refl)
+enum-told-2 : tie.Need-enum-told-2
+enum-told-2 c = search needs
 
-add-k : tie.Need-add-k Inv-loop μ-loop
-add-k c = omega arith
+ack-recipients-requires : tie.Need-ack-recipients-requires
+ack-recipients-requires c κs = search needs
 
-with-recipient-requires : tie.Need-with-recipient-requires Inv-loop μ-loop
-with-recipient-requires c κs = tt
+enum-told-3 : tie.Need-enum-told-3
+enum-told-3 c = search needs
 
-loop-less : tie.Need-loop-less Inv-loop μ-loop
-loop-less c = omega arith
+help-recipients-requires : tie.Need-help-recipients-requires
+help-recipients-requires c κs = search needs
 
-collect-more : (k : ℕ) (p : ℕ → Bool) → collect (k + 1) p ≡ cond (p (k + 1)) (insert (collect k p) (k + 1)) (collect k p)
-unfolding collect
-collect-more k p = rw add-one
+enum-told-4 : tie.Need-enum-told-4
+enum-told-4 c = search needs
 
-loop-again : tie.Need-loop-again Inv-loop μ-loop
-loop-again c = (omega arith, c .with-recipient .ensures ∙ rw (collect-more, c .before .before .loop .inv .1))
+help-recipients-requires-2 : tie.Need-help-recipients-requires-2
+help-recipients-requires-2 c κs = search needs
 
-returns : tie.Need-returns Inv-loop μ-loop
-unfolding recipients
-returns c =
-    c .before .loop .inv .1
-    ∙ ap (λ (k : ℕ). collect k (route (c .before .before .args .f) (c .before .before .args .kind) (c .before .before .args .from))) (omega arith)
+returns : tie.Need-returns
+unfolding recipients route
+returns c = simp (c .before .enum-told .given .1, c .vote-recipients .ensures)
+
+returns-2 : tie.Need-returns-2
+unfolding recipients route
+returns-2 c = simp (c .before .enum-told2 .given .1, c .ack-recipients .ensures)
+
+returns-3 : tie.Need-returns-3
+unfolding recipients route
+returns-3 c = simp (c .before .enum-told3 .given .1, c .help-recipients .ensures)
+
+returns-4 : tie.Need-returns-4
+unfolding recipients route
+returns-4 c = simp (c .before .enum-told4 .given .1, c .help-recipients2 .ensures)
 
 pub recipients-spec : {M : Type 1} → statement M
 recipients-spec =
     tie.close
-    (tie.spec Inv-loop μ-loop loop-holds add-k with-recipient-requires loop-less loop-again returns)
+    (tie.spec
+    enum-told
+    vote-recipients-requires
+    enum-told-2
+    ack-recipients-requires
+    enum-told-3
+    help-recipients-requires
+    enum-told-4
+    help-recipients-requires-2
+    returns
+    returns-2
+    returns-3
+    returns-4)
