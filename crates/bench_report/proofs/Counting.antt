@@ -1,4 +1,4 @@
--- The digits of the next number.
+-- The digits of the number ten higher.
 use Prim.Native.Nat.{ℕ, _+_, _/_, _%_, _≤_, _<_}
 use mathlib.Core.Path.{_≡_, ap}
 use native.Mathlib.Omega.{arith}
@@ -11,56 +11,52 @@ carry i h = (omega arith, omega arith)
 turn : (i : ℕ) → 9 ≤ i % 10 → ((i + 1) % 10 ≡ 0) × ((i + 1) / 10 ≡ i / 10 + 1)
 turn i h = (omega arith, omega arith)
 
+ten-on : (i : ℕ) → ((i + 10) % 10 ≡ i % 10) × ((i + 10) / 10 ≡ i / 10 + 1)
+ten-on i = (omega arith, omega arith)
+
 module _ (d : Digits) (i : ℕ) (e : d ≡ digitsOf i) where
-  of-ones : d .ones ≡ 48 + i % 10
+  pub of-ones : d .ones ≡ 48 + i % 10
   of-ones = ap (λ (x : Digits). x .ones) e
 
-  of-tens : d .tens ≡ 48 + i / 10 % 10
+  pub of-tens : d .tens ≡ 48 + i / 10 % 10
   of-tens = ap (λ (x : Digits). x .tens) e
 
-  of-hundreds : d .hundreds ≡ 48 + i / 10 / 10 % 10
+  pub of-hundreds : d .hundreds ≡ 48 + i / 10 / 10 % 10
   of-hundreds = ap (λ (x : Digits). x .hundreds) e
 
-  of-thousands : d .thousands ≡ 48 + i / 10 / 10 / 10 % 10
+  pub of-thousands : d .thousands ≡ 48 + i / 10 / 10 / 10 % 10
   of-thousands = ap (λ (x : Digits). x .thousands) e
 
-  pub next-ones : d .ones < 57 → _≡_ {A = Digits} (record { thousands = d .thousands; hundreds = d .hundreds; tens = d .tens; ones = d .ones + 1 }) (digitsOf (i + 1))
-  next-ones h =
-      let a = carry i (omega (arith, of-ones)) in
-      let x : d .ones + 1 ≡ 48 + (i % 10 + 1) = omega (arith, of-ones) in
-      rw (a .0, a .1, x, of-tens, of-hundreds, of-thousands)
+  pub next-tens : d .tens < 57 → _≡_ {A = Digits} (record { thousands = d .thousands; hundreds = d .hundreds; tens = d .tens + 1; ones = d .ones }) (digitsOf (i + 10))
+  next-tens g =
+      let a = ten-on i in
+      let b = carry (i / 10) (omega (arith, of-tens)) in
+      let x : d .tens + 1 ≡ 48 + (i / 10 % 10 + 1) = omega (arith, of-tens) in
+      rw (a .0, a .1, b .0, b .1, x, of-ones, of-hundreds, of-thousands)
 
-  module _ (h : 57 ≤ d .ones) where
-    pub next-tens : d .tens < 57 → _≡_ {A = Digits} (record { thousands = d .thousands; hundreds = d .hundreds; tens = d .tens + 1; ones = 48 }) (digitsOf (i + 1))
-    next-tens g =
-        let a = turn i (omega (arith, of-ones)) in
-        let b = carry (i / 10) (omega (arith, of-tens)) in
-        let x : d .tens + 1 ≡ 48 + (i / 10 % 10 + 1) = omega (arith, of-tens) in
-        rw (a .0, a .1, b .0, b .1, x, of-hundreds, of-thousands)
+  module _ (g : 57 ≤ d .tens) where
+    pub next-hundreds : d .hundreds < 57 → _≡_ {A = Digits} (record { thousands = d .thousands; hundreds = d .hundreds + 1; tens = 48; ones = d .ones }) (digitsOf (i + 10))
+    next-hundreds k =
+        let a = ten-on i in
+        let b = turn (i / 10) (omega (arith, of-tens)) in
+        let c = carry (i / 10 / 10) (omega (arith, of-hundreds)) in
+        let x : d .hundreds + 1 ≡ 48 + (i / 10 / 10 % 10 + 1) = omega (arith, of-hundreds) in
+        rw (a .0, a .1, b .0, b .1, c .0, c .1, x, of-ones, of-thousands)
 
-    module _ (g : 57 ≤ d .tens) where
-      pub next-hundreds : d .hundreds < 57 → _≡_ {A = Digits} (record { thousands = d .thousands; hundreds = d .hundreds + 1; tens = 48; ones = 48 }) (digitsOf (i + 1))
-      next-hundreds k =
-          let a = turn i (omega (arith, of-ones)) in
+    module _ (k : 57 ≤ d .hundreds) where
+      pub next-thousands : d .thousands < 57 → _≡_ {A = Digits} (record { thousands = d .thousands + 1; hundreds = 48; tens = 48; ones = d .ones }) (digitsOf (i + 10))
+      next-thousands l =
+          let a = ten-on i in
           let b = turn (i / 10) (omega (arith, of-tens)) in
-          let c = carry (i / 10 / 10) (omega (arith, of-hundreds)) in
-          let x : d .hundreds + 1 ≡ 48 + (i / 10 / 10 % 10 + 1) = omega (arith, of-hundreds) in
-          rw (a .0, a .1, b .0, b .1, c .0, c .1, x, of-thousands)
+          let c = turn (i / 10 / 10) (omega (arith, of-hundreds)) in
+          let f = carry (i / 10 / 10 / 10) (omega (arith, of-thousands)) in
+          let x : d .thousands + 1 ≡ 48 + (i / 10 / 10 / 10 % 10 + 1) = omega (arith, of-thousands) in
+          rw (a .0, a .1, b .0, b .1, c .0, c .1, f .0, x, of-ones)
 
-      module _ (k : 57 ≤ d .hundreds) where
-        pub next-thousands : d .thousands < 57 → _≡_ {A = Digits} (record { thousands = d .thousands + 1; hundreds = 48; tens = 48; ones = 48 }) (digitsOf (i + 1))
-        next-thousands l =
-            let a = turn i (omega (arith, of-ones)) in
-            let b = turn (i / 10) (omega (arith, of-tens)) in
-            let c = turn (i / 10 / 10) (omega (arith, of-hundreds)) in
-            let f = carry (i / 10 / 10 / 10) (omega (arith, of-thousands)) in
-            let x : d .thousands + 1 ≡ 48 + (i / 10 / 10 / 10 % 10 + 1) = omega (arith, of-thousands) in
-            rw (a .0, a .1, b .0, b .1, c .0, c .1, f .0, x)
-
-        pub next-none : 57 ≤ d .thousands → _≡_ {A = Digits} (record { thousands = 48; hundreds = 48; tens = 48; ones = 48 }) (digitsOf (i + 1))
-        next-none l =
-            let a = turn i (omega (arith, of-ones)) in
-            let b = turn (i / 10) (omega (arith, of-tens)) in
-            let c = turn (i / 10 / 10) (omega (arith, of-hundreds)) in
-            let f = turn (i / 10 / 10 / 10) (omega (arith, of-thousands)) in
-            rw (a .0, a .1, b .0, b .1, c .0, c .1, f .0)
+      pub next-none : 57 ≤ d .thousands → _≡_ {A = Digits} (record { thousands = 48; hundreds = 48; tens = 48; ones = d .ones }) (digitsOf (i + 10))
+      next-none l =
+          let a = ten-on i in
+          let b = turn (i / 10) (omega (arith, of-tens)) in
+          let c = turn (i / 10 / 10) (omega (arith, of-hundreds)) in
+          let f = turn (i / 10 / 10 / 10) (omega (arith, of-thousands)) in
+          rw (a .0, a .1, b .0, b .1, c .0, c .1, f .0, of-ones)

@@ -1,3 +1,4 @@
 mod Fitting
 mod Short
 mod Counting
+mod Decades

@@ -1,32 +1,56 @@
 -- Numbers of few digits, digit by digit.
-use Prim.Native.Nat.{ℕ, _/_, _%_, _≤_, _<_}
-use mathlib.Core.Bool.{true, false}
+use Prim.Native.Nat.{ℕ, _+_, _*_, _/_, _%_, _≤_, _<_}
 use mathlib.Core.List.{[], _∷_}
 use mathlib.Core.Path.{_≡_}
 use native.Mathlib.Omega.{arith}
 use borrow.Author.Tests.{lt-ltb, le-ltb}
 use Rattle.text.specs.Text.{digit, digits, decimal}
+use Rattle.bench_report.specs.declared.Digits.{Digits}
+use Rattle.bench_report.specs.Digits.{digitsOf}
+use Rattle.bench_report.proofs.Counting.{of-ones, of-tens, of-hundreds, of-thousands}
 
-pub not-so : {A : Type 0} → false ≡ true → A
-not-so e = let z : _≡_ {A = ℕ} 0 1 = cc in absurd (omega arith)
-
-pub one : (v a : ℕ) → v < 10 → a ≡ digit (v % 10) → a ∷ [] ≡ decimal v
+pub one : (v : ℕ) → v < 10 → digit v ∷ [] ≡ decimal v
 unfolding decimal digits
-one v a h e = let z : v % 10 ≡ v = omega arith in rw (e, lt-ltb v 10 h, z)
+one v h = rw (lt-ltb v 10 h)
 
-pub two : (v a b : ℕ) → 10 ≤ v → v < 100 → a ≡ digit (v / 10 % 10) → b ≡ digit (v % 10) → a ∷ b ∷ [] ≡ decimal v
-unfolding decimal digits
-two v a b g h d e = let z : v / 10 % 10 ≡ v / 10 = omega arith in rw (d, e, le-ltb v 10 g, lt-ltb (v / 10) 10 (omega arith), z)
+-- the number of so many tens and ones, from the digits of the decade's first
+module _ (t k : ℕ) (h : k < 10) (d : Digits) (e : d ≡ digitsOf (t * 10)) where
+  tens : (t * 10 + k) / 10 ≡ t
+  tens = omega arith
 
-pub three : (v a b c : ℕ) → 100 ≤ v → v < 1000 → a ≡ digit (v / 10 / 10 % 10) → b ≡ digit (v / 10 % 10) → c ≡ digit (v % 10) → a ∷ b ∷ c ∷ [] ≡ decimal v
-unfolding decimal digits
-three v a b c g h d e f =
-    let z : v / 10 / 10 % 10 ≡ v / 10 / 10 = omega arith in
-    rw (d, e, f, le-ltb v 10 (omega arith), le-ltb (v / 10) 10 (omega arith), lt-ltb (v / 10 / 10) 10 (omega arith), z)
+  ones : (t * 10 + k) % 10 ≡ k
+  ones = omega arith
 
-pub four : (v w a b c : ℕ) → 1000 ≤ v → v < 10000 → w ≡ digit (v / 10 / 10 / 10 % 10) → a ≡ digit (v / 10 / 10 % 10) → b ≡ digit (v / 10 % 10) → c ≡ digit (v % 10)
-    → w ∷ a ∷ b ∷ c ∷ [] ≡ decimal v
-unfolding decimal digits
-four v w a b c g h x d e f =
-    let z : v / 10 / 10 / 10 % 10 ≡ v / 10 / 10 / 10 = omega arith in
-    rw (x, d, e, f, le-ltb v 10 (omega arith), le-ltb (v / 10) 10 (omega arith), le-ltb (v / 10 / 10) 10 (omega arith), lt-ltb (v / 10 / 10 / 10) 10 (omega arith), z)
+  of-none : (t * 10) / 10 ≡ t
+  of-none = omega arith
+
+  last : d .ones + k ≡ 48 + k
+  last = omega (arith, of-ones d (t * 10) e)
+
+  thousands : d .thousands ≡ 48 + t / 10 / 10 % 10
+  thousands = rw of-none at (of-thousands d (t * 10) e)
+
+  hundreds : d .hundreds ≡ 48 + t / 10 % 10
+  hundreds = rw of-none at (of-hundreds d (t * 10) e)
+
+  decade : d .tens ≡ 48 + t % 10
+  decade = rw of-none at (of-tens d (t * 10) e)
+
+  pub one-digit : t < 1 → (d .ones + k) ∷ [] ≡ decimal (t * 10 + k)
+  one-digit g = let z : t * 10 + k ≡ k = omega arith in rw (last, z) (one k h)
+
+  pub two-digits : 1 ≤ t → t < 10 → d .tens ∷ (d .ones + k) ∷ [] ≡ decimal (t * 10 + k)
+  unfolding decimal digits
+  two-digits g l = let z : t % 10 ≡ t = omega arith in rw (last, decade, le-ltb (t * 10 + k) 10 (omega arith), tens, ones, lt-ltb t 10 l, z)
+
+  pub three-digits : 10 ≤ t → t < 100 → d .hundreds ∷ d .tens ∷ (d .ones + k) ∷ [] ≡ decimal (t * 10 + k)
+  unfolding decimal digits
+  three-digits g l =
+      let z : t / 10 % 10 ≡ t / 10 = omega arith in
+      rw (last, decade, hundreds, le-ltb (t * 10 + k) 10 (omega arith), tens, ones, le-ltb t 10 g, lt-ltb (t / 10) 10 (omega arith), z)
+
+  pub four-digits : 100 ≤ t → t < 1000 → d .thousands ∷ d .hundreds ∷ d .tens ∷ (d .ones + k) ∷ [] ≡ decimal (t * 10 + k)
+  unfolding decimal digits
+  four-digits g l =
+      let z : t / 10 / 10 % 10 ≡ t / 10 / 10 = omega arith in
+      rw (last, decade, hundreds, thousands, le-ltb (t * 10 + k) 10 (omega arith), tens, ones, le-ltb t 10 (omega arith), le-ltb (t / 10) 10 (omega arith), lt-ltb (t / 10 / 10) 10 (omega arith), z)

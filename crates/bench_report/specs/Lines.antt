@@ -1,5 +1,5 @@
 -- What the bench program prints, line by line, as bytes. Document 01, "The bench program".
-use Prim.Native.Nat.{ℕ, suc}
+use Prim.Native.Nat.{ℕ, suc, _+_, _*_, _-_, min}
 use mathlib.Core.List.{List, [], _∷_, _++_}
 use lib.ListN.{length, getD}
 use Rattle.text.specs.Text.{ascii, decimal, signed, line, lines}
@@ -15,6 +15,13 @@ answerLine answers i = line (decimal i ∷ decimal (getD answers i 0) ∷ [])
 
 abbrev pub answerLines : List ℕ → List ℕ
 answerLines answers = lines (length answers) (answerLine answers)
+
+-- those whose index has so many tens
+abbrev pub decadeLine : List ℕ → ℕ → ℕ → List ℕ
+decadeLine answers tens k = answerLine answers (tens * 10 + k)
+
+abbrev pub decadeLines : List ℕ → ℕ → List ℕ
+decadeLines answers tens = lines (min 10 (length answers - tens * 10)) (decadeLine answers tens)
 
 -- "outcome (M, S, -)"
 abbrev pub letter : Outcome → List ℕ

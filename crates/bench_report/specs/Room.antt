@@ -1,9 +1,10 @@
 -- How long the report can be.
 use Prim.Native.Nat.{ℕ, suc, _+_, _*_, _≤_}
-use mathlib.Core.List.{List, _++_}
+use mathlib.Core.List.{List, [], _∷_, _++_}
 use mathlib.Core.Path.{_≡_, refl}
 use native.Mathlib.Omega.{arith}
 use lib.ListN.{length, getD, length-append}
+use Rattle.text.specs.Text.{decimal, line}
 use Rattle.text.specs.Lengths.{decimal-length, signed-length, lines-length}
 use Rattle.model.specs.declared.Outcome.{Outcome}
 use Rattle.model.specs.declared.Outcome.the-variants.{None, Stay, Move}
@@ -18,8 +19,8 @@ letter-length None = refl
 letter-length Stay = refl
 letter-length Move = refl
 
-answer-length : (answers : List ℕ) (i : ℕ) → length (answerLine answers i) ≤ answerWidth
-answer-length answers i = simp length-append (omega (arith, decimal-length i, decimal-length (getD answers i 0)))
+pub answer-length : (i answer : ℕ) → length (line (decimal i ∷ decimal answer ∷ [])) ≤ answerWidth
+answer-length i answer = simp length-append (omega (arith, decimal-length i, decimal-length answer))
 
 controller-length : (k : ℕ) (r : Row) → length (controllerLine k r) ≤ controllerWidth
 controller-length k r =
@@ -35,7 +36,7 @@ pub report-length : (answers : List ℕ) (s : Summary) → length (reportOf answ
 unfolding reportOf
 report-length answers s =
     let rows = controllerLines (s .n) (s .rows) in
-    let p : length (answerLines answers) ≤ length answers * answerWidth = lines-length answerWidth (length answers) (answerLine answers) (answer-length answers) in
+    let p : length (answerLines answers) ≤ length answers * answerWidth = lines-length answerWidth (length answers) (answerLine answers) (λ i. answer-length i (getD answers i 0)) in
     let q : length rows ≤ s .n * controllerWidth =
     lines-length controllerWidth (s .n) (λ i. controllerLine (suc i) (getD (s .rows) i blankRow)) (λ i. controller-length (suc i) (getD (s .rows) i blankRow)) in
     let r : length (messageLine (s .messages)) ≤ messageWidth = message-length (s .messages) in

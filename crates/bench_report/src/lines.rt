@@ -1,14 +1,14 @@
 // The lines of the report.
 ghost use mathlib.Core.Path.{_≡_};
 ghost use mathlib.Core.List.{_∷_, [], _++_};
-ghost use mathlib.Core.Bool.{true};
-ghost use Prim.Native.Nat.{ℕ, _≤_, _<_, _+_, _%_};
+ghost use Prim.Native.Nat.{ℕ, _≤_, _<_, _+_, _*_, _-_, min};
 ghost use lib.ListN.{length, getD};
-ghost use Rattle.text.specs.Text.{ascii, digit, decimal, line};
+ghost use Rattle.text.specs.Text.{ascii, decimal, line};
 ghost use Rattle.text.specs.Writing.{Put};
 ghost use Rattle.bench_report.specs.Digits.{digitsOf};
-ghost use Rattle.bench_report.specs.Limits.{mostAnswers};
-ghost use Rattle.bench_report.specs.Lines.{letter, blankRow, controllerLine, answerLines, controllerLines, messageLine};
+ghost use Rattle.bench_report.specs.Limits.{mostAnswers, answerWidth};
+ghost use Rattle.bench_report.specs.Lines.{letter, blankRow, controllerLine, answerLines, decadeLines, controllerLines, messageLine};
+use crate::ANSWER_LINE;
 use crate::Digits;
 use crate::MessageCounts;
 use crate::Row;
@@ -38,22 +38,6 @@ fn put_outcome(out: &mut [u8], at: usize, outcome: Outcome) -> usize
     put_byte(&mut *out, next, letter_of(outcome))
 }
 
-// Has a buffer of so many bytes room from an index on for a line of two such numbers, of at most four digits and of at most two?
-fn is_short(length: usize, at: usize, i: u32, answer: u8) -> bool
-    ensures { λ r. ⌜ (r ≡ true → (at + 8 ≤ length) × (i < 10000) × (answer < 100)) ⌝ }
-{
-    if length < at {
-        return false;
-    }
-    if length - at < 8 {
-        return false;
-    }
-    if 10000 <= i {
-        return false;
-    }
-    answer < 100
-}
-
 // A byte where there is room for it.
 fn put_in(out: &mut [u8], at: usize, b: u8) -> usize
     requires { ⌜ at < length (now out) ⌝ }
@@ -63,27 +47,13 @@ fn put_in(out: &mut [u8], at: usize, b: u8) -> usize
     at + 1
 }
 
-// The last digit.
-fn digit(v: u32) -> u8
-    ensures { λ r. ⌜ r ≡ digit (v % 10) ⌝ }
+// The digits of the number ten higher.
+fn next_decade(d: Digits) -> Digits
+    ensures { λ r. ⌜ ((i : ℕ) → d ≡ digitsOf i → r ≡ digitsOf (i + 10)) ⌝ }
 {
-    b'0' + (v % 10) as u8
-}
-
-// The digits of the next number.
-fn more(d: Digits) -> Digits
-    ensures { λ r. ⌜ ((i : ℕ) → d ≡ digitsOf i → r ≡ digitsOf (i + 1)) ⌝ }
-{
-    if d.ones < b'9' {
-        return Digits {
-            ones: d.ones + 1,
-            ..d
-        };
-    }
     if d.tens < b'9' {
         return Digits {
             tens: d.tens + 1,
-            ones: b'0',
             ..d
         };
     }
@@ -91,7 +61,6 @@ fn more(d: Digits) -> Digits
         return Digits {
             hundreds: d.hundreds + 1,
             tens: b'0',
-            ones: b'0',
             ..d
         };
     }
@@ -100,64 +69,59 @@ fn more(d: Digits) -> Digits
             thousands: d.thousands + 1,
             hundreds: b'0',
             tens: b'0',
-            ones: b'0',
+            ..d
         };
     }
     Digits {
         thousands: b'0',
         hundreds: b'0',
         tens: b'0',
-        ones: b'0',
+        ..d
     }
 }
 
-// A number of at most four digits, which are given, where there is room for it.
-fn put_index(out: &mut [u8], at: usize, v: u32, d: Digits) -> usize
-    requires { ⌜ (at + 4 ≤ length (now out)) × (v < 10000) × (d ≡ digitsOf v) ⌝ }
-    ensures { λ r. ⌜ Put (now (out .entry)) (now (out .exit)) at r (decimal v) × (r ≤ at + 4) ⌝ }
+// The number of so many tens and ones, at most four digits, where there is room for it. The digits of the decade's first number are given.
+fn put_index(out: &mut [u8], at: usize, tens: usize, d: Digits, ones: usize) -> usize
+    requires { ⌜ (at + 4 ≤ length (now out)) × (tens < 1000) × (d ≡ digitsOf (tens * 10)) × (ones < 10) ⌝ }
+    ensures { λ r. ⌜ Put (now (out .entry)) (now (out .exit)) at r (decimal (tens * 10 + ones)) × (r ≤ at + 4) ⌝ }
 {
-    if v < 10 {
-        return put_in(&mut *out, at, d.ones);
+    let last = d.ones + ones as u8;
+    if 100 <= tens {
+        let next = put_in(&mut *out, at, d.thousands);
+        let next = put_in(&mut *out, next, d.hundreds);
+        let next = put_in(&mut *out, next, d.tens);
+        return put_in(&mut *out, next, last);
     }
-    if v < 100 {
-        let next = put_in(&mut *out, at, d.tens);
-        return put_in(&mut *out, next, d.ones);
-    }
-    if v < 1000 {
+    if 10 <= tens {
         let next = put_in(&mut *out, at, d.hundreds);
         let next = put_in(&mut *out, next, d.tens);
-        return put_in(&mut *out, next, d.ones);
+        return put_in(&mut *out, next, last);
     }
-    let next = put_in(&mut *out, at, d.thousands);
-    let next = put_in(&mut *out, next, d.hundreds);
-    let next = put_in(&mut *out, next, d.tens);
-    put_in(&mut *out, next, d.ones)
+    if 1 <= tens {
+        let next = put_in(&mut *out, at, d.tens);
+        return put_in(&mut *out, next, last);
+    }
+    put_in(&mut *out, at, last)
 }
 
-// A space, a number of at most two digits, and the line's end, where there is room for them.
-fn put_rest(out: &mut [u8], at: usize, v: u32) -> usize
-    requires { ⌜ (at + 4 ≤ length (now out)) × (v < 100) ⌝ }
-    ensures { λ r. ⌜ Put (now (out .entry)) (now (out .exit)) at r (ascii " " ++ (decimal v ++ ascii "\n")) ⌝ }
+// A space, an answer, which mostly has one digit, and the line's end, where there is room for these.
+fn put_rest(out: &mut [u8], at: usize, answer: u8) -> usize
+    requires { ⌜ at + 3 ≤ length (now out) ⌝ }
+    ensures { λ r. ⌜ Put (now (out .entry)) (now (out .exit)) at r (ascii " " ++ (decimal answer ++ ascii "\n")) ⌝ }
 {
     let next = put_in(&mut *out, at, b' ');
-    if v < 10 {
-        let next = put_in(&mut *out, next, digit(v));
+    if answer < 10 {
+        let next = put_in(&mut *out, next, b'0' + answer);
         return put_in(&mut *out, next, b'\n');
     }
-    let next = put_in(&mut *out, next, digit(v / 10));
-    let next = put_in(&mut *out, next, digit(v));
-    put_in(&mut *out, next, b'\n')
+    let next = put_number(&mut *out, next, answer as u32);
+    put_byte(&mut *out, next, b'\n')
 }
 
-// An index, whose digits are given, and an answer. A line of few digits, as every line of a run is, needs one test of the room for it.
-fn put_answer(out: &mut [u8], at: usize, i: u32, d: Digits, answer: u8) -> usize
-    requires { ⌜ d ≡ digitsOf i ⌝ }
+// An index and an answer.
+fn put_answer(out: &mut [u8], at: usize, i: u32, answer: u8) -> usize
     ensures { λ r. ⌜ Put (now (out .entry)) (now (out .exit)) at r (line (decimal i ∷ decimal answer ∷ [])) ⌝ }
 {
-    if is_short(out.len(), at, i, answer) {
-        let next = put_index(&mut *out, at, i, d);
-        return put_rest(&mut *out, next, answer as u32);
-    }
     let next = put_number(&mut *out, at, i);
     let next = put_field(&mut *out, next, answer as u32);
     put_byte(&mut *out, next, b'\n')
@@ -190,22 +154,70 @@ fn row_at(rows: [Row; LIMIT], i: usize) -> Row
     rows[i]
 }
 
-// A line for each answer, from the buffer's start.
-pub(crate) fn put_answers(out: &mut [u8], answers: &[u8]) -> usize
-    requires { ⌜ length (now answers) ≤ mostAnswers ⌝ }
+// How many of the numbers below a count have so many tens?
+fn decade_size(count: usize, tens: usize) -> usize
+    requires { ⌜ tens * 10 ≤ count ⌝ }
+    ensures { λ r. ⌜ r ≡ min 10 (count - tens * 10) ⌝ }
+{
+    let rest = count - tens * 10;
+    if rest < 10 {
+        return rest;
+    }
+    10
+}
+
+// The lines of the indices that have so many tens; the digits of the first are given. The buffer has room for all lines at their longest. How many digits
+// an index has is the same at each of these lines, so the loop need not test it.
+fn put_decade(out: &mut [u8], at: usize, answers: &[u8], tens: usize, d: Digits) -> usize
+    requires { ⌜ (length (now answers) ≤ mostAnswers) × (length (now answers) * answerWidth ≤ length (now out)) ⌝ }
+    requires { ⌜ (tens * 10 ≤ length (now answers)) × (at ≤ tens * 10 * answerWidth) × (d ≡ digitsOf (tens * 10)) ⌝ }
+    ensures { λ r. ⌜ Put (now (out .entry)) (now (out .exit)) at r (decadeLines (now (answers .entry)) tens) ⌝ }
+{
+    let size = decade_size(answers.len(), tens);
+    let mut next = at;
+    let mut ones: usize = 0;
+    while ones < size {
+        next = put_index(&mut *out, next, tens, d, ones);
+        next = put_rest(&mut *out, next, answers[tens * 10 + ones]);
+        ones += 1;
+    }
+    next
+}
+
+// A line for each answer, from the start of a buffer that has room for all of them at their longest.
+fn put_answers_in(out: &mut [u8], answers: &[u8]) -> usize
+    requires { ⌜ (length (now answers) ≤ mostAnswers) × (length (now answers) * answerWidth ≤ length (now out)) ⌝ }
     ensures { λ r. ⌜ Put (now (out .entry)) (now (out .exit)) 0 r (answerLines (now (answers .entry))) ⌝ }
 {
     let mut next: usize = 0;
-    let mut i: usize = 0;
+    let mut tens: usize = 0;
     let mut d = Digits {
         thousands: b'0',
         hundreds: b'0',
         tens: b'0',
         ones: b'0',
     };
+    while tens * 10 < answers.len() {
+        next = put_decade(&mut *out, next, answers, tens, d);
+        d = next_decade(d);
+        tens += 1;
+    }
+    next
+}
+
+// A line for each answer, from the buffer's start.
+pub(crate) fn put_answers(out: &mut [u8], answers: &[u8]) -> usize
+    requires { ⌜ length (now answers) ≤ mostAnswers ⌝ }
+    ensures { λ r. ⌜ Put (now (out .entry)) (now (out .exit)) 0 r (answerLines (now (answers .entry))) ⌝ }
+{
+    // a buffer that surely has room for all the lines needs no test at each
+    if answers.len() * ANSWER_LINE <= out.len() {
+        return put_answers_in(&mut *out, answers);
+    }
+    let mut next: usize = 0;
+    let mut i: usize = 0;
     while i < answers.len() {
-        next = put_answer(&mut *out, next, i as u32, d, answers[i]);
-        d = more(d);
+        next = put_answer(&mut *out, next, i as u32, answers[i]);
         i += 1;
     }
     next
