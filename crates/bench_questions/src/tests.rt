@@ -1,38 +1,24 @@
 // What single questions test.
-use controller_state::is_running;
 use controller_state::is_standby;
 use controller_state::phase_in;
 use model::Outcome;
-use model::is_controller;
 use protocol::Condition;
 use protocol::Consensus;
 ghost use mathlib.Core.Path.{_≡_};
-ghost use mathlib.Core.Bool.{not, _&&_, _||_};
+ghost use mathlib.Core.Bool.{_&&_, _||_};
 ghost use lib.Dec.{eqb};
-ghost use Rattle.model.specs.Ranges.{isController};
 ghost use Rattle.protocol.specs.Controllers.{isStandby, isPresent, phaseIn};
 ghost use Rattle.protocol.specs.Questions.{wasProposed, noOther};
-
-// 7, of a delivery: numbers in range, and not the same.
-pub(crate) fn two_members(n: u8, from: u8, to: u8) -> bool
-    ensures { λ r. ⌜ r ≡ (isController n from && isController n to && not (eqb from to)) ⌝ }
-{
-    if is_controller(n, from) {
-        if is_controller(n, to) {
-            return from != to;
-        }
-    }
-    false
-}
 
 // 15: running or standing by.
 pub fn is_present(k: Condition) -> bool
     ensures { λ r. ⌜ r ≡ isPresent k ⌝ }
 {
-    if is_running(k) {
-        return true;
+    match k {
+        Condition::Running(_) => true,
+        Condition::Stopped => false,
+        Condition::Standby(_) => true,
     }
-    is_standby(k)
 }
 
 // 16, of a timeout.

@@ -1,59 +1,58 @@
-use Rattle.protocol.specs.Questions.{firstNo}
-use Rattle.bench_questions.proofs.Numbers.{number-unless}
+use borrow.Author.Tests.{not-true, not-false, lt-leb, le-leb}
+use Rattle.bench_questions.proofs.Answers.{answers, past, here, none, said, denied}
 use borrow.Author.Needs.{needs}
 use Rattle.bench_questions.proofs.table.deliver_question.Statement.{statement}
 use Rattle.bench_questions.proofs.table.deliver_question.Tie as tie
 
-has-requires : tie.Need-has-requires
-has-requires c κs = search needs
+returns : tie.Need-returns
+returns c = answers (here (not-true _ (c .if1 .taken)))
 
-ask-requires : tie.Need-ask-requires
-ask-requires c κs = search needs
+different-controllers-requires : tie.Need-different-controllers-requires
+different-controllers-requires c κs = search needs
 
-ask-requires-2 : tie.Need-ask-requires-2
-ask-requires-2 c κs = search needs
-
-is-running-requires : tie.Need-is-running-requires
-is-running-requires c κs = search needs
-
-ask-requires-3 : tie.Need-ask-requires-3
-ask-requires-3 c κs = search needs
-
-ask-requires-4 : tie.Need-ask-requires-4
-ask-requires-4 c κs = search needs
+returns-2 : tie.Need-returns-2
+returns-2 c = answers (past (not-false _ (c .before .before .if1 .left)) (here (denied (c .before .different-controllers .ensures) (c .if2 .taken))))
 
 route-requires : tie.Need-route-requires
 route-requires c κs = search needs
 
-ask-requires-5 : tie.Need-ask-requires-5
-ask-requires-5 c κs = search needs
+returns-3 : tie.Need-returns-3
+returns-3 c = answers (past (not-false _ (c .before .before .before .before .if1 .left)) (past (said (c .before .before .before .different-controllers .ensures) (c .before .before .if2 .left)) (here (denied (c .before .route .ensures) (c .if3 .taken)))))
 
-two-members-requires : tie.Need-two-members-requires
-two-members-requires c κs = search needs
+returns-4 : tie.Need-returns-4
+returns-4 c = answers (past (not-false _ (c .before .before .before .before .before .before .if1 .left)) (past (said (c .before .before .before .before .before .different-controllers .ensures) (c .before .before .before .before .if2 .left)) (past (said (c .before .before .before .route .ensures) (c .before .before .if3 .left)) (here (lt-leb _ _ (c .if4 .taken))))))
 
-ask-requires-6 : tie.Need-ask-requires-6
-ask-requires-6 c κs = search needs
+is-running-requires : tie.Need-is-running-requires
+is-running-requires c κs = search needs
 
-ask-requires-7 : tie.Need-ask-requires-7
-ask-requires-7 c κs = search needs
+returns-5 : tie.Need-returns-5
+returns-5 c = answers (past (not-false _ (c .before .before .before .before .before .before .before .before .if1 .left)) (past (said (c .before .before .before .before .before .before .before .different-controllers .ensures) (c .before .before .before .before .before .before .if2 .left)) (past (said (c .before .before .before .before .before .route .ensures) (c .before .before .before .before .if3 .left)) (past (le-leb _ _ (c .before .before .if4 .left)) (here (denied (c .before .is-running .ensures) (c .if5 .taken)))))))
 
-returns : tie.Need-returns
-unfolding firstNo
-returns c = simp (number-unless, c .before .before .before .before .before .before .before .before .before .before .has .ensures, c .before .before .before .before .before .before .before .before .before .ask .ensures, c .before .before .before .before .before .before .before .before .ask2 .ensures, c .before .before .before .before .before .before .before .is-running .ensures, c .before .before .before .before .before .before .ask3 .ensures, c .before .before .before .before .before .ask4 .ensures, c .before .before .before .before .route .ensures, c .before .before .before .ask5 .ensures, c .before .before .two-members .ensures, c .before .ask6 .ensures, c .ask7 .ensures)
+has-requires : tie.Need-has-requires
+has-requires c κs = search needs
+
+returns-6 : tie.Need-returns-6
+returns-6 c = answers (past (not-false _ (c .before .before .before .before .before .before .before .before .before .before .if1 .left)) (past (said (c .before .before .before .before .before .before .before .before .before .different-controllers .ensures) (c .before .before .before .before .before .before .before .before .if2 .left)) (past (said (c .before .before .before .before .before .before .before .route .ensures) (c .before .before .before .before .before .before .if3 .left)) (past (le-leb _ _ (c .before .before .before .before .if4 .left)) (past (said (c .before .before .before .is-running .ensures) (c .before .before .if5 .left)) (here (denied (c .before .has .ensures) (c .if6 .taken))))))))
+
+returns-7 : tie.Need-returns-7
+returns-7 c = answers (past (not-false _ (c .before .before .before .before .before .before .before .before .before .before .before .before .if1 .left)) (past (said (c .before .before .before .before .before .before .before .before .before .before .before .different-controllers .ensures) (c .before .before .before .before .before .before .before .before .before .before .if2 .left)) (past (said (c .before .before .before .before .before .before .before .before .before .route .ensures) (c .before .before .before .before .before .before .before .before .if3 .left)) (past (le-leb _ _ (c .before .before .before .before .before .before .if4 .left)) (past (said (c .before .before .before .before .before .is-running .ensures) (c .before .before .before .before .if5 .left)) (past (said (c .before .before .before .has .ensures) (c .before .before .if6 .left)) (here (not-true _ (c .if7 .taken)))))))))
+
+returns-8 : tie.Need-returns-8
+returns-8 c = answers (past (not-false _ (c .before .before .before .before .before .before .before .before .before .before .before .before .if1 .left)) (past (said (c .before .before .before .before .before .before .before .before .before .before .before .different-controllers .ensures) (c .before .before .before .before .before .before .before .before .before .before .if2 .left)) (past (said (c .before .before .before .before .before .before .before .before .before .route .ensures) (c .before .before .before .before .before .before .before .before .if3 .left)) (past (le-leb _ _ (c .before .before .before .before .before .before .if4 .left)) (past (said (c .before .before .before .before .before .is-running .ensures) (c .before .before .before .before .if5 .left)) (past (said (c .before .before .before .has .ensures) (c .before .before .if6 .left)) (past (not-false _ (c .if7 .left)) none)))))))
 
 pub deliver-question-spec : {M : Type 1} → statement M
 deliver-question-spec =
     tie.close
     (tie.spec
-    has-requires
-    ask-requires
-    ask-requires-2
-    is-running-requires
-    ask-requires-3
-    ask-requires-4
+    returns
+    different-controllers-requires
+    returns-2
     route-requires
-    ask-requires-5
-    two-members-requires
-    ask-requires-6
-    ask-requires-7
-    returns)
+    returns-3
+    returns-4
+    is-running-requires
+    returns-5
+    has-requires
+    returns-6
+    returns-7
+    returns-8)

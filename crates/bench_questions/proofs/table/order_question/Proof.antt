@@ -1,25 +1,22 @@
-use Rattle.protocol.specs.Questions.{firstNo}
-use Rattle.bench_questions.proofs.Numbers.{number-unless}
-use borrow.Author.Needs.{needs}
+use borrow.Author.Tests.{not-true, not-false, lt-leb, le-leb, lt-ltb, le-ltb}
+use Rattle.bench_questions.proofs.Answers.{answers, past, here, none}
 use Rattle.bench_questions.proofs.table.order_question.Statement.{statement}
 use Rattle.bench_questions.proofs.table.order_question.Tie as tie
 
-ask-requires : tie.Need-ask-requires
-ask-requires c κs = search needs
-
-ask-requires-2 : tie.Need-ask-requires-2
-ask-requires-2 c κs = search needs
-
-ask-requires-3 : tie.Need-ask-requires-3
-ask-requires-3 c κs = search needs
-
-ask-requires-4 : tie.Need-ask-requires-4
-ask-requires-4 c κs = search needs
-
 returns : tie.Need-returns
-unfolding firstNo
-returns c = simp (number-unless, ← c .before .before .before .ask .ensures, ← c .before .before .ask2 .ensures, ← c .before .ask3 .ensures, c .ask4 .ensures)
+returns c = answers (here (not-true _ (c .if1 .taken)))
+
+returns-2 : tie.Need-returns-2
+returns-2 c = answers (past (not-false _ (c .before .if1 .left)) (here (lt-leb _ _ (c .if2 .taken))))
+
+returns-3 : tie.Need-returns-3
+returns-3 c = answers (past (not-false _ (c .before .before .before .if1 .left)) (past (le-leb _ _ (c .before .before .if2 .left)) (here (le-ltb _ _ (c .if3 .taken)))))
+
+returns-4 : tie.Need-returns-4
+returns-4 c = answers (past (not-false _ (c .before .before .before .before .before .if1 .left)) (past (le-leb _ _ (c .before .before .before .before .if2 .left)) (past (lt-ltb _ _ (c .before .before .if3 .left)) (here (not-true _ (c .if4 .taken))))))
+
+returns-5 : tie.Need-returns-5
+returns-5 c = answers (past (not-false _ (c .before .before .before .before .before .if1 .left)) (past (le-leb _ _ (c .before .before .before .before .if2 .left)) (past (lt-ltb _ _ (c .before .before .if3 .left)) (past (not-false _ (c .if4 .left)) none))))
 
 pub order-question-spec : {M : Type 1} → statement M
-order-question-spec =
-    tie.close (tie.spec ask-requires ask-requires-2 ask-requires-3 ask-requires-4 returns)
+order-question-spec = tie.close (tie.spec returns returns-2 returns-3 returns-4 returns-5)
