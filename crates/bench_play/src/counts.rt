@@ -36,7 +36,7 @@ fn recount(before: bool, after: bool, k: u8) -> u8
     k
 }
 
-pub(crate) fn counts_after(before: Condition, after: Condition, k: Counts) -> Counts
+pub fn counts_after(before: Condition, after: Condition, k: Counts) -> Counts
     ensures { λ r. ⌜ r ≡ countsAfter before after k ⌝ }
 {
     Counts {

@@ -4,15 +4,12 @@ use crate::calls::message;
 use crate::calls::restore_from;
 use crate::counts::counts_after;
 use crate::sends::sent_after;
-use bench_questions::of_kind;
 use controller::decide;
 use controller::receive;
 use controller::save;
 use controller::stop;
 use controller::timeout;
 use controller::vote;
-use controller_rules::arrives;
-use controller_rules::vote_rule;
 use controller_state::passed_over;
 use model::Event;
 use model::Outcome;
@@ -29,10 +26,9 @@ use protocol::Station;
 ghost use mathlib.Core.Path.{_≡_};
 ghost use Rattle.protocol.specs.Events.{answerTo};
 ghost use Rattle.protocol.specs.Steps.{proposedTo, decidedAs, stationAfter, answering, keeping, effectOf};
-ghost use Rattle.bench_play.specs.Untested.{untestedEffect};
 
 // What is shared, after a word was put, if any.
-fn proposed_to(m: Shared, proposal: Outcome) -> Shared
+pub fn proposed_to(m: Shared, proposal: Outcome) -> Shared
     ensures { λ r. ⌜ r ≡ proposedTo m proposal ⌝ }
 {
     let old = m.consensus;
@@ -46,7 +42,7 @@ fn proposed_to(m: Shared, proposal: Outcome) -> Shared
 }
 
 // What is shared, with the choice of the consensus.
-fn decided_as(m: Shared, to_move: bool) -> Shared
+pub fn decided_as(m: Shared, to_move: bool) -> Shared
     ensures { λ r. ⌜ r ≡ decidedAs m «to_move» ⌝ }
 {
     let old = m.consensus;
@@ -145,46 +141,5 @@ pub(crate) fn effect_of(m: Shared, e: Event, s: Station, a: Answer) -> Effect
             Effect { shared: m, station }
         }
         Event::Restore { .. } => answering(m, s, a),
-    }
-}
-
-// What an event leaves without the test of 24, by document 01's rules for a vote and for what arrives: on the bench no two vote sets contradict each
-// other.
-pub fn untested_effect(m: Shared, e: Event, sent: Sent, s: Station) -> Effect
-    ensures { λ r. ⌜ r ≡ untestedEffect m e sent s ⌝ }
-{
-    let c = s.controller;
-    match e {
-        Event::Lock { .. } => Effect {
-            shared: m,
-            station: s,
-        },
-        Event::Order { .. } => Effect {
-            shared: m,
-            station: s,
-        },
-        Event::Cast {
-            id,
-            willing,
-            target,
-        } => answering(m, s, vote_rule(m.n, m.f, id, willing, target, c)),
-        Event::Deliver { from, kind, .. } => {
-            let out = of_kind(kind, sent);
-            let votes = out.votes;
-            answering(m, s, arrives(kind, m.n, m.f, from, votes, c))
-        }
-        Event::Timeout { id } => answering(m, s, timeout(identity(m, id), c)),
-        Event::Decide { to_move, .. } => {
-            answering(decided_as(m, to_move), s, decide(to_move, c))
-        }
-        Event::Stop { .. } => answering(m, s, stop(c)),
-        Event::Save { id } => {
-            let station = keeping(s, save(identity(m, id), c));
-            Effect { shared: m, station }
-        }
-        Event::Restore { id } => {
-            let saved = s.saved;
-            answering(m, s, restore_from(identity(m, id), saved, c))
-        }
     }
 }

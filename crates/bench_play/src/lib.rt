@@ -5,7 +5,9 @@ mod effects;
 mod plays;
 mod sends;
 
-pub use effects::untested_effect;
+pub use counts::counts_after;
+pub use effects::decided_as;
+pub use effects::proposed_to;
 pub use plays::play;
 use protocol::Shared;
 use protocol::Station;

@@ -14,58 +14,60 @@ use model::is_controller;
 use model::position_in_range;
 use model::route;
 use model::sizes_in_range;
+use protocol::Condition;
 use protocol::Facts;
+use protocol::Shared;
 ghost use mathlib.Core.Path.{_≡_};
-ghost use mathlib.Core.Bool.{true};
+ghost use mathlib.Core.Bool.{true, false};
 ghost use Rattle.model.specs.declared.Event.the-variants.{Lock, Order, Cast, Deliver, Timeout, Decide, Stop, Restore};
 ghost use Rattle.protocol.specs.Questions.{number, firstNo, questionsOf};
+ghost use Rattle.bench_questions.specs.Parts.{factsAt, ownFacts, openFacts};
 
-pub fn lock_question(v: Facts, n: u8, f: u8) -> u8
-    ensures { λ r. ⌜ r ≡ number (firstNo (questionsOf v (Lock n f))) ⌝ }
+pub fn lock_question(m: Shared, n: u8, f: u8) -> u8
+    ensures { λ r. ⌜ r ≡ number (firstNo (questionsOf (openFacts m false) (Lock n f))) ⌝ }
 {
     if !sizes_in_range(n, f) {
         return 4;
     }
-    if v.shared.locked {
+    if m.locked {
         return 6;
     }
     0
 }
 
-pub fn order_question(v: Facts, order: u32) -> u8
-    ensures { λ r. ⌜ r ≡ number (firstNo (questionsOf v (Order order))) ⌝ }
+pub fn order_question(m: Shared, may_open: bool, order: u32) -> u8
+    ensures { λ r. ⌜ r ≡ number (firstNo (questionsOf (openFacts m «may_open») (Order order))) ⌝ }
 {
-    if !v.shared.locked {
+    if !m.locked {
         return 5;
     }
     if order < 1 {
         return 8;
     }
-    if order <= v.shared.order {
+    if order <= m.order {
         return 12;
     }
-    if !v.may_open {
+    if !may_open {
         return 13;
     }
     0
 }
 
-pub fn cast_question(v: Facts, id: u8, target: u32) -> u8
-    ensures { λ r. ⌜ r ≡ number (firstNo (questionsOf v (Cast id true target))) ⌝ }
+pub fn cast_question(m: Shared, k: Condition, id: u8, target: u32) -> u8
+    ensures { λ r. ⌜ r ≡ number (firstNo (questionsOf (ownFacts m k) (Cast id true target))) ⌝ }
 {
-    if !v.shared.locked {
+    if !m.locked {
         return 5;
     }
-    if !is_controller(v.shared.n, id) {
+    if !is_controller(m.n, id) {
         return 7;
     }
     if !position_in_range(target) {
         return 11;
     }
-    if v.shared.order < 1 {
+    if m.order < 1 {
         return 14;
     }
-    let k = v.condition;
     if !is_running(k) {
         return 15;
     }
@@ -75,47 +77,53 @@ pub fn cast_question(v: Facts, id: u8, target: u32) -> u8
     0
 }
 
-pub fn deliver_question(v: Facts, from: u8, to: u8, kind: Kind) -> u8
-    ensures { λ r. ⌜ r ≡ number (firstNo (questionsOf v (Deliver from to kind))) ⌝ }
+pub fn deliver_question(
+    m: Shared,
+    k: Condition,
+    receivers: u32,
+    agrees: bool,
+    from: u8,
+    to: u8,
+    kind: Kind,
+) -> u8
+    ensures { λ r. ⌜ r ≡ number (firstNo (questionsOf (factsAt m k false receivers agrees) (Deliver from to kind))) ⌝ }
 {
-    if !v.shared.locked {
+    if !m.locked {
         return 5;
     }
-    if !different_controllers(v.shared.n, from, to) {
+    if !different_controllers(m.n, from, to) {
         return 7;
     }
-    if !route(v.shared.f, kind, from, to) {
+    if !route(m.f, kind, from, to) {
         return 10;
     }
-    if v.shared.order < 1 {
+    if m.order < 1 {
         return 14;
     }
-    let k = v.condition;
     if !is_running(k) {
         return 15;
     }
-    if !has(v.receivers, to) {
+    if !has(receivers, to) {
         return 17;
     }
-    if !v.agrees {
+    if !agrees {
         return 24;
     }
     0
 }
 
-pub fn timeout_question(v: Facts, id: u8) -> u8
-    ensures { λ r. ⌜ r ≡ number (firstNo (questionsOf v (Timeout id))) ⌝ }
+pub fn timeout_question(m: Shared, k: Condition, id: u8) -> u8
+    ensures { λ r. ⌜ r ≡ number (firstNo (questionsOf (ownFacts m k) (Timeout id))) ⌝ }
 {
-    if !v.shared.locked {
+    if !m.locked {
         return 5;
     }
-    if !is_controller(v.shared.n, id) {
+    if !is_controller(m.n, id) {
         return 7;
     }
-    if v.shared.order < 1 {
+    if m.order < 1 {
         return 14;
     }
-    let k = v.condition;
     if !is_running(k) {
         return 15;
     }
@@ -125,68 +133,65 @@ pub fn timeout_question(v: Facts, id: u8) -> u8
     0
 }
 
-pub fn decide_question(v: Facts, id: u8, to_move: bool) -> u8
-    ensures { λ r. ⌜ r ≡ number (firstNo (questionsOf v (Decide id «to_move»))) ⌝ }
+pub fn decide_question(m: Shared, k: Condition, id: u8, to_move: bool) -> u8
+    ensures { λ r. ⌜ r ≡ number (firstNo (questionsOf (ownFacts m k) (Decide id «to_move»))) ⌝ }
 {
-    if !v.shared.locked {
+    if !m.locked {
         return 5;
     }
-    if !is_controller(v.shared.n, id) {
+    if !is_controller(m.n, id) {
         return 7;
     }
-    if v.shared.order < 1 {
+    if m.order < 1 {
         return 14;
     }
-    let k = v.condition;
     if !is_present(k) {
         return 15;
     }
     if !awaits_decision(k) {
         return 16;
     }
-    if !may_decide(v.shared.consensus, to_move) {
+    if !may_decide(m.consensus, to_move) {
         return 18;
     }
     0
 }
 
 // Stop and save.
-pub fn present_question(v: Facts, id: u8) -> u8
-    ensures { λ r. ⌜ r ≡ number (firstNo (questionsOf v (Stop id))) ⌝ }
+pub fn present_question(m: Shared, k: Condition, id: u8) -> u8
+    ensures { λ r. ⌜ r ≡ number (firstNo (questionsOf (ownFacts m k) (Stop id))) ⌝ }
 {
-    if !v.shared.locked {
+    if !m.locked {
         return 5;
     }
-    if !is_controller(v.shared.n, id) {
+    if !is_controller(m.n, id) {
         return 7;
     }
-    if v.shared.order < 1 {
+    if m.order < 1 {
         return 14;
     }
-    let k = v.condition;
     if !is_present(k) {
         return 15;
     }
     0
 }
 
-pub fn restore_question(v: Facts, id: u8) -> u8
-    ensures { λ r. ⌜ r ≡ number (firstNo (questionsOf v (Restore id))) ⌝ }
+pub fn restore_question(m: Shared, k: Condition, saved: bool, id: u8) -> u8
+    ensures { λ r. ⌜ r ≡ number (firstNo (questionsOf (factsAt m k saved 0 true) (Restore id))) ⌝ }
 {
-    if !v.shared.locked {
+    if !m.locked {
         return 5;
     }
-    if !is_controller(v.shared.n, id) {
+    if !is_controller(m.n, id) {
         return 7;
     }
-    if v.shared.order < 1 {
+    if m.order < 1 {
         return 14;
     }
-    let k = v.condition;
     if !is_stopped(k) {
         return 15;
     }
-    if !v.has_checkpoint {
+    if !saved {
         return 19;
     }
     0
@@ -196,15 +201,19 @@ pub fn restore_question(v: Facts, id: u8) -> u8
 pub fn question(facts: Facts, e: Event) -> u8
     ensures { λ r. ⌜ r ≡ number (firstNo (questionsOf facts e)) ⌝ }
 {
+    let m = facts.shared;
+    let k = facts.condition;
     match e {
-        Event::Lock { n, f } => lock_question(facts, n, f),
-        Event::Order { number } => order_question(facts, number),
-        Event::Cast { id, target, .. } => cast_question(facts, id, target),
-        Event::Deliver { from, to, kind } => deliver_question(facts, from, to, kind),
-        Event::Timeout { id } => timeout_question(facts, id),
-        Event::Decide { id, to_move } => decide_question(facts, id, to_move),
-        Event::Stop { id } => present_question(facts, id),
-        Event::Save { id } => present_question(facts, id),
-        Event::Restore { id } => restore_question(facts, id),
+        Event::Lock { n, f } => lock_question(m, n, f),
+        Event::Order { number } => order_question(m, facts.may_open, number),
+        Event::Cast { id, target, .. } => cast_question(m, k, id, target),
+        Event::Deliver { from, to, kind } => {
+            deliver_question(m, k, facts.receivers, facts.agrees, from, to, kind)
+        }
+        Event::Timeout { id } => timeout_question(m, k, id),
+        Event::Decide { id, to_move } => decide_question(m, k, id, to_move),
+        Event::Stop { id } => present_question(m, k, id),
+        Event::Save { id } => present_question(m, k, id),
+        Event::Restore { id } => restore_question(m, k, facts.has_checkpoint, id),
     }
 }

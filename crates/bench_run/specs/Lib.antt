@@ -1,5 +1,2 @@
 pub mod Schedule
 pub mod Runs
-pub mod Arrivals
-pub mod Openings
-pub mod Deliveries

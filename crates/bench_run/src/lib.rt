@@ -1,7 +1,4 @@
 // A whole schedule, played on a new bench.
-mod arrivals;
-mod deliveries;
-mod orders;
 mod runs;
 
 use protocol::Bench;

@@ -6,7 +6,6 @@ mod whole;
 pub use orders::may_open;
 pub use orders::open_gates;
 pub use orders::order_opened;
-pub use orders::renewed;
 pub use parts::new_bench;
 use protocol::Bench;
 pub use whole::step;

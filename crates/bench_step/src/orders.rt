@@ -32,7 +32,7 @@ pub fn may_open(m: Shared) -> bool
 }
 
 // A station in a new order: old messages are gone, the checkpoint remains.
-pub fn renewed(s: Station) -> Station
+fn renewed(s: Station) -> Station
     ensures { λ r. ⌜ r ≡ renewed s ⌝ }
 {
     let saved = s.saved;

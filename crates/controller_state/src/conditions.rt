@@ -73,7 +73,7 @@ fn or_else(held: Outcome, other: Outcome) -> Outcome
 }
 
 // The condition after an outcome is noted, unless there is one.
-pub(crate) fn noting(condition: Condition, o: Outcome) -> Condition
+pub fn noting(condition: Condition, o: Outcome) -> Condition
     ensures { λ r. ⌜ r ≡ noting condition o ⌝ }
 {
     match condition {

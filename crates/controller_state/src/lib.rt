@@ -27,6 +27,7 @@ pub use conditions::in_phase;
 pub use conditions::is_running;
 pub use conditions::is_standby;
 pub use conditions::is_stopped;
+pub use conditions::noting;
 pub use conditions::outcome_in;
 pub use conditions::phase_in;
 pub use holdings::bump;

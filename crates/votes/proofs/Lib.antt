@@ -1,2 +1,2 @@
-mod Computed
+pub mod Computed
 mod Pass

@@ -35,10 +35,10 @@ returns-6 : tie.Need-returns-6
 returns-6 c = answers (past (not-false _ (c .before .before .before .before .before .before .before .before .before .before .if1 .left)) (past (said (c .before .before .before .before .before .before .before .before .before .different-controllers .ensures) (c .before .before .before .before .before .before .before .before .if2 .left)) (past (said (c .before .before .before .before .before .before .before .route .ensures) (c .before .before .before .before .before .before .if3 .left)) (past (le-leb _ _ (c .before .before .before .before .if4 .left)) (past (said (c .before .before .before .is-running .ensures) (c .before .before .if5 .left)) (here (denied (c .before .has .ensures) (c .if6 .taken))))))))
 
 returns-7 : tie.Need-returns-7
-returns-7 c = answers (past (not-false _ (c .before .before .before .before .before .before .before .before .before .before .before .before .if1 .left)) (past (said (c .before .before .before .before .before .before .before .before .before .before .before .different-controllers .ensures) (c .before .before .before .before .before .before .before .before .before .before .if2 .left)) (past (said (c .before .before .before .before .before .before .before .before .before .route .ensures) (c .before .before .before .before .before .before .before .before .if3 .left)) (past (le-leb _ _ (c .before .before .before .before .before .before .if4 .left)) (past (said (c .before .before .before .before .before .is-running .ensures) (c .before .before .before .before .if5 .left)) (past (said (c .before .before .before .has .ensures) (c .before .before .if6 .left)) (here (not-true _ (c .if7 .taken)))))))))
+returns-7 c = answers (past (not-false _ (c .before .before .before .before .before .before .before .before .before .before .before .if1 .left)) (past (said (c .before .before .before .before .before .before .before .before .before .before .different-controllers .ensures) (c .before .before .before .before .before .before .before .before .before .if2 .left)) (past (said (c .before .before .before .before .before .before .before .before .route .ensures) (c .before .before .before .before .before .before .before .if3 .left)) (past (le-leb _ _ (c .before .before .before .before .before .if4 .left)) (past (said (c .before .before .before .before .is-running .ensures) (c .before .before .before .if5 .left)) (past (said (c .before .before .has .ensures) (c .before .if6 .left)) (here (not-true _ (c .if7 .taken)))))))))
 
 returns-8 : tie.Need-returns-8
-returns-8 c = answers (past (not-false _ (c .before .before .before .before .before .before .before .before .before .before .before .before .if1 .left)) (past (said (c .before .before .before .before .before .before .before .before .before .before .before .different-controllers .ensures) (c .before .before .before .before .before .before .before .before .before .before .if2 .left)) (past (said (c .before .before .before .before .before .before .before .before .before .route .ensures) (c .before .before .before .before .before .before .before .before .if3 .left)) (past (le-leb _ _ (c .before .before .before .before .before .before .if4 .left)) (past (said (c .before .before .before .before .before .is-running .ensures) (c .before .before .before .before .if5 .left)) (past (said (c .before .before .before .has .ensures) (c .before .before .if6 .left)) (past (not-false _ (c .if7 .left)) none)))))))
+returns-8 c = answers (past (not-false _ (c .before .before .before .before .before .before .before .before .before .before .before .if1 .left)) (past (said (c .before .before .before .before .before .before .before .before .before .before .different-controllers .ensures) (c .before .before .before .before .before .before .before .before .before .if2 .left)) (past (said (c .before .before .before .before .before .before .before .before .route .ensures) (c .before .before .before .before .before .before .before .if3 .left)) (past (le-leb _ _ (c .before .before .before .before .before .if4 .left)) (past (said (c .before .before .before .before .is-running .ensures) (c .before .before .before .if5 .left)) (past (said (c .before .before .has .ensures) (c .before .if6 .left)) (past (not-false _ (c .if7 .left)) none)))))))
 
 pub deliver-question-spec : {M : Type 1} → statement M
 deliver-question-spec =

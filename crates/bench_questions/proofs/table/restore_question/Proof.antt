@@ -23,10 +23,10 @@ returns-4 : tie.Need-returns-4
 returns-4 c = answers (past (not-false _ (c .before .before .before .before .before .before .if1 .left)) (past (said (c .before .before .before .before .before .is-controller .ensures) (c .before .before .before .before .if2 .left)) (past (le-leb _ _ (c .before .before .if3 .left)) (here (denied (c .before .is-stopped .ensures) (c .if4 .taken))))))
 
 returns-5 : tie.Need-returns-5
-returns-5 c = answers (past (not-false _ (c .before .before .before .before .before .before .before .before .if1 .left)) (past (said (c .before .before .before .before .before .before .before .is-controller .ensures) (c .before .before .before .before .before .before .if2 .left)) (past (le-leb _ _ (c .before .before .before .before .if3 .left)) (past (said (c .before .before .before .is-stopped .ensures) (c .before .before .if4 .left)) (here (not-true _ (c .if5 .taken)))))))
+returns-5 c = answers (past (not-false _ (c .before .before .before .before .before .before .before .if1 .left)) (past (said (c .before .before .before .before .before .before .is-controller .ensures) (c .before .before .before .before .before .if2 .left)) (past (le-leb _ _ (c .before .before .before .if3 .left)) (past (said (c .before .before .is-stopped .ensures) (c .before .if4 .left)) (here (not-true _ (c .if5 .taken)))))))
 
 returns-6 : tie.Need-returns-6
-returns-6 c = answers (past (not-false _ (c .before .before .before .before .before .before .before .before .if1 .left)) (past (said (c .before .before .before .before .before .before .before .is-controller .ensures) (c .before .before .before .before .before .before .if2 .left)) (past (le-leb _ _ (c .before .before .before .before .if3 .left)) (past (said (c .before .before .before .is-stopped .ensures) (c .before .before .if4 .left)) (past (not-false _ (c .if5 .left)) none)))))
+returns-6 c = answers (past (not-false _ (c .before .before .before .before .before .before .before .if1 .left)) (past (said (c .before .before .before .before .before .before .is-controller .ensures) (c .before .before .before .before .before .if2 .left)) (past (le-leb _ _ (c .before .before .before .if3 .left)) (past (said (c .before .before .is-stopped .ensures) (c .before .if4 .left)) (past (not-false _ (c .if5 .left)) none)))))
 
 pub restore-question-spec : {M : Type 1} → statement M
 restore-question-spec =

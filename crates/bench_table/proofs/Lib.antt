@@ -1,0 +1,14 @@
+pub mod TableLaws
+pub mod ChangeLaws
+pub mod ReadBack
+mod Filling
+pub mod WaitingRows
+pub mod ArrivalRows
+pub mod OutcomeRows
+pub mod TimeoutRows
+pub mod LifecycleRows
+mod Untested
+mod Asking
+pub mod Local
+pub mod PlayLaws
+pub mod NewTables

@@ -1,0 +1,48 @@
+use denote.Ref.{now}
+use Rattle.bench_table.specs.Changes.{stationIn}
+use mathlib.Core.Path.{refl, ap, _∙_}
+use Rattle.bench_table.proofs.PlayLaws.{refused, accepted-as, asks-cast}
+use Rattle.bench_table.specs.Untested.{untestedEffect}
+use Rattle.bench_table.specs.Tables.{stationFrom, controllerFrom}
+use borrow.Author.Needs.{needs}
+use Rattle.bench_table.proofs.plays.play_cast.Statement.{statement}
+use Rattle.bench_table.proofs.plays.play_cast.Tie as tie
+use Rattle.bench_table.proofs.plays.play_cast.Reads as reads
+use Rattle.bench_table.proofs.plays.play_cast.Lts as lts
+use Rattle.bench_questions.proofs.cast_question.Reads as cast-question-reads
+use Rattle.bench_table.proofs.plays.seat.Reads as seat-reads
+use Rattle.bench_table.proofs.rows.condition_at.Reads as condition-at-reads
+use Rattle.bench_table.proofs.timeouts.cast.Reads as cast-reads
+
+seat-requires : tie.Need-seat-requires
+seat-requires c κs = search needs
+
+condition-at-requires : tie.Need-condition-at-requires
+condition-at-requires c κs = search needs
+
+cast-question-requires : tie.Need-cast-question-requires
+cast-question-requires c κs = search needs
+
+returns : tie.Need-returns
+unfolding stationFrom controllerFrom
+returns c =
+    refused _ _ _ _ _ _ _ (c .before .before .before .before .seat .ensures) (c .before .before .before .before .seat .ensures) (c .before .cast-question .ensures ∙ asks-cast (c .before .before .before .before .before .args .m) (now (c .before .before .before .before .before .args .b)) (now (c .before .before .before .before .before .args .w)) (c .before .before .before .before .seat .result) ((stationIn (now (c .before .before .before .before .before .args .b)) (now (c .before .before .before .before .before .args .w)) (c .before .before .before .before .seat .result)) .sent) _ (c .before .before .condition-at .ensures) (c .before .before .before .before .before .args .id) (c .before .before .before .before .before .args .willing) (c .before .before .before .before .before .args .target)) (c .if1 .taken)
+
+cast-requires : tie.Need-cast-requires
+cast-requires c κs = search needs
+
+returns-2 : tie.Need-returns-2
+unfolding untestedEffect stationFrom controllerFrom
+returns-2 c =
+    accepted-as _ _ _ _ _ _ _ (c .before .before .before .before .before .before .before .seat .ensures) (c .before .before .before .before .before .before .before .seat .ensures) (c .before .before .before .before .cast-question .ensures ∙ asks-cast (c .before .before .before .before .before .before .before .before .args .m) (now (c .before .before .before .before .before .before .before .before .args .b)) (now (c .before .before .before .before .before .before .before .before .args .w)) (c .before .before .before .before .before .before .before .seat .result) ((stationIn (now (c .before .before .before .before .before .before .before .before .args .b)) (now (c .before .before .before .before .before .before .before .before .args .w)) (c .before .before .before .before .before .before .before .seat .result)) .sent) _ (c .before .before .before .before .before .condition-at .ensures) (c .before .before .before .before .before .before .before .before .args .id) (c .before .before .before .before .before .before .before .before .args .willing) (c .before .before .before .before .before .before .before .before .args .target)) (c .before .before .before .if1 .left) refl _ _ _ (λ y. c .cast .ensures)
+
+pub play-cast-spec : {M : Type 1} → statement M
+play-cast-spec =
+    tie.close
+    (tie.spec
+    seat-requires
+    condition-at-requires
+    cast-question-requires
+    returns
+    cast-requires
+    returns-2)

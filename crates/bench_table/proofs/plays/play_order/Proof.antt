@@ -1,0 +1,42 @@
+use mathlib.Core.Path.{refl, ap, _∙_}
+use Rattle.bench_table.proofs.PlayLaws.{order-refused, order-accepted, asks-order}
+use borrow.Author.Needs.{needs}
+use Rattle.bench_table.proofs.plays.play_order.Statement.{statement}
+use Rattle.bench_table.proofs.plays.play_order.Tie as tie
+use Rattle.bench_table.proofs.plays.play_order.Reads as reads
+use Rattle.bench_table.proofs.plays.play_order.Lts as lts
+use Rattle.bench_questions.proofs.order_question.Reads as order-question-reads
+use Rattle.bench_step.proofs.may_open.Reads as may-open-reads
+use Rattle.bench_step.proofs.order_opened.Reads as order-opened-reads
+use Rattle.bench_table.proofs.lifecycle.renew_all.Reads as renew-all-reads
+
+may-open-requires : tie.Need-may-open-requires
+may-open-requires c κs = search needs
+
+order-question-requires : tie.Need-order-question-requires
+order-question-requires c κs = search needs
+
+returns : tie.Need-returns
+returns c =
+    order-refused _ _ _ _ _ (c .before .order-question .ensures ∙ asks-order (c .before .before .before .args .m) (c .before .before .before .args .number) _ (c .before .before .may-open .ensures)) (c .if1 .taken)
+
+renew-all-requires : tie.Need-renew-all-requires
+renew-all-requires c κs = search needs
+
+order-opened-requires : tie.Need-order-opened-requires
+order-opened-requires c κs = search needs
+
+returns-2 : tie.Need-returns-2
+returns-2 c =
+    order-accepted _ _ _ _ _ (c .before .before .before .before .before .order-question .ensures ∙ asks-order (c .before .before .before .before .before .before .before .args .m) (c .before .before .before .before .before .before .before .args .number) _ (c .before .before .before .before .before .before .may-open .ensures)) (c .before .before .before .before .if1 .left) _ _ (c .before .renew-all .ensures) _ (c .order-opened .ensures)
+
+pub play-order-spec : {M : Type 1} → statement M
+play-order-spec =
+    tie.close
+    (tie.spec
+    may-open-requires
+    order-question-requires
+    returns
+    renew-all-requires
+    order-opened-requires
+    returns-2)

@@ -1,0 +1,4 @@
+pub mod Tables
+pub mod Changes
+pub mod Plays
+pub mod Untested
