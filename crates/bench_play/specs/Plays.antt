@@ -1,5 +1,5 @@
 -- An event of one controller, played on the little that it looks at: what is shared, what the event's source has sent, and the controller's
--- station. The bench's step and the run of a schedule both play it so.
+-- station. The bench's step plays it so.
 use mathlib.Core.Bool.{true, false, cond}
 use Rattle.model.specs.declared.Event.{Event}
 use Rattle.protocol.specs.declared.Sent.{Sent}

@@ -2,7 +2,7 @@
 use Prim.Native.Nat.{ℕ, _≤_}
 use mathlib.Core.Path.{_≡_, refl, sym, _∙_}
 use mathlib.Core.Bool.{Bool, true, false, not, _&&_, false≢true}
-use mathlib.Core.List.{List, [], _∷_}
+use mathlib.Core.List.{List, _∷_}
 use mathlib.Core.Logic.{inl, inr}
 use native.Mathlib.Omega.{arith}
 use lib.Dec.{eqb, leb}
@@ -18,7 +18,7 @@ use Rattle.protocol.specs.declared.Facts.{Facts}
 use Rattle.protocol.specs.declared.Bench.{Bench}
 use Rattle.protocol.specs.Benches.{station, sentBy}
 use Rattle.protocol.specs.Events.{concernsOne, subject, source}
-use Rattle.protocol.specs.Questions.{Reply, refused, Question, ask, unless, firstNo, questionsOf, factsOf}
+use Rattle.protocol.specs.Questions.{refused, Question, ask, unless, firstNo, questionsOf, factsOf}
 
 -- what the test of a number tells
 pub record Numbered (k : ℕ) : Type 0 where

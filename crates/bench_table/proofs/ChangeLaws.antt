@@ -1,8 +1,7 @@
 -- Rows changed are stations changed.
-use Prim.Native.Nat.{ℕ, zero, suc, _+_, _*_, _≤_, _<_}
+use Prim.Native.Nat.{ℕ, zero, suc, _<_}
 use mathlib.Core.Path.{_≡_, refl, sym, ap, subst, _∙_}
-use mathlib.Core.Bool.{Bool, true, false, cond}
-use mathlib.Core.List.{List, [], _∷_}
+use mathlib.Core.List.{List, _∷_}
 use mathlib.Core.Logic.{inl, inr}
 use native.Mathlib.Omega.{arith}
 use lib.Dec.{eqb}
@@ -10,14 +9,13 @@ use lib.ListN.{length, getD, set}
 use lib.Seq.{set-set, getD-set-same}
 use borrow.Author.Tests.{eqb-true, eqb-false, ne-eqb}
 use Rattle.ground.specs.Limit.{limit}
-use Rattle.ground.specs.Tests.{split, eqb-same}
+use Rattle.ground.specs.Tests.{split}
 use Rattle.ground.specs.Update.{upd, upd-same, upd-other, fun-ext}
 use Rattle.protocol.specs.declared.Station.{Station}
 use Rattle.protocol.specs.declared.Shared.{Shared}
 use Rattle.protocol.specs.declared.Effect.{Effect}
 use Rattle.bench_table.specs.Tables.{tabulate, rows, byteRows, wordRows, stationFrom, stationsOf}
 use Rattle.bench_table.specs.Changes.{At, stationsIn, stationIn, Sized, Changed, Left}
-use Rattle.bench_table.proofs.TableLaws.{unchanged}
 
 -- a list by its indices, with one element changed; one of its elements
 later : {A : Type 0} (g : ℕ → A) (a : A) (k : ℕ) → g (suc k) ≡ upd g 0 a (suc k)
@@ -89,15 +87,16 @@ changed-again b w b₁ w₁ b₂ w₂ at s t x y = record {
   stations = λ z. y .stations (same-size b w b₁ w₁ at s x z) ∙ ap (λ (l : List Station). set l at t) (x .stations z) ∙ set-set (stationsIn b w) at s t;
 }
 
+pub length-stations : (b w : List ℕ) → length (stationsIn b w) ≡ limit
+unfolding stationsOf
+length-stations b w = length-tabulate limit (λ i. stationIn b w i)
+
 -- the station that was changed, read afterwards
 pub station-after : (b w b′ w′ : List ℕ) (at : ℕ) (s : Station) → at < limit → Changed b w b′ w′ at s → Sized b w → stationIn b′ w′ at ≡ s
 station-after b w b′ w′ at s h a z =
     sym (read-station b′ w′ at s h)
     ∙ ap (λ (l : List Station). getD l at s) (a .stations z)
-    ∙ getD-set-same (stationsIn b w) at s s (let e = size-stations b w in omega (arith, h, e))
-  where
-    size-stations : (b w : List ℕ) → length (stationsIn b w) ≡ limit
-    size-stations b w = unfold stationsOf in length-tabulate limit (λ i. stationIn b w i)
+    ∙ getD-set-same (stationsIn b w) at s s (let e = length-stations b w in omega (arith, h, e))
 
 -- a change g of the station as it then stands follows another
 pub changed-then : (b w b₁ w₁ b₂ w₂ : List ℕ) (at : ℕ) (s : Station) (g : Station → Station) → at < limit

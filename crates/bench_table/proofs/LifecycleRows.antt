@@ -32,9 +32,9 @@ use Rattle.bench_step.proofs.Maps.{mapTo, map-none, map-more, map-all}
 use Rattle.bench_table.specs.Tables.{tabulate, rows, byteRows, wordRows, conditionIn, setsFrom, savedFrom, controllerFrom, stationFrom}
 use Rattle.bench_table.specs.Changes.{At, clearedBytes, clearedWords, unsentWords, stationsIn, stationIn, controllerIn, withController, Sized, Changed, Left, Renewed}
 use Rattle.bench_table.proofs.TableLaws.{follows, unchanged}
-use Rattle.bench_table.proofs.ChangeLaws.{changed, changed-again, read-station}
+use Rattle.bench_table.proofs.ChangeLaws.{changed, read-station, changed-then, length-stations}
 use Rattle.bench_table.proofs.ReadBack.{outcome-back, condition-back}
-use Rattle.bench_table.proofs.OutcomeRows.{left-becoming, length-stations, station-after}
+use Rattle.bench_table.proofs.OutcomeRows.{left-becoming}
 
 -- a change g of the row as it then stands, by a vote set s that is t, follows another
 pub follows-by : (l l₁ l₂ : List ℕ) (at : ℕ) (r : ℕ → ℕ) (g : VoteSet → (ℕ → ℕ) → ℕ → ℕ) (s t : VoteSet) → s ≡ t → At 64 l l₁ at r → At 64 l₁ l₂ at (g s (rows 64 l₁ at)) → At 64 l l₂ at (g t r)
@@ -81,17 +81,6 @@ pub row-saved : (me : Identity) (b w : ℕ → ℕ) → isPresent (conditionIn b
 unfolding stationFrom controllerFrom setsFrom tabulate upd keeping save checkpointOf
 row-saved me b w h = rw (h, outcome-back (outcomeIn (conditionIn b)))
 
--- a change g of the station as it then stands follows another
-pub station-follows : (b w b₁ w₁ b₂ w₂ : List ℕ) (at : ℕ) (s : Station) (g : Station → Station) → at < limit → Changed b w b₁ w₁ at s → Changed b₁ w₁ b₂ w₂ at (g (stationIn b₁ w₁ at))
-    → Changed b w b₂ w₂ at (g s)
-station-follows b w b₁ w₁ b₂ w₂ at s g h x y =
-    let both : Changed b w b₂ w₂ at (g (stationIn b₁ w₁ at)) = changed-again b w b₁ w₁ b₂ w₂ at s (g (stationIn b₁ w₁ at)) x y in
-    record {
-      bytes = both .bytes;
-      words = both .words;
-      stations = λ z. both .stations z ∙ ap (λ (t : Station). set (stationsIn b w) at (g t)) (station-after b w b₁ w₁ at s h z x);
-    }
-
 -- nothing sent
 abbrev withNothingSent : Station → Station
 withNothingSent s = record { controller = s .controller; sent = unsentAll; saved = s .saved }
@@ -112,7 +101,7 @@ pub row-renewed : (b w b₁ w₁ w₂ : List ℕ) (at : ℕ) (before k : Conditi
 unfolding stationFrom controllerFrom
 row-renewed b w b₁ w₁ w₂ at before k h e q x y =
     rw (sym (renewing (stationIn b w at) k (rw e at q)))
-    (station-follows b w b₁ w₁ b₁ w₂ at _ withNothingSent h x (changed b₁ w₁ b₁ w₂ at _ _ _ h (unchanged 16 b₁ at) y (row-unsent (byteRows b₁ at) (wordRows w₁ at))))
+    (changed-then b w b₁ w₁ b₁ w₂ at _ withNothingSent h x (changed b₁ w₁ b₁ w₂ at _ _ _ h (unchanged 16 b₁ at) y (row-unsent (byteRows b₁ at) (wordRows w₁ at))))
 
 -- the first i stations are renewed, the others as they were
 pub record RenewedTo (i : ℕ) (b w b′ w′ : List ℕ) : Type 0 where

@@ -1,12 +1,12 @@
 -- An event, asked and played where the bench's parts lie.
-use Prim.Native.Nat.{ℕ, _-_, _≤_, _<_}
+use Prim.Native.Nat.{ℕ, _-_, _≤_}
 use mathlib.Core.Path.{_≡_, refl, sym, ap, subst, _∙_}
-use mathlib.Core.Bool.{Bool, true, false, not, cond, _&&_, _||_, false≢true, true≢false}
+use mathlib.Core.Bool.{true, false, _&&_, false≢true, true≢false}
 use mathlib.Core.List.{List, [], map}
-use mathlib.Core.Logic.{_⊎_, inl, inr}
+use mathlib.Core.Logic.{inl, inr}
 use native.Mathlib.Omega.{arith}
-use lib.Dec.{eqb, leb, ltb}
-use lib.ListN.{length, getD, set, replicate, length-replicate}
+use lib.Dec.{leb, ltb}
+use lib.ListN.{getD, set}
 use borrow.Author.Tests.{leb-true, not-true}
 use Rattle.ground.specs.Limit.{limit}
 use Rattle.ground.specs.Tests.{and-l, and-r, and-i}
@@ -15,7 +15,6 @@ use Rattle.model.specs.QuestionLaws.{AllYes, all-yes, reply-accepted}
 use Rattle.model.specs.Ranges.{sizesInRange, isController}
 use Rattle.model.specs.declared.Event.{Event}
 use Rattle.model.specs.declared.Event.the-variants.{Lock, Order}
-use Rattle.votes.specs.VoteSets.{empty}
 use Rattle.protocol.specs.declared.Station.{Station}
 use Rattle.protocol.specs.declared.Shared.{Shared}
 use Rattle.protocol.specs.declared.Effect.{Effect}
@@ -23,14 +22,14 @@ use Rattle.protocol.specs.declared.Bench.{Bench}
 use Rattle.protocol.specs.Benches.{freshStation, benchOf, newBench, allUndecided, station, sentBy, identity}
 use Rattle.protocol.specs.Calls.{validIdentity}
 use Rattle.protocol.specs.Events.{concernsOne, subject as subjectOf, source as sourceOf}
-use Rattle.protocol.specs.Questions.{Reply, accepted, number, reply, firstNo, questionsOf, mayOpen, factsOf}
+use Rattle.protocol.specs.Questions.{number, reply, firstNo, questionsOf, mayOpen, factsOf}
 use Rattle.protocol.specs.Steps.{renewed, orderOpened, perform, step, run}
 use Rattle.protocol.specs.NoContradiction.{untestedReply, untestedPerform}
 use Rattle.protocol.proofs.claim.Reach.{Reached, reached}
 use Rattle.bench_table.specs.Untested.{untestedEffect}
 use Rattle.bench_play.proofs.Replies.{all-numbered, step-refused}
 use Rattle.bench_table.proofs.Untested.{same-reply, accepted-step, performs}
-use Rattle.bench_table.proofs.Asking.{Seat, same-questions, Stationed, stationed}
+use Rattle.bench_table.proofs.Asking.{Seat, same-questions, stationed}
 
 -- the bench of these two parts
 abbrev pub benchWith : Shared → List Station → Bench
@@ -45,12 +44,6 @@ read-station m l i at h e = ap (λ (k : ℕ). getD l k (freshStation [])) e ∙ 
 module _ (b : Bench) (es : List Event) (here : b ≡ run newBench es) where
   reached-here : Reached b
   reached-here = subst Reached (sym here) (reached es)
-
-  pub sixteen : length (b .stations) ≡ limit
-  sixteen = elim reached-here [
-    | inl z ↦ subst (λ (x : Bench). length (x .stations) ≡ limit) (sym z) (unfold benchOf in length-replicate limit (freshStation (replicate limit empty)))
-    | inr a ↦ a .size
-  ]
 
   pub few : b .shared .n ≤ limit
   few = elim reached-here [

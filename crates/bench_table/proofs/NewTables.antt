@@ -1,7 +1,6 @@
 -- Tables of zeros stand for the stations of a new bench.
 use Prim.Native.Nat.{ℕ, zero, suc, _+_, _*_}
-use mathlib.Core.Path.{_≡_, refl, sym, ap, _∙_}
-use mathlib.Core.Bool.{cond}
+use mathlib.Core.Path.{_≡_, refl, ap, _∙_}
 use mathlib.Core.List.{List, _∷_}
 use mathlib.Core.Logic.{inl, inr}
 use lib.Dec.{ltb}
@@ -14,7 +13,7 @@ use Rattle.records.specs.Codes.{outcomeOf}
 use Rattle.protocol.specs.declared.Station.{Station}
 use Rattle.protocol.specs.Benches.{freshStation, fresh, unsentAll, benchOf, newBench}
 use Rattle.bench_table.specs.Tables.{tabulate, rows, byteRows, wordRows, setsFrom, controllerFrom, stationFrom, stationsOf}
-use Rattle.bench_table.specs.Changes.{stationsIn, Sized}
+use Rattle.bench_table.specs.Changes.{Sized}
 use Rattle.bench_table.specs.Plays.{benchIn}
 
 no-value : (n i : ℕ) → _≡_ {A = ℕ} (getD (replicate n 0) i 0) 0

@@ -3,8 +3,6 @@ use Prim.Native.Nat.{ℕ, _<_}
 use mathlib.Core.Path.{_≡_, sym, ap, _∙_}
 use mathlib.Core.Bool.{Bool, true, cond, _&&_}
 use mathlib.Core.List.{List}
-use lib.ListN.{length, getD}
-use lib.Seq.{getD-set-same}
 use Rattle.ground.specs.Limit.{limit}
 use Rattle.ground.specs.Update.{upd}
 use Rattle.model.specs.Numbers.{isNone, isMove, wordOf}
@@ -21,9 +19,9 @@ use Rattle.protocol.specs.Calls.{awaitsDecision, decide}
 use Rattle.protocol.specs.Counts.{countsAfter}
 use Rattle.protocol.specs.Benches.{sentAfter}
 use Rattle.protocol.specs.Steps.{proposedTo, withCounts, decidedAs, stationAfter, answering}
-use Rattle.bench_table.specs.Tables.{tabulate, byteRows, conditionIn, setsFrom, controllerFrom, stationFrom, stationsOf}
-use Rattle.bench_table.specs.Changes.{conditionTo, stationsIn, stationIn, controllerIn, withController, Sized, Changed, Left}
-use Rattle.bench_table.proofs.ChangeLaws.{read-station, length-tabulate}
+use Rattle.bench_table.specs.Tables.{tabulate, byteRows, conditionIn, setsFrom, controllerFrom, stationFrom}
+use Rattle.bench_table.specs.Changes.{conditionTo, stationIn, controllerIn, withController, Sized, Changed, Left}
+use Rattle.bench_table.proofs.ChangeLaws.{station-after}
 use Rattle.bench_table.proofs.ReadBack.{condition-back}
 
 pub concluded : (b w : ℕ → ℕ) (o : Outcome) (before k : Condition) (target held position : ℕ) → before ≡ conditionIn b → k ≡ noting before o → target ≡ w 9 → held ≡ w 10
@@ -43,16 +41,6 @@ decided : (c : Controller) (move : Bool) → awaitsDecision c ≡ true → decid
 unfolding decide
 decided c move h = rw h
 
-pub length-stations : (b w : List ℕ) → length (stationsIn b w) ≡ limit
-unfolding stationsOf
-length-stations b w = length-tabulate limit (λ i. stationIn b w i)
-
--- the station after a change, read again
-pub station-after : (b w b′ w′ : List ℕ) (at : ℕ) (s : Station) → at < limit → Sized b w → Changed b w b′ w′ at s → stationIn b′ w′ at ≡ s
-station-after b w b′ w′ at s h z x =
-    sym (read-station b′ w′ at s h) ∙ ap (λ (l : List Station). getD l at s) (x .stations z)
-    ∙ getD-set-same (stationsIn b w) at s s (rw (length-stations b w) h)
-
 -- the choice is kept, and the counts follow the condition that was read again
 pub left-decided : (b w b′ w′ : List ℕ) (at : ℕ) (m chosen r : Shared) (move : Bool) (o : Outcome) (before after : Condition) → at < limit → awaitsDecision (controllerIn b w at) ≡ true
     → before ≡ conditionIn (byteRows b at) → o ≡ wordOf move → Changed b w b′ w′ at (withController (stationIn b w at) (conclude (controllerIn b w at) o))
@@ -62,6 +50,6 @@ unfolding stationFrom controllerFrom
 left-decided b w b′ w′ at m chosen r move o before after h k e q x d f g =
     left-becoming b w b′ w′ at (decidedAs m move) r (stationIn b w at) (conclude (controllerIn b w at) (wordOf move)) _ (decided (controllerIn b w at) move k)
     (λ z.
-    let now : after ≡ (conclude (controllerIn b w at) o) .condition = f ∙ ap (λ (s : Station). s .controller .condition) (station-after b w b′ w′ at _ h z x) in
+    let now : after ≡ (conclude (controllerIn b w at) o) .condition = f ∙ ap (λ (s : Station). s .controller .condition) (station-after b w b′ w′ at _ h x z) in
     g ∙ rw (d, e, now, q))
     (rw (sym q) x)

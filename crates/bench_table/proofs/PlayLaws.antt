@@ -1,8 +1,8 @@
 -- From what an event's questions answer and its rule leaves on the tables to the definition's step.
 use Prim.Native.Nat.{ℕ, _-_, _≤_, _<_}
 use mathlib.Core.Path.{_≡_, refl, sym, ap, _∙_}
-use mathlib.Core.Bool.{Bool, true, false, not, cond, _&&_, _||_, false≢true, true≢false}
-use mathlib.Core.List.{List, [], map}
+use mathlib.Core.Bool.{Bool, true, false, _&&_, _||_, false≢true}
+use mathlib.Core.List.{List, []}
 use mathlib.Core.Logic.{inl, inr}
 use native.Mathlib.Omega.{arith}
 use lib.Dec.{eqb, leb}
@@ -22,25 +22,23 @@ use Rattle.protocol.specs.declared.Controller.{Controller}
 use Rattle.protocol.specs.declared.Sent.{Sent}
 use Rattle.protocol.specs.declared.Station.{Station}
 use Rattle.protocol.specs.declared.Shared.{Shared}
-use Rattle.protocol.specs.declared.Effect.{Effect}
 use Rattle.protocol.specs.Benches.{freshStation, newBench, allUndecided, sentAfter, ofKind}
 use Rattle.protocol.specs.Controllers.{isRunning, isStandby, phaseIn, phase, learn}
 use Rattle.protocol.specs.Calls.{arrives, awaitsDecision}
 use Rattle.protocol.specs.Events.{concernsOne, subject, source}
-use Rattle.protocol.specs.Rules.{passedOver, becomes, sending, voteArrives, ackArrives, helpArrives, helpedArrives, keepsCall, answersCall}
+use Rattle.protocol.specs.Rules.{passedOver, becomes, voteArrives, ackArrives, helpArrives, helpedArrives, keepsCall, answersCall}
 use Rattle.protocol.specs.Controllers.{addCaller, hasCalled}
 use Rattle.protocol.specs.Questions.{number, firstNo, questionsOf, factsOf, mayOpen, isSaved}
-use Rattle.protocol.specs.Steps.{renewed, orderOpened, stationAfter, answering, run}
+use Rattle.protocol.specs.Steps.{orderOpened, stationAfter, answering, run}
 use Rattle.bench_table.specs.Untested.{untestedEffect}
 use Rattle.bench_questions.specs.Parts.{factsAt, ownFacts, openFacts}
 use Rattle.bench_table.specs.Tables.{byteRows, wordRows, conditionIn, setFrom, controllerFrom, stationFrom}
-use Rattle.bench_table.specs.Changes.{stationsIn, stationIn, controllerIn, Sized, Changed, Left, Renewed}
-use Rattle.bench_table.specs.Plays.{benchIn, Stepped, Steps}
-use Rattle.bench_table.specs.declared.Played.{Played}
+use Rattle.bench_table.specs.Changes.{stationsIn, stationIn, controllerIn, Changed, Left, Renewed}
+use Rattle.bench_table.specs.Plays.{benchIn, Steps}
 use Rattle.bench_table.proofs.ChangeLaws.{read-station, same-size, left, left-as}
 use Rattle.bench_table.proofs.ReadBack.{shared-stays}
-use Rattle.bench_table.proofs.Asking.{Seat, Numbered, Stationed, stationed}
-use Rattle.bench_table.proofs.Local.{benchWith, seat-of, Asked, replied, untouched, yes-to-all, done, few, order-opened, lock-set, valid}
+use Rattle.bench_table.proofs.Asking.{Stationed, stationed}
+use Rattle.bench_table.proofs.Local.{benchWith, seat-of, Asked, replied, untouched, yes-to-all, done, few, order-opened, lock-set}
 
 -- the place of a number, as the code finds it
 abbrev pub PlaceOf : ℕ → ℕ → Type 0

@@ -1,5 +1,5 @@
 -- What is written into a row reads back as it was; and what is shared, where nothing of it changes.
-use Prim.Native.Nat.{ℕ, _+_, _*_, _<_}
+use Prim.Native.Nat.{ℕ, _+_}
 use mathlib.Core.Path.{_≡_, refl, sym, ap, _∙_}
 use mathlib.Core.Bool.{Bool, true, false, or-false}
 use mathlib.Core.Logic.{inl, inr}
@@ -8,7 +8,7 @@ use lib.Dec.{eqb}
 use lib.ListN.{set}
 use borrow.Author.Tests.{eqb-true, eqb-false, ne-eqb}
 use Rattle.ground.specs.Limit.{limit}
-use Rattle.ground.specs.Tests.{split, eqb-same}
+use Rattle.ground.specs.Tests.{split}
 use Rattle.ground.specs.Update.{upd, upd-same, upd-other, fun-ext}
 use Rattle.records.specs.Codes.{outcomeOf}
 use Rattle.votes.specs.declared.VoteSet.{VoteSet}

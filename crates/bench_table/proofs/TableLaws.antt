@@ -1,14 +1,14 @@
 -- A table after a store: one column of one row is another.
-use Prim.Native.Nat.{ℕ, zero, suc, _+_, _*_, _≤_, _<_}
-use mathlib.Core.Path.{_≡_, refl, sym, ap, _∙_}
-use mathlib.Core.Bool.{Bool, true, false, cond}
-use mathlib.Core.List.{List, [], _∷_}
+use Prim.Native.Nat.{ℕ, _+_, _*_, _<_}
+use mathlib.Core.Path.{_≡_, refl, ap, _∙_}
+use mathlib.Core.Bool.{false, cond}
+use mathlib.Core.List.{List}
 use mathlib.Core.Logic.{inl, inr}
 use native.Mathlib.Omega.{arith}
 use lib.Dec.{eqb, ltb}
 use lib.ListN.{length, getD, set, length-set}
 use lib.Seq.{getD-set-same, getD-set-other}
-use borrow.Author.Tests.{eqb-true, ltb-true, lt-ltb, ne-eqb, eqb-false}
+use borrow.Author.Tests.{eqb-true, ltb-true, lt-ltb, eqb-false}
 use Rattle.ground.specs.Tests.{split, eqb-same}
 use Rattle.ground.specs.Update.{upd, upd-same, upd-other, fun-ext}
 use Rattle.bench_table.specs.Tables.{rows}

@@ -1,7 +1,7 @@
 -- The bench of a run lies in two tables of numbers, a row for each controller: one of bytes, one of words of 32 bits. What stands in which column, and the
 -- stations that the rows stand for.
 use Prim.Native.Nat.{ℕ, zero, suc, _+_, _*_}
-use mathlib.Core.Bool.{Bool, cond}
+use mathlib.Core.Bool.{cond}
 use mathlib.Core.List.{List, [], _∷_}
 use lib.Dec.{eqb, ltb}
 use lib.ListN.{getD}

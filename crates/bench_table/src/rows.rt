@@ -8,7 +8,6 @@ use crate::tables::word;
 use controller_state::in_phase;
 use controller_state::outcome_in;
 use controller_state::phase_in;
-use model::Outcome;
 use model::outcome_number;
 use protocol::Condition;
 use protocol::Outgoing;

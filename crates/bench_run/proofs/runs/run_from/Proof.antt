@@ -1,10 +1,10 @@
 -- The loop keeps `Upto` of the bench that the tables stand for: after k records it is that of their events, and the buffer begins with their answers; and the tables keep their sizes.
-use Prim.Native.Nat.{ℕ, _-_}
-use mathlib.Core.Path.{_≡_, refl, sym, ap, _∙_}
+use Prim.Native.Nat.{_-_}
+use mathlib.Core.Path.{ap, _∙_}
 use native.Mathlib.Omega.{arith}
 use borrow.Author.Needs.{needs}
 use mathlib.Core.Bool.{true}
-use lib.ListN.{length, drop, replicate}
+use lib.ListN.{drop, replicate}
 use Rattle.protocol.specs.declared.Bench.{Bench}
 use Rattle.bench_table.specs.Changes.{Sized}
 use Rattle.bench_table.specs.Plays.{benchIn}
@@ -13,15 +13,6 @@ use Rattle.bench_run.specs.Schedule.{eventsTo}
 use Rattle.bench_run.proofs.Records.{Upto, start, let-through, not-read, no-room, ended, read-from, place-within}
 use Rattle.bench_run.proofs.runs.run_from.Statement.{statement}
 use Rattle.bench_run.proofs.runs.run_from.Tie as tie
-use Rattle.bench_run.proofs.runs.run_from.Reads as reads
-use Rattle.bench_run.proofs.runs.run_from.Lts as lts
-use Rattle.bench_run.proofs.runs.count_from.Reads as count-from-reads
-use Rattle.bench_run.proofs.runs.not_run.Reads as not-run-reads
-use Rattle.bench_step.proofs.new_bench.Reads as new-bench-reads
-use Rattle.bench_table.proofs.play.Reads as play-reads
-use Rattle.bench_table.proofs.bench_of.Reads as bench-of-reads
-use Rattle.event_record.proofs.answer_of.Reads as answer-of-reads
-use Rattle.schedule_reader.proofs.record_at.Reads as record-at-reads
 
 abbrev Inv-loop : tie.InvT-loop
 Inv-loop s from answers₀ count m₀ bytes₀ words₀ k₀ answers m bytes words k = Upto (drop from s) answers₀ count k (benchIn m bytes words) answers × Sized bytes words

@@ -3,20 +3,13 @@ use Rattle.bench_table.proofs.LifecycleRows.{row-cleared}
 use borrow.Author.Needs.{needs}
 use Rattle.bench_table.proofs.lifecycle.clear.Statement.{statement}
 use Rattle.bench_table.proofs.lifecycle.clear.Tie as tie
-use Rattle.bench_table.proofs.lifecycle.clear.Reads as reads
-use Rattle.bench_table.proofs.lifecycle.clear.Lts as lts
-use Rattle.bench_table.proofs.lifecycle.clear_bytes.Reads as clear-bytes-reads
-use Rattle.bench_table.proofs.lifecycle.clear_words.Reads as clear-words-reads
 
--- src/lifecycle.rt:91:5
 clear-bytes-requires : tie.Need-clear-bytes-requires
 clear-bytes-requires c κs = search needs
 
--- src/lifecycle.rt:92:5
 clear-words-requires : tie.Need-clear-words-requires
 clear-words-requires c κs = search needs
 
--- src/lifecycle.rt:87:1
 returns : tie.Need-returns
 returns c = changed _ _ _ _ _ _ _ _ (search needs) (c .before .before .clear-bytes .ensures) (c .clear-words .ensures) (row-cleared _ _ _)
 

@@ -3,32 +3,22 @@ use Rattle.bench_table.proofs.TableLaws.{then, one-row-16}
 use borrow.Author.Needs.{needs}
 use Rattle.bench_table.proofs.lifecycle.clear_bytes.Statement.{statement}
 use Rattle.bench_table.proofs.lifecycle.clear_bytes.Tie as tie
-use Rattle.bench_table.proofs.lifecycle.clear_bytes.Reads as reads
-use Rattle.bench_table.proofs.lifecycle.clear_bytes.Lts as lts
-use Rattle.bench_table.proofs.rows.put_condition.Reads as put-condition-reads
-use Rattle.bench_table.proofs.tables.put_byte.Reads as put-byte-reads
 
--- src/lifecycle.rt:59:5
 put-condition-requires : tie.Need-put-condition-requires
 put-condition-requires c κs = search needs
 
--- src/lifecycle.rt:60:5
 put-byte-requires : tie.Need-put-byte-requires
 put-byte-requires c κs = search needs
 
--- src/lifecycle.rt:61:5
 put-byte-requires-2 : tie.Need-put-byte-requires-2
 put-byte-requires-2 c κs = search needs
 
--- src/lifecycle.rt:62:5
 put-byte-requires-3 : tie.Need-put-byte-requires-3
 put-byte-requires-3 c κs = search needs
 
--- src/lifecycle.rt:63:5
 put-byte-requires-4 : tie.Need-put-byte-requires-4
 put-byte-requires-4 c κs = search needs
 
--- src/lifecycle.rt:55:1
 returns : tie.Need-returns
 returns c =
     then 16 one-row-16 _ _ _ _ _ _ _ _ (search needs)

@@ -5,34 +5,22 @@ use Rattle.bench_table.proofs.LifecycleRows.{follows-by}
 use borrow.Author.Needs.{needs}
 use Rattle.bench_table.proofs.lifecycle.clear_words.Statement.{statement}
 use Rattle.bench_table.proofs.lifecycle.clear_words.Tie as tie
-use Rattle.bench_table.proofs.lifecycle.clear_words.Reads as reads
-use Rattle.bench_table.proofs.lifecycle.clear_words.Lts as lts
-use Rattle.bench_table.proofs.lifecycle.clear_votes.Reads as clear-votes-reads
-use Rattle.bench_table.proofs.rows.put_set.Reads as put-set-reads
-use Rattle.bench_table.proofs.tables.put_word.Reads as put-word-reads
-use Rattle.votes.proofs.empty_set.Reads as empty-set-reads
 
--- src/lifecycle.rt:80:5
 clear-votes-requires : tie.Need-clear-votes-requires
 clear-votes-requires c κs = search needs
 
--- src/lifecycle.rt:81:29
 empty-set-requires : tie.Need-empty-set-requires
 empty-set-requires c κs = search needs
 
--- src/lifecycle.rt:81:5
 put-set-requires : tie.Need-put-set-requires
 put-set-requires c κs = search needs
 
--- src/lifecycle.rt:82:5
 put-word-requires : tie.Need-put-word-requires
 put-word-requires c κs = search needs
 
--- src/lifecycle.rt:83:5
 put-word-requires-2 : tie.Need-put-word-requires-2
 put-word-requires-2 c κs = search needs
 
--- src/lifecycle.rt:76:1
 returns : tie.Need-returns
 returns c =
     then 64 one-row-64 _ _ _ _ _ _ _ _ (search needs)

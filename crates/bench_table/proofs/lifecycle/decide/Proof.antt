@@ -2,39 +2,25 @@ use Rattle.bench_table.proofs.OutcomeRows.{left-decided}
 use borrow.Author.Needs.{needs}
 use Rattle.bench_table.proofs.lifecycle.decide.Statement.{statement}
 use Rattle.bench_table.proofs.lifecycle.decide.Tie as tie
-use Rattle.bench_table.proofs.lifecycle.decide.Reads as reads
-use Rattle.bench_table.proofs.lifecycle.decide.Lts as lts
-use Rattle.bench_play.proofs.decided_as.Reads as decided-as-reads
-use Rattle.bench_table.proofs.outcomes.conclude_in.Reads as conclude-in-reads
-use Rattle.bench_table.proofs.outcomes.shared_after.Reads as shared-after-reads
-use Rattle.bench_table.proofs.rows.condition_at.Reads as condition-at-reads
-use Rattle.model.proofs.word_of.Reads as word-of-reads
 
--- src/lifecycle.rt:50:9
 condition-at-requires : tie.Need-condition-at-requires
 condition-at-requires c κs = search needs
 
--- src/lifecycle.rt:51:39
 word-of-requires : tie.Need-word-of-requires
 word-of-requires c κs = search needs
 
--- src/lifecycle.rt:51:5
 conclude-in-requires : tie.Need-conclude-in-requires
 conclude-in-requires c κs = search needs
 
--- src/lifecycle.rt:52:18
 decided-as-requires : tie.Need-decided-as-requires
 decided-as-requires c κs = search needs
 
--- src/lifecycle.rt:52:50
 condition-at-requires-2 : tie.Need-condition-at-requires-2
 condition-at-requires-2 c κs = search needs
 
--- src/lifecycle.rt:52:5
 shared-after-requires : tie.Need-shared-after-requires
 shared-after-requires c κs = search needs
 
--- src/lifecycle.rt:46:1
 returns : tie.Need-returns
 returns c = λ h. left-decided _ _ _ _ _ _ _ _ _ _ _ _ (search needs) h (c .before .before .before .before .before .before .before .before .condition-at .ensures) (c .before .before .before .before .before .word-of .ensures) (c .before .before .before .before .conclude-in .ensures) (c .before .before .before .decided-as .ensures) (c .before .condition-at2 .ensures) (c .shared-after .ensures)
 

@@ -3,27 +3,19 @@ use Rattle.bench_table.proofs.TableLaws.{store, then, one-row-16}
 use borrow.Author.Needs.{needs}
 use Rattle.bench_table.proofs.lifecycle.put_owner.Statement.{statement}
 use Rattle.bench_table.proofs.lifecycle.put_owner.Tie as tie
-use Rattle.bench_table.proofs.lifecycle.put_owner.Reads as reads
-use Rattle.bench_table.proofs.lifecycle.put_owner.Lts as lts
-use Rattle.bench_table.proofs.tables.put_byte.Reads as put-byte-reads
 
--- src/lifecycle.rt:131:5
 put-byte-requires : tie.Need-put-byte-requires
 put-byte-requires c κs = search needs
 
--- src/lifecycle.rt:132:5
 put-byte-requires-2 : tie.Need-put-byte-requires-2
 put-byte-requires-2 c κs = search needs
 
--- src/lifecycle.rt:133:5
 put-byte-requires-3 : tie.Need-put-byte-requires-3
 put-byte-requires-3 c κs = search needs
 
--- src/lifecycle.rt:134:5
 put-byte-requires-4 : tie.Need-put-byte-requires-4
 put-byte-requires-4 c κs = search needs
 
--- src/lifecycle.rt:127:1
 returns : tie.Need-returns
 returns c =
     then 16 one-row-16 _ _ _ _ _ _ _ _ (search needs)

@@ -2,30 +2,19 @@ use Rattle.bench_table.proofs.LifecycleRows.{row-renewed}
 use borrow.Author.Needs.{needs}
 use Rattle.bench_table.proofs.lifecycle.renew.Statement.{statement}
 use Rattle.bench_table.proofs.lifecycle.renew.Tie as tie
-use Rattle.bench_table.proofs.lifecycle.renew.Reads as reads
-use Rattle.bench_table.proofs.lifecycle.renew.Lts as lts
-use Rattle.bench_table.proofs.lifecycle.clear.Reads as clear-reads
-use Rattle.bench_table.proofs.lifecycle.renewed_condition.Reads as renewed-condition-reads
-use Rattle.bench_table.proofs.lifecycle.unsend.Reads as unsend-reads
-use Rattle.bench_table.proofs.rows.condition_at.Reads as condition-at-reads
 
--- src/lifecycle.rt:175:9
 condition-at-requires : tie.Need-condition-at-requires
 condition-at-requires c κs = search needs
 
--- src/lifecycle.rt:176:33
 renewed-condition-requires : tie.Need-renewed-condition-requires
 renewed-condition-requires c κs = search needs
 
--- src/lifecycle.rt:176:5
 clear-requires : tie.Need-clear-requires
 clear-requires c κs = search needs
 
--- src/lifecycle.rt:177:5
 unsend-requires : tie.Need-unsend-requires
 unsend-requires c κs = search needs
 
--- src/lifecycle.rt:171:1
 returns : tie.Need-returns
 returns c = row-renewed _ _ _ _ _ _ _ _ (search needs) (c .before .before .before .before .before .before .condition-at .ensures) (c .before .before .before .renewed-condition .ensures) (c .before .before .clear .ensures) (c .unsend .ensures)
 

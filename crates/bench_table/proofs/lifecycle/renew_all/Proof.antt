@@ -6,9 +6,6 @@ use Rattle.ground.specs.Limit.{limit}
 use Rattle.bench_table.proofs.LifecycleRows.{RenewedTo, renewed-none, renewed-more, renewed-all}
 use Rattle.bench_table.proofs.lifecycle.renew_all.Statement.{statement}
 use Rattle.bench_table.proofs.lifecycle.renew_all.Tie as tie
-use Rattle.bench_table.proofs.lifecycle.renew_all.Reads as reads
-use Rattle.bench_table.proofs.lifecycle.renew_all.Lts as lts
-use Rattle.bench_table.proofs.lifecycle.renew.Reads as renew-reads
 
 abbrev Inv-loop : tie.InvT-loop
 Inv-loop b₀ w₀ i₀ b w i = (i ≤ limit) × RenewedTo i b₀ w₀ b w
@@ -16,27 +13,21 @@ Inv-loop b₀ w₀ i₀ b w i = (i ≤ limit) × RenewedTo i b₀ w₀ b w
 abbrev μ-loop : tie.MeasureT-loop
 μ-loop b₀ w₀ i₀ b w i = limit - i
 
--- src/lifecycle.rt:185:5
 loop-holds : tie.Need-loop-holds Inv-loop μ-loop
 loop-holds c = (omega arith, renewed-none _ _)
 
--- src/lifecycle.rt:186:9
 renew-requires : tie.Need-renew-requires Inv-loop μ-loop
 renew-requires c κs = search needs
 
--- src/lifecycle.rt:187:9
 add-i : tie.Need-add-i Inv-loop μ-loop
 add-i c = search needs
 
--- src/lifecycle.rt:185:5
 loop-less : tie.Need-loop-less Inv-loop μ-loop
 loop-less c = search needs
 
--- src/lifecycle.rt:185:5
 loop-again : tie.Need-loop-again Inv-loop μ-loop
 loop-again c = (omega arith, renewed-more _ _ _ _ _ _ _ (search needs) (c .before .before .before .before .loop .inv .1) (c .renew .ensures))
 
--- src/lifecycle.rt:181:1
 returns : tie.Need-returns Inv-loop μ-loop
 returns c = renewed-all _ _ _ _ _ (c .loop-test .left) (c .before .loop .inv .1)
 

@@ -1,24 +1,16 @@
 use borrow.Author.Needs.{needs}
 use Rattle.bench_table.proofs.lifecycle.renewed_condition.Statement.{statement}
 use Rattle.bench_table.proofs.lifecycle.renewed_condition.Tie as tie
-use Rattle.bench_table.proofs.lifecycle.renewed_condition.Reads as reads
-use Rattle.bench_table.proofs.lifecycle.renewed_condition.Lts as lts
-use Rattle.controller_state.proofs.in_phase.Reads as in-phase-reads
-use Rattle.controller_state.proofs.is_stopped.Reads as is-stopped-reads
 
--- src/lifecycle.rt:154:8
 is-stopped-requires : tie.Need-is-stopped-requires
 is-stopped-requires c κs = search needs
 
--- src/lifecycle.rt:155:9
 returns : tie.Need-returns
 returns c = search needs
 
--- src/lifecycle.rt:157:5
 in-phase-requires : tie.Need-in-phase-requires
 in-phase-requires c κs = search needs
 
--- src/lifecycle.rt:151:1
 returns-2 : tie.Need-returns-2
 returns-2 c = simp (← c .before .before .is-stopped .ensures, c .before .if1 .left, c .in-phase .ensures)
 

@@ -4,44 +4,31 @@ use Rattle.bench_table.proofs.LifecycleRows.{follows-by}
 use borrow.Author.Needs.{needs}
 use Rattle.bench_table.proofs.lifecycle.unsend.Statement.{statement}
 use Rattle.bench_table.proofs.lifecycle.unsend.Tie as tie
-use Rattle.bench_table.proofs.lifecycle.unsend.Reads as reads
-use Rattle.bench_table.proofs.lifecycle.unsend.Lts as lts
-use Rattle.bench_table.proofs.rows.put_outgoing.Reads as put-outgoing-reads
-use Rattle.votes.proofs.empty_set.Reads as empty-set-reads
 
--- src/lifecycle.rt:165:60
 empty-set-requires : tie.Need-empty-set-requires
 empty-set-requires c κs = search needs
 
--- src/lifecycle.rt:165:5
 put-outgoing-requires : tie.Need-put-outgoing-requires
 put-outgoing-requires c κs = search needs
 
--- src/lifecycle.rt:166:60
 empty-set-requires-2 : tie.Need-empty-set-requires-2
 empty-set-requires-2 c κs = search needs
 
--- src/lifecycle.rt:166:5
 put-outgoing-requires-2 : tie.Need-put-outgoing-requires-2
 put-outgoing-requires-2 c κs = search needs
 
--- src/lifecycle.rt:167:60
 empty-set-requires-3 : tie.Need-empty-set-requires-3
 empty-set-requires-3 c κs = search needs
 
--- src/lifecycle.rt:167:5
 put-outgoing-requires-3 : tie.Need-put-outgoing-requires-3
 put-outgoing-requires-3 c κs = search needs
 
--- src/lifecycle.rt:168:60
 empty-set-requires-4 : tie.Need-empty-set-requires-4
 empty-set-requires-4 c κs = search needs
 
--- src/lifecycle.rt:168:5
 put-outgoing-requires-4 : tie.Need-put-outgoing-requires-4
 put-outgoing-requires-4 c κs = search needs
 
--- src/lifecycle.rt:161:1
 returns : tie.Need-returns
 returns c =
     follows-by _ _ _ _ _ (λ s. outgoingTo 20 (record { to = 0; votes = s })) _ _ (c .before .empty-set4 .ensures)

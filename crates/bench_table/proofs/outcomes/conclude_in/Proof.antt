@@ -6,49 +6,31 @@ use Rattle.bench_table.proofs.OutcomeRows.{concluded}
 use borrow.Author.Needs.{needs}
 use Rattle.bench_table.proofs.outcomes.conclude_in.Statement.{statement}
 use Rattle.bench_table.proofs.outcomes.conclude_in.Tie as tie
-use Rattle.bench_table.proofs.outcomes.conclude_in.Reads as reads
-use Rattle.bench_table.proofs.outcomes.conclude_in.Lts as lts
-use Rattle.bench_table.proofs.outcomes.landing_in.Reads as landing-in-reads
-use Rattle.bench_table.proofs.rows.condition_at.Reads as condition-at-reads
-use Rattle.bench_table.proofs.rows.put_condition.Reads as put-condition-reads
-use Rattle.bench_table.proofs.tables.put_byte.Reads as put-byte-reads
-use Rattle.bench_table.proofs.tables.put_word.Reads as put-word-reads
-use Rattle.bench_table.proofs.tables.word.Reads as word-reads
-use Rattle.controller_state.proofs.noting.Reads as noting-reads
 
--- src/outcomes.rt:66:9
 condition-at-requires : tie.Need-condition-at-requires
 condition-at-requires c κs = search needs
 
--- src/outcomes.rt:67:45
 word-requires : tie.Need-word-requires
 word-requires c κs = search needs
 
--- src/outcomes.rt:67:61
 word-requires-2 : tie.Need-word-requires-2
 word-requires-2 c κs = search needs
 
--- src/outcomes.rt:67:9
 landing-in-requires : tie.Need-landing-in-requires
 landing-in-requires c κs = search needs
 
--- src/outcomes.rt:68:5
 put-byte-requires : tie.Need-put-byte-requires
 put-byte-requires c κs = search needs
 
--- src/outcomes.rt:69:32
 noting-requires : tie.Need-noting-requires
 noting-requires c κs = search needs
 
--- src/outcomes.rt:69:5
 put-condition-requires : tie.Need-put-condition-requires
 put-condition-requires c κs = search needs
 
--- src/outcomes.rt:70:5
 put-word-requires : tie.Need-put-word-requires
 put-word-requires c κs = search needs
 
--- src/outcomes.rt:62:1
 returns : tie.Need-returns
 returns c =
     changed _ _ _ _ _ _ _ _ (search needs)

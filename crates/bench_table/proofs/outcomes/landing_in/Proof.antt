@@ -1,19 +1,13 @@
 use borrow.Author.Needs.{needs}
 use Rattle.bench_table.proofs.outcomes.landing_in.Statement.{statement}
 use Rattle.bench_table.proofs.outcomes.landing_in.Tie as tie
-use Rattle.bench_table.proofs.outcomes.landing_in.Reads as reads
-use Rattle.bench_table.proofs.outcomes.landing_in.Lts as lts
-use Rattle.bench_table.proofs.outcomes.moves_in.Reads as moves-in-reads
 
--- src/outcomes.rt:55:8
 moves-in-requires : tie.Need-moves-in-requires
 moves-in-requires c κs = search needs
 
--- src/outcomes.rt:56:9
 returns : tie.Need-returns
 returns c = simp (← c .before .moves-in .ensures, c .if1 .taken)
 
--- src/outcomes.rt:52:1
 returns-2 : tie.Need-returns-2
 returns-2 c = simp (← c .before .moves-in .ensures, c .if1 .left)
 

@@ -2,15 +2,10 @@ use Rattle.bench_table.proofs.ReadBack.{proposed-none}
 use borrow.Author.Needs.{needs}
 use Rattle.bench_table.proofs.outcomes.shared_after.Statement.{statement}
 use Rattle.bench_table.proofs.outcomes.shared_after.Tie as tie
-use Rattle.bench_table.proofs.outcomes.shared_after.Reads as reads
-use Rattle.bench_table.proofs.outcomes.shared_after.Lts as lts
-use Rattle.bench_play.proofs.counts_after.Reads as counts-after-reads
 
--- src/outcomes.rt:34:9
 counts-after-requires : tie.Need-counts-after-requires
 counts-after-requires c κs = search needs
 
--- src/outcomes.rt:30:1
 returns : tie.Need-returns
 returns c = rw (c .before .counts-after .ensures, proposed-none (c .before .before .before .args .m))
 

@@ -1,17 +1,6 @@
 use borrow.Author.Needs.{needs}
 use Rattle.bench_table.proofs.plays.play.Statement.{statement}
 use Rattle.bench_table.proofs.plays.play.Tie as tie
-use Rattle.bench_table.proofs.plays.play.Reads as reads
-use Rattle.bench_table.proofs.plays.play.Lts as lts
-use Rattle.bench_table.proofs.plays.play_cast.Reads as play-cast-reads
-use Rattle.bench_table.proofs.plays.play_decide.Reads as play-decide-reads
-use Rattle.bench_table.proofs.plays.play_delivery.Reads as play-delivery-reads
-use Rattle.bench_table.proofs.plays.play_lock.Reads as play-lock-reads
-use Rattle.bench_table.proofs.plays.play_order.Reads as play-order-reads
-use Rattle.bench_table.proofs.plays.play_restore.Reads as play-restore-reads
-use Rattle.bench_table.proofs.plays.play_save.Reads as play-save-reads
-use Rattle.bench_table.proofs.plays.play_stop.Reads as play-stop-reads
-use Rattle.bench_table.proofs.plays.play_timeout.Reads as play-timeout-reads
 
 enum-known-e : tie.Need-enum-known-e
 enum-known-e c = search needs

@@ -1,18 +1,12 @@
 use denote.Ref.{now}
 use Rattle.bench_table.specs.Changes.{stationIn}
-use mathlib.Core.Path.{refl, ap, _∙_}
+use mathlib.Core.Path.{refl, _∙_}
 use Rattle.bench_table.proofs.PlayLaws.{refused, accepted-as, asks-cast}
 use Rattle.bench_table.specs.Untested.{untestedEffect}
 use Rattle.bench_table.specs.Tables.{stationFrom, controllerFrom}
 use borrow.Author.Needs.{needs}
 use Rattle.bench_table.proofs.plays.play_cast.Statement.{statement}
 use Rattle.bench_table.proofs.plays.play_cast.Tie as tie
-use Rattle.bench_table.proofs.plays.play_cast.Reads as reads
-use Rattle.bench_table.proofs.plays.play_cast.Lts as lts
-use Rattle.bench_questions.proofs.cast_question.Reads as cast-question-reads
-use Rattle.bench_table.proofs.plays.seat.Reads as seat-reads
-use Rattle.bench_table.proofs.rows.condition_at.Reads as condition-at-reads
-use Rattle.bench_table.proofs.timeouts.cast.Reads as cast-reads
 
 seat-requires : tie.Need-seat-requires
 seat-requires c κs = search needs

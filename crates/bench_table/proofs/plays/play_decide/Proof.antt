@@ -1,18 +1,12 @@
 use denote.Ref.{now}
 use Rattle.bench_table.specs.Changes.{stationIn}
-use mathlib.Core.Path.{refl, ap, _∙_}
+use mathlib.Core.Path.{refl, _∙_}
 use Rattle.bench_table.proofs.PlayLaws.{refused, accepted-as, asks-decide, awaits}
 use Rattle.bench_table.specs.Untested.{untestedEffect}
 use Rattle.bench_table.specs.Tables.{stationFrom, controllerFrom}
 use borrow.Author.Needs.{needs}
 use Rattle.bench_table.proofs.plays.play_decide.Statement.{statement}
 use Rattle.bench_table.proofs.plays.play_decide.Tie as tie
-use Rattle.bench_table.proofs.plays.play_decide.Reads as reads
-use Rattle.bench_table.proofs.plays.play_decide.Lts as lts
-use Rattle.bench_questions.proofs.decide_question.Reads as decide-question-reads
-use Rattle.bench_table.proofs.lifecycle.decide.Reads as decide-reads
-use Rattle.bench_table.proofs.plays.seat.Reads as seat-reads
-use Rattle.bench_table.proofs.rows.condition_at.Reads as condition-at-reads
 
 seat-requires : tie.Need-seat-requires
 seat-requires c κs = search needs

@@ -1,12 +1,6 @@
 use borrow.Author.Needs.{needs}
 use Rattle.bench_table.proofs.plays.play_delivery.Statement.{statement}
 use Rattle.bench_table.proofs.plays.play_delivery.Tie as tie
-use Rattle.bench_table.proofs.plays.play_delivery.Reads as reads
-use Rattle.bench_table.proofs.plays.play_delivery.Lts as lts
-use Rattle.bench_table.proofs.plays.play_ack.Reads as play-ack-reads
-use Rattle.bench_table.proofs.plays.play_help.Reads as play-help-reads
-use Rattle.bench_table.proofs.plays.play_helped.Reads as play-helped-reads
-use Rattle.bench_table.proofs.plays.play_vote.Reads as play-vote-reads
 
 enum-told : tie.Need-enum-told
 enum-told c = search needs

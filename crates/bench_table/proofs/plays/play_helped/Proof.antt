@@ -1,21 +1,12 @@
 use denote.Ref.{now}
 use Rattle.bench_table.specs.Changes.{stationIn}
 use Rattle.model.specs.declared.Kind.the-variants.{Helped}
-use mathlib.Core.Path.{refl, ap, _∙_}
+use mathlib.Core.Path.{refl, _∙_}
 use Rattle.bench_table.proofs.PlayLaws.{refused, accepted-as, asks-delivery, helped-left}
-use Rattle.bench_table.specs.Untested.{untestedEffect}
 use Rattle.bench_table.specs.Tables.{stationFrom, controllerFrom}
 use borrow.Author.Needs.{needs}
 use Rattle.bench_table.proofs.plays.play_helped.Statement.{statement}
 use Rattle.bench_table.proofs.plays.play_helped.Tie as tie
-use Rattle.bench_table.proofs.plays.play_helped.Reads as reads
-use Rattle.bench_table.proofs.plays.play_helped.Lts as lts
-use Rattle.bench_questions.proofs.deliver_question.Reads as deliver-question-reads
-use Rattle.bench_table.proofs.arrivals.helped_arrives.Reads as helped-arrives-reads
-use Rattle.bench_table.proofs.plays.seat.Reads as seat-reads
-use Rattle.bench_table.proofs.rows.condition_at.Reads as condition-at-reads
-use Rattle.bench_table.proofs.rows.set_at.Reads as set-at-reads
-use Rattle.bench_table.proofs.tables.word.Reads as word-reads
 
 seat-requires : tie.Need-seat-requires
 seat-requires c κs = search needs

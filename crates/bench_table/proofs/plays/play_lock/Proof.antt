@@ -1,11 +1,7 @@
-use mathlib.Core.Path.{refl, ap, _∙_}
 use Rattle.bench_table.proofs.PlayLaws.{lock-refused, lock-accepted}
 use borrow.Author.Needs.{needs}
 use Rattle.bench_table.proofs.plays.play_lock.Statement.{statement}
 use Rattle.bench_table.proofs.plays.play_lock.Tie as tie
-use Rattle.bench_table.proofs.plays.play_lock.Reads as reads
-use Rattle.bench_table.proofs.plays.play_lock.Lts as lts
-use Rattle.bench_questions.proofs.lock_question.Reads as lock-question-reads
 
 lock-question-requires : tie.Need-lock-question-requires
 lock-question-requires c κs = search needs

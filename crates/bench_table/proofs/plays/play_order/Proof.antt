@@ -1,14 +1,8 @@
-use mathlib.Core.Path.{refl, ap, _∙_}
+use mathlib.Core.Path.{_∙_}
 use Rattle.bench_table.proofs.PlayLaws.{order-refused, order-accepted, asks-order}
 use borrow.Author.Needs.{needs}
 use Rattle.bench_table.proofs.plays.play_order.Statement.{statement}
 use Rattle.bench_table.proofs.plays.play_order.Tie as tie
-use Rattle.bench_table.proofs.plays.play_order.Reads as reads
-use Rattle.bench_table.proofs.plays.play_order.Lts as lts
-use Rattle.bench_questions.proofs.order_question.Reads as order-question-reads
-use Rattle.bench_step.proofs.may_open.Reads as may-open-reads
-use Rattle.bench_step.proofs.order_opened.Reads as order-opened-reads
-use Rattle.bench_table.proofs.lifecycle.renew_all.Reads as renew-all-reads
 
 may-open-requires : tie.Need-may-open-requires
 may-open-requires c κs = search needs

@@ -8,13 +8,6 @@ use Rattle.records.specs.Codes.{flagOf}
 use borrow.Author.Needs.{needs}
 use Rattle.bench_table.proofs.plays.play_restore.Statement.{statement}
 use Rattle.bench_table.proofs.plays.play_restore.Tie as tie
-use Rattle.bench_table.proofs.plays.play_restore.Reads as reads
-use Rattle.bench_table.proofs.plays.play_restore.Lts as lts
-use Rattle.bench_questions.proofs.restore_question.Reads as restore-question-reads
-use Rattle.bench_table.proofs.lifecycle.restore.Reads as restore-reads
-use Rattle.bench_table.proofs.plays.seat.Reads as seat-reads
-use Rattle.bench_table.proofs.rows.condition_at.Reads as condition-at-reads
-use Rattle.bench_table.proofs.tables.byte.Reads as byte-reads
 
 seat-requires : tie.Need-seat-requires
 seat-requires c κs = search needs

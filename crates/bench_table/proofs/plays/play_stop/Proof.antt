@@ -1,18 +1,12 @@
 use denote.Ref.{now}
 use Rattle.bench_table.specs.Changes.{stationIn}
-use mathlib.Core.Path.{refl, ap, _∙_}
+use mathlib.Core.Path.{refl, _∙_}
 use Rattle.bench_table.proofs.PlayLaws.{refused, accepted-as, asks-stop}
 use Rattle.bench_table.specs.Untested.{untestedEffect}
 use Rattle.bench_table.specs.Tables.{stationFrom, controllerFrom}
 use borrow.Author.Needs.{needs}
 use Rattle.bench_table.proofs.plays.play_stop.Statement.{statement}
 use Rattle.bench_table.proofs.plays.play_stop.Tie as tie
-use Rattle.bench_table.proofs.plays.play_stop.Reads as reads
-use Rattle.bench_table.proofs.plays.play_stop.Lts as lts
-use Rattle.bench_questions.proofs.present_question.Reads as present-question-reads
-use Rattle.bench_table.proofs.lifecycle.stop.Reads as stop-reads
-use Rattle.bench_table.proofs.plays.seat.Reads as seat-reads
-use Rattle.bench_table.proofs.rows.condition_at.Reads as condition-at-reads
 
 seat-requires : tie.Need-seat-requires
 seat-requires c κs = search needs

@@ -1,29 +1,20 @@
-use borrow.Author.Tests.{le-leb, lt-leb, lt-ltb, le-ltb, eq-eqb, ne-eqb}
+use borrow.Author.Tests.{eq-eqb, ne-eqb}
 use borrow.Author.Needs.{needs}
 use Rattle.bench_table.proofs.rows.condition_from.Statement.{statement}
 use Rattle.bench_table.proofs.rows.condition_from.Tie as tie
-use Rattle.bench_table.proofs.rows.condition_from.Reads as reads
-use Rattle.bench_table.proofs.rows.condition_from.Lts as lts
-use Rattle.controller_state.proofs.in_phase.Reads as in-phase-reads
-use Rattle.records.proofs.outcome_of.Reads as outcome-of-reads
 
--- src/rows.rt:26:9
 outcome-of-requires : tie.Need-outcome-of-requires
 outcome-of-requires c κs = search needs
 
--- src/rows.rt:28:9
 in-phase-requires : tie.Need-in-phase-requires
 in-phase-requires c κs = search needs
 
--- src/rows.rt:28:9
 returns : tie.Need-returns
 returns c = simp (← c .before .before .outcome-of .ensures, eq-eqb _ _ (c .before .if1 .taken), c .in-phase .ensures)
 
--- src/rows.rt:31:9
 returns-2 : tie.Need-returns-2
 returns-2 c = simp (← c .before .before .outcome-of .ensures, ne-eqb _ _ (c .before .if1 .left), eq-eqb _ _ (c .if2 .taken))
 
--- src/rows.rt:23:1
 returns-3 : tie.Need-returns-3
 returns-3 c = simp (← c .before .before .outcome-of .ensures, ne-eqb _ _ (c .before .if1 .left), ne-eqb _ _ (c .if2 .left))
 

@@ -4,43 +4,28 @@ use Rattle.bench_table.proofs.TableLaws.{then, store, one-row-16}
 use borrow.Author.Needs.{needs}
 use Rattle.bench_table.proofs.rows.put_condition.Statement.{statement}
 use Rattle.bench_table.proofs.rows.put_condition.Tie as tie
-use Rattle.bench_table.proofs.rows.put_condition.Reads as reads
-use Rattle.bench_table.proofs.rows.put_condition.Lts as lts
-use Rattle.bench_table.proofs.rows.tag_of.Reads as tag-of-reads
-use Rattle.bench_table.proofs.tables.put_byte.Reads as put-byte-reads
-use Rattle.controller_state.proofs.outcome_in.Reads as outcome-in-reads
-use Rattle.controller_state.proofs.phase_in.Reads as phase-in-reads
-use Rattle.model.proofs.outcome_number.Reads as outcome-number-reads
 
--- src/rows.rt:57:30
 tag-of-requires : tie.Need-tag-of-requires
 tag-of-requires c κs = search needs
 
--- src/rows.rt:57:5
 put-byte-requires : tie.Need-put-byte-requires
 put-byte-requires c κs = search needs
 
--- src/rows.rt:58:30
 phase-in-requires : tie.Need-phase-in-requires
 phase-in-requires c κs = search needs
 
--- src/rows.rt:58:5
 put-byte-requires-2 : tie.Need-put-byte-requires-2
 put-byte-requires-2 c κs = search needs
 
--- src/rows.rt:59:45
 outcome-in-requires : tie.Need-outcome-in-requires
 outcome-in-requires c κs = search needs
 
--- src/rows.rt:59:30
 outcome-number-requires : tie.Need-outcome-number-requires
 outcome-number-requires c κs = search needs
 
--- src/rows.rt:59:5
 put-byte-requires-3 : tie.Need-put-byte-requires-3
 put-byte-requires-3 c κs = search needs
 
--- src/rows.rt:53:1
 returns : tie.Need-returns
 returns c =
     then 16 one-row-16 _ _ _ _ _ _ _ _ (search needs)

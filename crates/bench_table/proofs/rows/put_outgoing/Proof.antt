@@ -5,24 +5,16 @@ use Rattle.bench_table.specs.Changes.{setTo}
 use borrow.Author.Needs.{needs}
 use Rattle.bench_table.proofs.rows.put_outgoing.Statement.{statement}
 use Rattle.bench_table.proofs.rows.put_outgoing.Tie as tie
-use Rattle.bench_table.proofs.rows.put_outgoing.Reads as reads
-use Rattle.bench_table.proofs.rows.put_outgoing.Lts as lts
-use Rattle.bench_table.proofs.rows.put_set.Reads as put-set-reads
-use Rattle.bench_table.proofs.tables.put_word.Reads as put-word-reads
 
--- src/rows.rt:95:5
 put-word-requires : tie.Need-put-word-requires
 put-word-requires c κs = search needs
 
--- src/rows.rt:96:26
 add-put-set : tie.Need-add-put-set
 add-put-set c = search needs
 
--- src/rows.rt:96:5
 put-set-requires : tie.Need-put-set-requires
 put-set-requires c κs = search needs
 
--- src/rows.rt:90:1
 returns : tie.Need-returns
 returns c = follows 64 _ _ _ _ _ (setTo (c .before .before .before .before .before .args .c + 1) (c .before .before .before .before .before .args .o .votes)) (store 64 one-row-64 _ _ _ _ _ _ (search needs) refl (c .before .before .put-word .ensures)) (c .put-set .ensures)
 

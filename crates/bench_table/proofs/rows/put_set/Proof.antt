@@ -3,23 +3,16 @@ use Rattle.bench_table.proofs.TableLaws.{then, store, one-row-64}
 use borrow.Author.Needs.{needs}
 use Rattle.bench_table.proofs.rows.put_set.Statement.{statement}
 use Rattle.bench_table.proofs.rows.put_set.Tie as tie
-use Rattle.bench_table.proofs.rows.put_set.Reads as reads
-use Rattle.bench_table.proofs.rows.put_set.Lts as lts
-use Rattle.bench_table.proofs.tables.put_word.Reads as put-word-reads
 
--- src/rows.rt:76:5
 put-word-requires : tie.Need-put-word-requires
 put-word-requires c κs = search needs
 
--- src/rows.rt:77:27
 add-put-word : tie.Need-add-put-word
 add-put-word c = search needs
 
--- src/rows.rt:77:5
 put-word-requires-2 : tie.Need-put-word-requires-2
 put-word-requires-2 c κs = search needs
 
--- src/rows.rt:72:1
 returns : tie.Need-returns
 returns c = then 64 one-row-64 _ _ _ _ _ _ _ _ (search needs) (store 64 one-row-64 _ _ _ _ _ _ (search needs) refl (c .before .before .put-word .ensures)) refl (c .put-word2 .ensures)
 

@@ -2,22 +2,16 @@ use borrow.Author.Needs.{needs}
 use Rattle.bench_table.proofs.TableLaws.{read}
 use Rattle.bench_table.proofs.tables.byte.Statement.{statement}
 use Rattle.bench_table.proofs.tables.byte.Tie as tie
-use Rattle.bench_table.proofs.tables.byte.Reads as reads
-use Rattle.bench_table.proofs.tables.byte.Lts as lts
 
--- src/tables.rt:16:7
 mul-result : tie.Need-mul-result
 mul-result c = search needs
 
--- src/tables.rt:16:7
 add-result : tie.Need-add-result
 add-result c = search needs
 
--- src/tables.rt:16:5
 element-copy-out-result : tie.Need-element-copy-out-result
 element-copy-out-result c = search needs
 
--- src/tables.rt:12:1
 returns : tie.Need-returns
 returns c = read 16 _ _ _ (search needs)
 

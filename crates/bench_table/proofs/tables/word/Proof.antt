@@ -2,26 +2,19 @@ use borrow.Author.Needs.{needs}
 use Rattle.bench_table.proofs.TableLaws.{read}
 use Rattle.bench_table.proofs.tables.word.Statement.{statement}
 use Rattle.bench_table.proofs.tables.word.Tie as tie
-use Rattle.bench_table.proofs.tables.word.Reads as reads
-use Rattle.bench_table.proofs.tables.word.Lts as lts
 
--- src/tables.rt:30:7
 mul-result : tie.Need-mul-result
 mul-result c = search needs
 
--- src/tables.rt:30:7
 add-result : tie.Need-add-result
 add-result c = search needs
 
--- src/tables.rt:30:5
 mul-result-2 : tie.Need-mul-result-2
 mul-result-2 c = search needs
 
--- src/tables.rt:30:5
 element-copy-out-result : tie.Need-element-copy-out-result
 element-copy-out-result c = search needs
 
--- src/tables.rt:26:1
 returns : tie.Need-returns
 returns c = read 64 _ _ _ (search needs)
 
