@@ -2,6 +2,8 @@ pub mod TableLaws
 pub mod ChangeLaws
 pub mod ReadBack
 mod Filling
+mod Firsts
+mod Idle
 pub mod WaitingRows
 pub mod ArrivalRows
 pub mod OutcomeRows

@@ -1,11 +1,11 @@
 -- What ends, saves, restores and renews a controller, on a row: the row's station is the rule's.
-use Prim.Native.Nat.{ℕ, _+_, _<_, _≤_}
+use Prim.Native.Nat.{ℕ, _+_, _<_, min}
 use mathlib.Core.Path.{_≡_, refl, sym, ap, _∙_}
 use mathlib.Core.Bool.{true, cond, false≢true}
 use mathlib.Core.List.{List, []}
 use mathlib.Core.Logic.{inl, inr}
 use lib.Dec.{eqb}
-use lib.ListN.{length, getD, set}
+use lib.ListN.{getD, set}
 use Rattle.ground.specs.Limit.{limit}
 use Rattle.ground.specs.Tests.{split}
 use Rattle.ground.specs.Update.{upd}
@@ -28,9 +28,9 @@ use Rattle.protocol.specs.Benches.{identity, unsentAll, freshStation}
 use Rattle.protocol.specs.Events.{restoreFrom}
 use Rattle.protocol.specs.Questions.{isSaved}
 use Rattle.protocol.specs.Steps.{proposedTo, withCounts, answering, keeping, renewed}
-use Rattle.bench_step.proofs.Maps.{mapTo, map-none, map-more, map-all}
 use Rattle.bench_table.specs.Tables.{tabulate, rows, byteRows, wordRows, conditionIn, setsFrom, savedFrom, controllerFrom, stationFrom}
-use Rattle.bench_table.specs.Changes.{At, clearedBytes, clearedWords, unsentWords, stationsIn, stationIn, controllerIn, withController, Sized, Changed, Left, Renewed}
+use Rattle.bench_table.specs.Changes.{At, clearedBytes, clearedWords, unsentWords, stationsIn, stationIn, controllerIn, withController, Changed, Left, RenewedUpTo}
+use Rattle.bench_table.proofs.Firsts.{first-more, first-all}
 use Rattle.bench_table.proofs.TableLaws.{follows, unchanged}
 use Rattle.bench_table.proofs.ChangeLaws.{changed, read-station, changed-then, length-stations}
 use Rattle.bench_table.proofs.ReadBack.{outcome-back, condition-back}
@@ -103,16 +103,11 @@ row-renewed b w b₁ w₁ w₂ at before k h e q x y =
     rw (sym (renewing (stationIn b w at) k (rw e at q)))
     (changed-then b w b₁ w₁ b₁ w₂ at _ withNothingSent h x (changed b₁ w₁ b₁ w₂ at _ _ _ h (unchanged 16 b₁ at) y (row-unsent (byteRows b₁ at) (wordRows w₁ at))))
 
--- the first i stations are renewed, the others as they were
-pub record RenewedTo (i : ℕ) (b w b′ w′ : List ℕ) : Type 0 where
-  pub bytes : length b′ ≡ length b
-  pub words : length w′ ≡ length w
-  pub stations : Sized b w → stationsIn b′ w′ ≡ mapTo renewed i (stationsIn b w)
+-- the loop that renews the first n: none yet, one more, all of them
+pub renewed-none : (b w : List ℕ) → RenewedUpTo 0 b w b w
+renewed-none b w = record { bytes = refl; words = refl; stations = λ z. refl }
 
-pub renewed-none : (b w : List ℕ) → RenewedTo 0 b w b w
-renewed-none b w = record { bytes = refl; words = refl; stations = λ z. map-none renewed (stationsIn b w) }
-
-pub renewed-more : (i : ℕ) (b w b₁ w₁ b₂ w₂ : List ℕ) → i < limit → RenewedTo i b w b₁ w₁ → Changed b₁ w₁ b₂ w₂ i (renewed (stationIn b₁ w₁ i)) → RenewedTo (i + 1) b w b₂ w₂
+pub renewed-more : (i : ℕ) (b w b₁ w₁ b₂ w₂ : List ℕ) → i < limit → RenewedUpTo i b w b₁ w₁ → Changed b₁ w₁ b₂ w₂ i (renewed (stationIn b₁ w₁ i)) → RenewedUpTo (i + 1) b w b₂ w₂
 renewed-more i b w b₁ w₁ b₂ w₂ h x y =
     let d : Station = freshStation [] in
     record {
@@ -122,12 +117,12 @@ renewed-more i b w b₁ w₁ b₂ w₂ h x y =
           y .stations (record { bytes = x .bytes ∙ z .bytes; words = x .words ∙ z .words })
           ∙ ap (λ (t : Station). set (stationsIn b₁ w₁) i (renewed t)) (sym (read-station b₁ w₁ i d h))
           ∙ ap (λ (l : List Station). set l i (renewed (getD l i d))) (x .stations z)
-          ∙ map-more renewed i (stationsIn b w) d (rw (length-stations b w) h);
+          ∙ first-more renewed i (stationsIn b w) d (rw (length-stations b w) h);
     }
 
-pub renewed-all : (i : ℕ) (b w b′ w′ : List ℕ) → limit ≤ i → RenewedTo i b w b′ w′ → Renewed b w b′ w′
-renewed-all i b w b′ w′ h x = record {
+pub renewed-all : (i n : ℕ) (b w b′ w′ : List ℕ) → i ≡ min n limit → RenewedUpTo i b w b′ w′ → RenewedUpTo n b w b′ w′
+renewed-all i n b w b′ w′ e x = record {
   bytes = x .bytes;
   words = x .words;
-  stations = λ z. x .stations z ∙ map-all renewed i (stationsIn b w) (rw (length-stations b w) h);
+  stations = λ z. x .stations z ∙ first-all renewed n i (stationsIn b w) (rw (length-stations b w) e);
 }

@@ -33,10 +33,11 @@ use Rattle.protocol.specs.Steps.{orderOpened, stationAfter, answering, run}
 use Rattle.bench_table.specs.Untested.{untestedEffect}
 use Rattle.bench_questions.specs.Parts.{factsAt, ownFacts, openFacts}
 use Rattle.bench_table.specs.Tables.{byteRows, wordRows, conditionIn, setFrom, controllerFrom, stationFrom}
-use Rattle.bench_table.specs.Changes.{stationsIn, stationIn, controllerIn, Changed, Left, Renewed}
+use Rattle.bench_table.specs.Changes.{stationsIn, stationIn, controllerIn, Changed, Left, RenewedUpTo}
 use Rattle.bench_table.specs.Plays.{benchIn, Steps}
 use Rattle.bench_table.proofs.ChangeLaws.{read-station, same-size, left, left-as}
 use Rattle.bench_table.proofs.ReadBack.{shared-stays}
+use Rattle.bench_table.proofs.Idle.{enough}
 use Rattle.bench_table.proofs.Asking.{Stationed, stationed}
 use Rattle.bench_table.proofs.Local.{benchWith, seat-of, Asked, replied, untouched, yes-to-all, done, few, order-opened, lock-set}
 
@@ -181,13 +182,13 @@ module _ (m : Shared) (b w : List ℕ) (k q : ℕ) (e : q ≡ number (firstNo (q
   pub order-refused : (q ≡ 0 → ⊥) → Steps m b w (Order k) (record { answer = q; shared = m }) b w
   order-refused = refused m b w (Order k) 0 0 q at-first at-first e
 
-  pub order-accepted : q ≡ 0 → (b′ w′ : List ℕ) → Renewed b w b′ w′ → (m′ : Shared) → m′ ≡ orderOpened m k → Steps m b w (Order k) (record { answer = q; shared = m′ }) b′ w′
+  pub order-accepted : q ≡ 0 → (b′ w′ : List ℕ) → RenewedUpTo (m .n) b w b′ w′ → (m′ : Shared) → m′ ≡ orderOpened m k → Steps m b w (Order k) (record { answer = q; shared = m′ }) b′ w′
   order-accepted z b′ w′ r m′ o = record {
     reached = λ es size here. record {
       answer = replied _ _ _ _ _ _ _ (asked-here m b w (Order k) 0 0 q at-first at-first e es here);
       bench =
           ap (λ (u : Shared). benchWith u (stationsIn b′ w′)) o
-          ∙ ap (benchWith (orderOpened m k)) (r .stations size)
+          ∙ ap (benchWith (orderOpened m k)) (r .stations size ∙ enough (benchIn m b w) es here)
           ∙ order-opened m (stationsIn b w) es here k q e z;
       sized = record { bytes = r .bytes ∙ size .bytes; words = r .words ∙ size .words };
     };

@@ -2,9 +2,9 @@
 use Prim.Native.Nat.{ℕ, suc, _+_, _*_, _≤_}
 use mathlib.Core.Bool.{Bool, cond, not, _&&_, _||_}
 use mathlib.Core.Path.{_≡_}
-use mathlib.Core.List.{List, map}
+use mathlib.Core.List.{List, map, _++_}
 use lib.Dec.{ltb}
-use lib.ListN.{length, set}
+use lib.ListN.{length, set, take, drop}
 use Rattle.ground.specs.Lists.{nth}
 use Rattle.ground.specs.Mask.{has}
 use Rattle.ground.specs.Quantify.{allTo}
@@ -121,8 +121,12 @@ rowHolds w n j = has (w 2) j && complete n (nth empty (setsFrom w) j)
 abbrev pub rowDecides : (ℕ → ℕ) → ℕ → ℕ → ℕ → Bool
 rowDecides w n f i = allTo f (rowHolds w n) && (not (isBackup f i) || rowHolds w f (suc f))
 
--- every station is renewed
-pub record Renewed (b w b′ w′ : List ℕ) : Type 0 where
+-- a list with its first n elements changed
+abbrev pub mapFirst : {A : Type 0} → (A → A) → ℕ → List A → List A
+mapFirst g n l = map g (take n l) ++ drop n l
+
+-- the first n stations are renewed, the others as they were
+pub record RenewedUpTo (n : ℕ) (b w b′ w′ : List ℕ) : Type 0 where
   pub bytes : length b′ ≡ length b
   pub words : length w′ ≡ length w
-  pub stations : Sized b w → stationsIn b′ w′ ≡ map renewed (stationsIn b w)
+  pub stations : Sized b w → stationsIn b′ w′ ≡ mapFirst renewed n (stationsIn b w)

@@ -11,11 +11,11 @@ use crate::tables::byte;
 use crate::tables::put_byte;
 use crate::tables::put_word;
 use crate::tables::word;
+use crate::waiting::up_to_limit;
 use bench_play::decided_as;
 use controller_state::in_phase;
 use controller_state::is_stopped;
 use controller_state::outcome_in;
-use ground::LIMIT;
 use model::Outcome;
 use model::outcome_number;
 use model::word_of;
@@ -40,7 +40,7 @@ ghost use Rattle.protocol.specs.Events.{restoreFrom};
 ghost use Rattle.protocol.specs.Questions.{isSaved};
 ghost use Rattle.protocol.specs.Steps.{decidedAs, answering, keeping, renewed};
 ghost use Rattle.bench_table.specs.Tables.{byteRows, wordRows, conditionIn};
-ghost use Rattle.bench_table.specs.Changes.{At, clearedBytes, clearedVotes, clearedWords, unsentWords, stationIn, controllerIn, withController, Changed, Left, Renewed};
+ghost use Rattle.bench_table.specs.Changes.{At, clearedBytes, clearedVotes, clearedWords, unsentWords, stationIn, controllerIn, withController, Changed, Left, RenewedUpTo};
 
 // The arbiter's word: the outcome if there is none.
 pub(crate) fn decide(
@@ -221,12 +221,13 @@ fn renew(b: &mut [u8; BYTES], w: &mut [u32; WORDS], at: usize)
     unsend(&mut *w, at);
 }
 
-// Every station is renewed.
-pub(crate) fn renew_all(b: &mut [u8; BYTES], w: &mut [u32; WORDS])
-    ensures { λ _. ⌜ Renewed (now (b .entry)) (now (w .entry)) (now (b .exit)) (now (w .exit)) ⌝ }
+// The first n stations are renewed: on a bench of a run the others have just begun, and a new order leaves them so.
+pub(crate) fn renew_to(b: &mut [u8; BYTES], w: &mut [u32; WORDS], n: u8)
+    ensures { λ _. ⌜ RenewedUpTo n (now (b .entry)) (now (w .entry)) (now (b .exit)) (now (w .exit)) ⌝ }
 {
+    let end = up_to_limit(n) as usize;
     let mut i: usize = 0;
-    while i < LIMIT {
+    while i < end {
         renew(&mut *b, &mut *w, i);
         i += 1;
     }

@@ -5,7 +5,7 @@ use crate::arrivals::help_arrives;
 use crate::arrivals::helped_arrives;
 use crate::arrivals::vote_arrives;
 use crate::lifecycle::decide;
-use crate::lifecycle::renew_all;
+use crate::lifecycle::renew_to;
 use crate::lifecycle::restore;
 use crate::lifecycle::save;
 use crate::lifecycle::stop;
@@ -74,7 +74,7 @@ fn play_order(b: &mut [u8; BYTES], w: &mut [u32; WORDS], m: Shared, number: u32)
     if answer != 0 {
         return Played { answer, shared: m };
     }
-    renew_all(&mut *b, &mut *w);
+    renew_to(&mut *b, &mut *w, m.n);
     let shared = order_opened(m, number);
     Played { answer, shared }
 }

@@ -28,7 +28,7 @@ ghost use Rattle.bench_table.specs.Tables.{byteRows, wordRows, setsFrom}
 ghost use Rattle.bench_table.specs.Changes.{At, stationIn, controllerIn, settled, Left};
 
 // The smaller of n and the limit.
-fn up_to_limit(n: u8) -> u8
+pub(crate) fn up_to_limit(n: u8) -> u8
     ensures { λ r. ⌜ r ≡ min n limit ⌝ }
 {
     if (n as usize) < LIMIT {

@@ -14,15 +14,15 @@ returns : tie.Need-returns
 returns c =
     order-refused _ _ _ _ _ (c .before .order-question .ensures ∙ asks-order (c .before .before .before .args .m) (c .before .before .before .args .number) _ (c .before .before .may-open .ensures)) (c .if1 .taken)
 
-renew-all-requires : tie.Need-renew-all-requires
-renew-all-requires c κs = search needs
+renew-to-requires : tie.Need-renew-to-requires
+renew-to-requires c κs = search needs
 
 order-opened-requires : tie.Need-order-opened-requires
 order-opened-requires c κs = search needs
 
 returns-2 : tie.Need-returns-2
 returns-2 c =
-    order-accepted _ _ _ _ _ (c .before .before .before .before .before .order-question .ensures ∙ asks-order (c .before .before .before .before .before .before .before .args .m) (c .before .before .before .before .before .before .before .args .number) _ (c .before .before .before .before .before .before .may-open .ensures)) (c .before .before .before .before .if1 .left) _ _ (c .before .renew-all .ensures) _ (c .order-opened .ensures)
+    order-accepted _ _ _ _ _ (c .before .before .before .before .before .order-question .ensures ∙ asks-order (c .before .before .before .before .before .before .before .args .m) (c .before .before .before .before .before .before .before .args .number) _ (c .before .before .before .before .before .before .may-open .ensures)) (c .before .before .before .before .if1 .left) _ _ (c .before .renew-to .ensures) _ (c .order-opened .ensures)
 
 pub play-order-spec : {M : Type 1} → statement M
 play-order-spec =
@@ -31,6 +31,6 @@ play-order-spec =
     may-open-requires
     order-question-requires
     returns
-    renew-all-requires
+    renew-to-requires
     order-opened-requires
     returns-2)
