@@ -1,2 +1,5 @@
 pub mod Schedule
 pub mod Runs
+pub mod Tables
+pub mod Changes
+pub mod Plays

@@ -1,5 +1,15 @@
-// A whole schedule, played on a new bench.
+// A whole schedule, played on a new bench. The bench of a run lies in two tables of numbers, a row for each controller, on which each kind of event is
+// played in place.
+mod arrivals;
+mod lifecycle;
+mod outcomes;
+mod plays;
+mod rows;
 mod runs;
+mod stations;
+mod tables;
+mod timeouts;
+mod waiting;
 
 use protocol::Bench;
 pub use runs::run;

@@ -1,18 +1,27 @@
 // The run of a schedule on a new bench.
 use crate::RunResult;
+use crate::plays::Played;
+use crate::plays::play;
+use crate::stations::stations_of;
+use crate::tables::BYTES;
+use crate::tables::WORDS;
 use bench_step::new_bench;
-use bench_table::BYTES;
-use bench_table::WORDS;
-use bench_table::bench_of;
-use bench_table::play;
 use event_record::ReadEvent;
 use event_record::answer_of;
 use model::Event;
+use protocol::Bench;
+use protocol::Shared;
 use schedule_reader::Reader;
 use schedule_reader::reader_at;
 use schedule_reader::record_at;
 ghost use mathlib.Core.Path.{_≡_};
-ghost use lib.ListN.{drop};
+ghost use mathlib.Core.Bool.{true};
+ghost use Prim.Native.Nat.{_≤_};
+ghost use lib.ListN.{length, drop};
+ghost use Rattle.schedule_reader.specs.Pieces.{recordAt};
+ghost use Rattle.protocol.specs.Benches.{newBench};
+ghost use Rattle.bench_run.specs.Changes.{Sized};
+ghost use Rattle.bench_run.specs.Plays.{benchIn, StepsRecord};
 ghost use Rattle.bench_run.specs.Schedule.{count};
 ghost use Rattle.bench_run.specs.Runs.{notRun, Ran};
 
@@ -36,7 +45,52 @@ fn not_run() -> RunResult
     }
 }
 
-// Plays what stands from a place of the schedule on. The bench lies in two tables of this function's own, and each event is played there.
+fn new_shared() -> Shared
+    ensures { λ r. ⌜ r ≡ newBench .shared ⌝ }
+{
+    let bench = new_bench();
+    bench.shared
+}
+
+// The record at a place is read, and its event played where the bench lies.
+fn play_record(s: &[u8], at: usize, b: &mut [u8; BYTES], w: &mut [u32; WORDS], m: Shared) -> Played
+    ensures { λ r. ⌜ StepsRecord m (now (b .entry)) (now (w .entry)) (recordAt (now (s .entry)) at) r (now (b .exit)) (now (w .exit)) ⌝ }
+{
+    let r = record_at(s, at);
+    let ReadEvent::Read(e) = r else {
+        return Played {
+            answer: answer_of(r),
+            shared: m,
+        };
+    };
+    play(&mut *b, &mut *w, m, e)
+}
+
+// All records from a place on, one after the other, on the tables of a new bench. There is room for their answers.
+fn play_records(
+    s: &[u8],
+    from: usize,
+    all: usize,
+    answers: &mut [u8],
+    b: &mut [u8; BYTES],
+    w: &mut [u32; WORDS],
+    first: Shared,
+) -> Shared
+    requires { ⌜ (all ≡ count (drop from (now s))) × (all ≤ length (now answers)) ⌝ }
+    ensures { λ m. ⌜ (Sized (now (b .entry)) (now (w .entry)) → benchIn first (now (b .entry)) (now (w .entry)) ≡ newBench → Ran (drop from (now (s .entry))) (now (answers .entry)) (record { complete = true; count = all; bench = benchIn m (now (b .exit)) (now (w .exit)) }) (now (answers .exit))) ⌝ }
+{
+    let mut m = first;
+    let mut k: usize = 0;
+    while k < all {
+        let played = play_record(s, from + k * Event::LENGTH, &mut *b, &mut *w, m);
+        answers[k] = played.answer;
+        m = played.shared;
+        k += 1;
+    }
+    m
+}
+
+// Plays what stands from a place of the schedule on. The bench lies in two tables of this function's own.
 fn run_from(s: &[u8], from: usize, answers: &mut [u8]) -> RunResult
     ensures { λ r. ⌜ Ran (drop from (now (s .entry))) (now (answers .entry)) r (now (answers .exit)) ⌝ }
 {
@@ -44,29 +98,22 @@ fn run_from(s: &[u8], from: usize, answers: &mut [u8]) -> RunResult
     if answers.len() < count {
         return not_run();
     }
-    let fresh = new_bench();
-    let mut m = fresh.shared;
     let mut bytes = [0u8; BYTES];
     let mut words = [0u32; WORDS];
-    let mut k: usize = 0;
-    while k < count {
-        let r = record_at(s, from + k * Event::LENGTH);
-        let ReadEvent::Read(e) = r else {
-            answers[k] = answer_of(r);
-            k += 1;
-            continue;
-        };
-        let t = play(&mut bytes, &mut words, m, e);
-        answers[k] = t.answer;
-        let shared = t.shared;
-        m = shared;
-        k += 1;
-    }
-    let bench = bench_of(&bytes, &words, m);
+    let shared = play_records(
+        s,
+        from,
+        count,
+        &mut *answers,
+        &mut bytes,
+        &mut words,
+        new_shared(),
+    );
+    let stations = stations_of(&bytes, &words);
     RunResult {
         complete: true,
         count,
-        bench,
+        bench: Bench { shared, stations },
     }
 }
 

@@ -1,0 +1,19 @@
+use borrow.Author.Needs.{needs}
+use Rattle.bench_run.proofs.lifecycle.renewed_condition.Statement.{statement}
+use Rattle.bench_run.proofs.lifecycle.renewed_condition.Tie as tie
+
+is-stopped-requires : tie.Need-is-stopped-requires
+is-stopped-requires c κs = search needs
+
+returns : tie.Need-returns
+returns c = search needs
+
+in-phase-requires : tie.Need-in-phase-requires
+in-phase-requires c κs = search needs
+
+returns-2 : tie.Need-returns-2
+returns-2 c = simp (← c .before .before .is-stopped .ensures, c .before .if1 .left, c .in-phase .ensures)
+
+pub renewed-condition-spec : {M : Type 1} → statement M
+renewed-condition-spec =
+    tie.close (tie.spec is-stopped-requires returns in-phase-requires returns-2)

@@ -1,0 +1,67 @@
+-- `bench_run::stations::sets_at` meets its contract. The invariant: the first j vote sets are those of the row.
+use Prim.Native.Nat.{_≤_, _-_}
+use mathlib.Core.Path.{refl}
+use native.Mathlib.Omega.{arith}
+use borrow.Author.Needs.{needs}
+use Rattle.bench_run.specs.Tables.{wordRows, setFrom, setColumn, setsFrom}
+use Rattle.bench_run.proofs.Filling.{Filled, none-filled, one-filled, all-filled}
+use Rattle.bench_run.proofs.stations.sets_at.Statement.{statement}
+use Rattle.bench_run.proofs.stations.sets_at.Tie as tie
+
+abbrev Inv-loop : tie.InvT-loop
+Inv-loop w at sets₀ j₀ sets j = (j ≤ 16) × Filled (λ k. setFrom (wordRows w at) (setColumn k)) 16 j sets
+
+abbrev μ-loop : tie.MeasureT-loop
+μ-loop w at sets₀ j₀ sets j = 16 - j
+
+empty-set-requires : tie.Need-empty-set-requires Inv-loop μ-loop
+empty-set-requires c κs = search needs
+
+loop-holds : tie.Need-loop-holds Inv-loop μ-loop
+loop-holds c = (omega arith, none-filled _ 16 _ refl)
+
+mul-set-at : tie.Need-mul-set-at Inv-loop μ-loop
+mul-set-at c = search needs
+
+add-set-at : tie.Need-add-set-at Inv-loop μ-loop
+add-set-at c = search needs
+
+set-at-requires : tie.Need-set-at-requires Inv-loop μ-loop
+set-at-requires c κs = search needs
+
+mul-sets : tie.Need-mul-sets Inv-loop μ-loop
+mul-sets c = search needs
+
+array-set-from-sets : tie.Need-array-set-from-sets Inv-loop μ-loop
+array-set-from-sets c = search needs
+
+add-j : tie.Need-add-j Inv-loop μ-loop
+add-j c = omega arith
+
+loop-less : tie.Need-loop-less Inv-loop μ-loop
+loop-less c = omega arith
+
+loop-again : tie.Need-loop-again Inv-loop μ-loop
+loop-again c = (omega arith, one-filled _ 16 _ _ _ (c .before .loop-test .taken) (c .before .before .loop .inv .1) (c .set-at .ensures))
+
+returns : tie.Need-returns Inv-loop μ-loop
+unfolding setsFrom
+returns c = all-filled _ 16 _ _ (c .loop-test .left) (c .before .loop .inv .1)
+
+pub sets-at-spec : {M : Type 1} → statement M
+sets-at-spec =
+    tie.close
+    (tie.spec
+    Inv-loop
+    μ-loop
+    empty-set-requires
+    loop-holds
+    mul-set-at
+    add-set-at
+    set-at-requires
+    mul-sets
+    array-set-from-sets
+    add-j
+    loop-less
+    loop-again
+    returns)

@@ -1,0 +1,117 @@
+// The word of what a controller holds, and the count that ends waiting.
+use crate::rows::set_at;
+use crate::tables::BYTES;
+use crate::tables::WORDS;
+use crate::tables::byte;
+use crate::tables::put_byte;
+use crate::tables::word;
+use bench_play::proposed_to;
+use ground::LIMIT;
+use ground::has;
+use model::Outcome;
+use model::outcome_number;
+use model::word_of;
+use protocol::Shared;
+use votes::Joined;
+use votes::empty_set;
+use votes::join;
+use votes::unanimous;
+ghost use mathlib.Core.Path.{_≡_};
+ghost use Prim.Native.Nat.{_+_, _<_, min};
+ghost use lib.Dec.{leb};
+ghost use Rattle.ground.specs.Limit.{limit};
+ghost use Rattle.ground.specs.Update.{upd};
+ghost use Rattle.model.specs.Numbers.{outcomeNumber};
+ghost use Rattle.votes.specs.Joining.{joinAll, unanimousIn};
+ghost use Rattle.protocol.specs.Rules.{verdict, answersJoin};
+ghost use Rattle.bench_run.specs.Tables.{byteRows, wordRows, setsFrom};
+ghost use Rattle.bench_run.specs.Changes.{At, stationIn, controllerIn, settled, Left};
+
+// The smaller of n and the limit.
+pub(crate) fn up_to_limit(n: u8) -> u8
+    ensures { λ r. ⌜ r ≡ min n limit ⌝ }
+{
+    if (n as usize) < LIMIT {
+        return n;
+    }
+    LIMIT as u8
+}
+
+// The join of the acknowledgements held, or that two of them contradict each other.
+pub(crate) fn joined_acks(w: &[u32; WORDS], at: usize, n: u8) -> Joined
+    requires { ⌜ at < limit ⌝ }
+    ensures { λ r. ⌜ r ≡ joinAll n (wordRows (now (w .entry)) at 2) (setsFrom (wordRows (now (w .entry)) at)) ⌝ }
+{
+    let from = word(w, at, 2);
+    let end = up_to_limit(n);
+    let mut joined = empty_set();
+    let mut k: u8 = 0;
+    while k < end {
+        let c = 25 + 2 * (k as usize);
+        k += 1;
+        if !has(from, k) {
+            continue;
+        }
+        let Joined::Agreed(next) = join(joined, set_at(w, at, c)) else {
+            return Joined::Contradiction;
+        };
+        joined = next;
+    }
+    Joined::Agreed(joined)
+}
+
+// Is the word of a join Move?
+pub(crate) fn unanimous_in(n: u8, j: Joined) -> bool
+    ensures { λ r. ⌜ r ≡ unanimousIn n j ⌝ }
+{
+    match j {
+        Joined::Agreed(s) => unanimous(s, n),
+        Joined::Contradiction => false,
+    }
+}
+
+// The word that is put: of the acknowledgements if it holds any, else of the help answers.
+fn answers_verdict(b: &[u8; BYTES], w: &[u32; WORDS], at: usize, n: u8) -> Outcome
+    requires { ⌜ at < limit ⌝ }
+    ensures { λ r. ⌜ r ≡ verdict n (answersJoin n (controllerIn (now (b .entry)) (now (w .entry)) at)) ⌝ }
+{
+    if 0 < byte(b, at, 3) {
+        return word_of(unanimous_in(n, joined_acks(w, at, n)));
+    }
+    let helped = set_at(w, at, 3);
+    word_of(unanimous(helped, n))
+}
+
+// The two counts add up to n - f or more.
+fn counts_suffice(b: &[u8; BYTES], at: usize, n: u8, f: u8) -> bool
+    requires { ⌜ at < limit ⌝ }
+    ensures { λ r. ⌜ r ≡ leb n (byteRows (now (b .entry)) at 3 + byteRows (now (b .entry)) at 4 + f) ⌝ }
+{
+    let counted = (byte(b, at, 3) as u32) + (byte(b, at, 4) as u32) + (f as u32);
+    (n as u32) <= counted
+}
+
+// It has put a word, and waits no more.
+pub(crate) fn put_proposal(b: &mut [u8; BYTES], at: usize, o: Outcome)
+    requires { ⌜ at < limit ⌝ }
+    ensures { λ _. ⌜ At 16 (now (b .entry)) (now (b .exit)) at (upd (upd (byteRows (now (b .entry)) at) 5 0) 6 (outcomeNumber o)) ⌝ }
+{
+    put_byte(&mut *b, at, 5, 0);
+    put_byte(&mut *b, at, 6, outcome_number(o));
+}
+
+// After something was counted: if it waits and the count is complete, a word is put.
+pub(crate) fn settle(b: &mut [u8; BYTES], w: &[u32; WORDS], m: Shared, at: usize) -> Shared
+    requires { ⌜ at < limit ⌝ }
+    ensures { λ r. ⌜ Left (now (b .entry)) (now (w .entry)) (now (b .exit)) (now (w .entry)) at (settled m (stationIn (now (b .entry)) (now (w .entry)) at)) r ⌝ }
+{
+    if byte(b, at, 5) != 1 {
+        return m;
+    }
+    if !counts_suffice(b, at, m.n, m.f) {
+        return m;
+    }
+    let o = answers_verdict(b, w, at, m.n);
+    put_proposal(&mut *b, at, o);
+    proposed_to(m, o)
+}
