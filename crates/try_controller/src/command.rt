@@ -22,13 +22,6 @@ use votes::VoteSet;
 ghost use mathlib.Core.Path.{_≡_};
 ghost use Prim.Native.Nat.{_<_};
 
-// Who the controller is after a command, its answer, and the checkpoint that it made.
-pub(crate) struct Told {
-    pub me: Identity,
-    pub answer: Answer,
-    pub saved: Saved,
-}
-
 fn byte(s: &[u8], i: usize) -> u8 {
     if i < s.len() {
         return s[i];
@@ -108,51 +101,57 @@ fn checkpoint_at(s: &[u8], me: Identity) -> Checkpoint {
     }
 }
 
-fn plain(me: Identity, answer: Answer) -> Told {
-    Told {
-        me,
-        answer,
-        saved: Saved::Nothing,
+// Who the controller is once a command has come: a new one, one of a new order, or the same.
+pub(crate) fn identity_after(s: &[u8], me: Identity) -> Identity {
+    match byte(s, 0) {
+        0 => Identity {
+            n: byte(s, 1),
+            f: byte(s, 2),
+            id: byte(s, 3),
+            order: number(s, 4),
+        },
+        1 => Identity {
+            order: number(s, 4),
+            ..me
+        },
+        _ => me,
     }
 }
 
-fn become_fresh(s: &[u8]) -> Told {
-    let me = Identity {
-        n: byte(s, 1),
-        f: byte(s, 2),
-        id: byte(s, 3),
-        order: number(s, 4),
-    };
-    plain(me, becomes(fresh()))
+// The checkpoint that a command asks for.
+pub(crate) fn saved_by(s: &[u8], me: Identity, c: Controller) -> Saved {
+    if byte(s, 0) == 7 {
+        return save(me, c);
+    }
+    Saved::Nothing
 }
 
-fn saved(me: Identity, c: Controller) -> Told {
-    let saved = save(me, c);
-    match saved {
-        Saved::Nothing => plain(me, passed_over(c)),
-        Saved::Newest(_) => Told {
-            me,
-            answer: becomes(c),
-            saved,
-        },
+// A checkpoint is made or, of a stopped controller, none.
+fn saving(me: Identity, c: Controller) -> Answer {
+    match save(me, c) {
+        Saved::Nothing => passed_over(c),
+        Saved::Newest(_) => becomes(c),
+    }
+}
+
+// What ends, saves and restores it.
+fn later_answer(s: &[u8], me: Identity, c: Controller) -> Answer {
+    match byte(s, 0) {
+        5 => decide(byte(s, 1) == 1, c),
+        6 => stop(c),
+        7 => saving(me, c),
+        _ => restore(me, checkpoint_at(s, me), c),
     }
 }
 
 // What the controller answers to a command.
-pub(crate) fn ask(s: &[u8], me: Identity, c: Controller) -> Told {
+pub(crate) fn answer_to(s: &[u8], me: Identity, c: Controller) -> Answer {
     match byte(s, 0) {
-        0 => become_fresh(s),
-        1 => {
-            let mut next = me;
-            next.order = number(s, 4);
-            plain(next, becomes(renew(c)))
-        }
-        2 => plain(me, vote(me, byte(s, 1) == 1, number(s, 4), c)),
-        3 => plain(me, receive(me, message_at(s), c)),
-        4 => plain(me, timeout(me, c)),
-        5 => plain(me, decide(byte(s, 1) == 1, c)),
-        6 => plain(me, stop(c)),
-        7 => saved(me, c),
-        _ => plain(me, restore(me, checkpoint_at(s, me), c)),
+        0 => becomes(fresh()),
+        1 => becomes(renew(c)),
+        2 => vote(me, byte(s, 1) == 1, number(s, 4), c),
+        3 => receive(me, message_at(s), c),
+        4 => timeout(me, c),
+        _ => later_answer(s, me, c),
     }
 }

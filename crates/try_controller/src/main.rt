@@ -3,8 +3,10 @@
 mod command;
 mod print;
 
-use command::ask;
+use command::answer_to;
+use command::identity_after;
 use command::is_command;
+use command::saved_by;
 use controller_state::fresh;
 use libc::STDIN_FILENO;
 use print::flush;
@@ -36,14 +38,12 @@ fn step(s: &[u8], t: Trial, out: &mut [u8]) -> Trial {
     if !is_command(s) {
         return t;
     }
-    let old = t.me;
+    let me = identity_after(s, t.me);
     let c = t.c;
-    let told = ask(s, old, c);
-    let me = told.me;
-    let answer = told.answer;
-    let saved = told.saved;
-    let c = answer.controller;
+    let answer = answer_to(s, me, c);
+    let saved = saved_by(s, me, c);
     let waiting = put_line(out, t.waiting, me, answer, saved);
+    let c = answer.controller;
     Trial { me, c, waiting }
 }
 
