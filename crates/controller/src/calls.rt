@@ -1,5 +1,6 @@
 // A vote is asked for, a message arrives, a timeout (document 01: a bell) is over.
 use controller_rules::arrives;
+use controller_rules::contradicts_held;
 use controller_rules::first_timeout;
 use controller_rules::second_timeout;
 use controller_rules::vote_rule;
@@ -9,7 +10,6 @@ use controller_state::is_running;
 use controller_state::is_taken;
 use controller_state::passed_over;
 use controller_state::phase_in;
-use controller_verdicts::contradicts_held;
 use message_record::suits;
 use model::Message;
 use model::is_controller;

@@ -1,4 +1,5 @@
 // What arrives: votes, acknowledgements, help calls and help answers.
+use crate::waiting::propose_if_sufficient;
 use controller_state::add_caller;
 use controller_state::becomes;
 use controller_state::helps;
@@ -8,7 +9,6 @@ use controller_state::learn;
 use controller_state::passed_over;
 use controller_state::phase_in;
 use controller_state::sending;
-use controller_verdicts::propose_if_sufficient;
 use ground::has;
 use ground::insert;
 use model::Kind;

@@ -1,4 +1,7 @@
 // The second timeout.
+use crate::deciding::decides;
+use crate::waiting::ack_tally;
+use crate::waiting::propose_if_sufficient;
 use controller_state::advance;
 use controller_state::await_help;
 use controller_state::conclude;
@@ -7,9 +10,6 @@ use controller_state::helps;
 use controller_state::keep_helped;
 use controller_state::proposing;
 use controller_state::sending;
-use controller_verdicts::ack_tally;
-use controller_verdicts::decides;
-use controller_verdicts::propose_if_sufficient;
 use model::Kind;
 use model::recipients;
 use model::word_of;

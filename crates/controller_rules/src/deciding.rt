@@ -50,7 +50,7 @@ fn second_knows(f: u8, c: Controller) -> bool
 }
 
 // May it take the word of the acknowledgements as the outcome?
-pub fn decides(n: u8, f: u8, i: u8, c: Controller) -> bool
+pub(crate) fn decides(n: u8, f: u8, i: u8, c: Controller) -> bool
     ensures { λ r. ⌜ r ≡ decides n f i c ⌝ }
 {
     if !backups_complete(n, f, c) {

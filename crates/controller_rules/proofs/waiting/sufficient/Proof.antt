@@ -1,7 +1,7 @@
 use Rattle.protocol.specs.Rules.{sufficient}
 use borrow.Author.Needs.{needs}
-use Rattle.controller_verdicts.proofs.waiting.sufficient.Statement.{statement}
-use Rattle.controller_verdicts.proofs.waiting.sufficient.Tie as tie
+use Rattle.controller_rules.proofs.waiting.sufficient.Statement.{statement}
+use Rattle.controller_rules.proofs.waiting.sufficient.Tie as tie
 
 cast-counted : tie.Need-cast-counted
 cast-counted c = search needs

@@ -1,7 +1,7 @@
 use Rattle.protocol.specs.Calls.{contradictsHeld}
 use borrow.Author.Needs.{needs}
-use Rattle.controller_verdicts.proofs.held.contradicts_held.Statement.{statement}
-use Rattle.controller_verdicts.proofs.held.contradicts_held.Tie as tie
+use Rattle.controller_rules.proofs.held.contradicts_held.Statement.{statement}
+use Rattle.controller_rules.proofs.held.contradicts_held.Tie as tie
 
 contradicts-requires : tie.Need-contradicts-requires
 contradicts-requires c κs = search needs

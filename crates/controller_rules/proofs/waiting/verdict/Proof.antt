@@ -1,7 +1,7 @@
 use Rattle.protocol.specs.Rules.{verdict}
 use borrow.Author.Needs.{needs}
-use Rattle.controller_verdicts.proofs.waiting.verdict.Statement.{statement}
-use Rattle.controller_verdicts.proofs.waiting.verdict.Tie as tie
+use Rattle.controller_rules.proofs.waiting.verdict.Statement.{statement}
+use Rattle.controller_rules.proofs.waiting.verdict.Tie as tie
 
 unanimous-requires : tie.Need-unanimous-requires
 unanimous-requires c κs = search needs

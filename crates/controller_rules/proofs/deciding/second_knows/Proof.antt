@@ -4,8 +4,8 @@ use native.Mathlib.Numerals.{add-one}
 use Rattle.ground.specs.Inclusion.{has-past}
 use Rattle.protocol.specs.Rules.{secondKnows}
 use borrow.Author.Needs.{needs}
-use Rattle.controller_verdicts.proofs.deciding.second_knows.Statement.{statement}
-use Rattle.controller_verdicts.proofs.deciding.second_knows.Tie as tie
+use Rattle.controller_rules.proofs.deciding.second_knows.Statement.{statement}
+use Rattle.controller_rules.proofs.deciding.second_knows.Tie as tie
 
 returns : tie.Need-returns
 unfolding secondKnows

@@ -13,9 +13,9 @@ use Rattle.ground.specs.Tests.{and-i}
 use Rattle.votes.specs.VoteSets.{empty, complete}
 use Rattle.protocol.specs.declared.Acks.{Acks}
 use Rattle.protocol.specs.Rules.{backupsComplete}
-use Rattle.controller_verdicts.proofs.Quantified.{all-no}
-use Rattle.controller_verdicts.proofs.deciding.backups_complete.Statement.{statement}
-use Rattle.controller_verdicts.proofs.deciding.backups_complete.Tie as tie
+use Rattle.controller_rules.proofs.Quantified.{all-no}
+use Rattle.controller_rules.proofs.deciding.backups_complete.Statement.{statement}
+use Rattle.controller_rules.proofs.deciding.backups_complete.Tie as tie
 
 -- the acknowledgement of j is held, and full
 abbrev held : ℕ → Acks → ℕ → Bool

@@ -1,7 +1,7 @@
 use Rattle.protocol.specs.Rules.{proposeIfSufficient}
 use borrow.Author.Needs.{needs}
-use Rattle.controller_verdicts.proofs.waiting.propose_if_sufficient.Statement.{statement}
-use Rattle.controller_verdicts.proofs.waiting.propose_if_sufficient.Tie as tie
+use Rattle.controller_rules.proofs.waiting.propose_if_sufficient.Statement.{statement}
+use Rattle.controller_rules.proofs.waiting.propose_if_sufficient.Tie as tie
 
 sufficient-requires : tie.Need-sufficient-requires
 sufficient-requires c κs = search needs

@@ -1,6 +1,6 @@
 use borrow.Author.Needs.{needs}
-use Rattle.controller_verdicts.proofs.held.ack_contradicts.Statement.{statement}
-use Rattle.controller_verdicts.proofs.held.ack_contradicts.Tie as tie
+use Rattle.controller_rules.proofs.held.ack_contradicts.Statement.{statement}
+use Rattle.controller_rules.proofs.held.ack_contradicts.Tie as tie
 
 has-requires : tie.Need-has-requires
 has-requires c κs = search needs

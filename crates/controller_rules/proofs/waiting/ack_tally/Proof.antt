@@ -1,7 +1,7 @@
 use Rattle.protocol.specs.Rules.{ackJoin}
 use borrow.Author.Needs.{needs}
-use Rattle.controller_verdicts.proofs.waiting.ack_tally.Statement.{statement}
-use Rattle.controller_verdicts.proofs.waiting.ack_tally.Tie as tie
+use Rattle.controller_rules.proofs.waiting.ack_tally.Statement.{statement}
+use Rattle.controller_rules.proofs.waiting.ack_tally.Tie as tie
 
 tally-all-requires : tie.Need-tally-all-requires
 tally-all-requires c κs = search needs

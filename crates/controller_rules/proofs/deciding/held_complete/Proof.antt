@@ -1,6 +1,6 @@
 use borrow.Author.Needs.{needs}
-use Rattle.controller_verdicts.proofs.deciding.held_complete.Statement.{statement}
-use Rattle.controller_verdicts.proofs.deciding.held_complete.Tie as tie
+use Rattle.controller_rules.proofs.deciding.held_complete.Statement.{statement}
+use Rattle.controller_rules.proofs.deciding.held_complete.Tie as tie
 
 has-requires : tie.Need-has-requires
 has-requires c κs = search needs

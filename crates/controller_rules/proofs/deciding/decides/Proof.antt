@@ -1,8 +1,8 @@
 use borrow.Author.Tests.{not-false, not-true}
 use Rattle.protocol.specs.Rules.{decides}
 use borrow.Author.Needs.{needs}
-use Rattle.controller_verdicts.proofs.deciding.decides.Statement.{statement}
-use Rattle.controller_verdicts.proofs.deciding.decides.Tie as tie
+use Rattle.controller_rules.proofs.deciding.decides.Statement.{statement}
+use Rattle.controller_rules.proofs.deciding.decides.Tie as tie
 
 backups-complete-requires : tie.Need-backups-complete-requires
 backups-complete-requires c κs = search needs

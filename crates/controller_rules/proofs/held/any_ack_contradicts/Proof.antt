@@ -12,8 +12,8 @@ use Rattle.votes.specs.VoteSets.{empty}
 use Rattle.votes.specs.Joining.{contradicts}
 use Rattle.votes.specs.declared.VoteSet.{VoteSet}
 use Rattle.protocol.specs.declared.Acks.{Acks}
-use Rattle.controller_verdicts.proofs.held.any_ack_contradicts.Statement.{statement}
-use Rattle.controller_verdicts.proofs.held.any_ack_contradicts.Tie as tie
+use Rattle.controller_rules.proofs.held.any_ack_contradicts.Statement.{statement}
+use Rattle.controller_rules.proofs.held.any_ack_contradicts.Tie as tie
 
 -- the acknowledgement of j is held, and contradicts
 abbrev against : Acks → VoteSet → ℕ → Bool

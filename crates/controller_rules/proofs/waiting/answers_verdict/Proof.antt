@@ -2,8 +2,8 @@ use borrow.Author.Tests.{le-ltb, lt-ltb}
 use Rattle.votes.specs.Tallies.{tallied-word}
 use Rattle.protocol.specs.Rules.{answersJoin, verdict}
 use borrow.Author.Needs.{needs}
-use Rattle.controller_verdicts.proofs.waiting.answers_verdict.Statement.{statement}
-use Rattle.controller_verdicts.proofs.waiting.answers_verdict.Tie as tie
+use Rattle.controller_rules.proofs.waiting.answers_verdict.Statement.{statement}
+use Rattle.controller_rules.proofs.waiting.answers_verdict.Tie as tie
 
 ack-tally-requires : tie.Need-ack-tally-requires
 ack-tally-requires c κs = search needs

@@ -22,7 +22,7 @@ fn verdict(n: u8, s: VoteSet) -> Outcome
 }
 
 // The acknowledgements held, gone over once: their join, whether it is full and whether its word is Move; or that two of them contradict each other.
-pub fn ack_tally(n: u8, c: Controller) -> Tallied
+pub(crate) fn ack_tally(n: u8, c: Controller) -> Tallied
     ensures { λ r. ⌜ r ≡ talliedOf n (ackJoin n c) ⌝ }
 {
     let sets = c.acks.sets;
@@ -52,7 +52,7 @@ fn answers_verdict(n: u8, c: Controller) -> Outcome
 }
 
 // An answer after which the count may be complete: then a word is put.
-pub fn propose_if_sufficient(n: u8, f: u8, a: Answer) -> Answer
+pub(crate) fn propose_if_sufficient(n: u8, f: u8, a: Answer) -> Answer
     ensures { λ r. ⌜ r ≡ proposeIfSufficient n f a ⌝ }
 {
     let c = a.controller;
