@@ -12,7 +12,7 @@ use crate::tables::put_byte;
 use crate::tables::put_word;
 use crate::tables::word;
 use crate::waiting::up_to_limit;
-use bench_play::decided_as;
+use bench_step::decided_as;
 use controller_state::in_phase;
 use controller_state::is_stopped;
 use controller_state::outcome_in;

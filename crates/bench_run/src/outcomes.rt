@@ -6,7 +6,7 @@ use crate::tables::WORDS;
 use crate::tables::put_byte;
 use crate::tables::put_word;
 use crate::tables::word;
-use bench_play::counts_after;
+use bench_step::counts_after;
 use controller_state::is_running;
 use controller_state::noting;
 use controller_state::outcome_in;

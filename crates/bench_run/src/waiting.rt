@@ -5,7 +5,7 @@ use crate::tables::WORDS;
 use crate::tables::byte;
 use crate::tables::put_byte;
 use crate::tables::word;
-use bench_play::proposed_to;
+use bench_step::proposed_to;
 use ground::LIMIT;
 use ground::has;
 use model::Outcome;

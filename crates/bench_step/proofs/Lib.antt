@@ -1,6 +1,8 @@
-pub mod Defaults
-pub mod Maps
-pub mod Outside
-pub mod Agrees
-pub mod Seen
-pub mod StepLaws
+pub mod Replies
+mod PlayLaws
+mod Defaults
+mod Maps
+mod Outside
+mod Agrees
+mod Seen
+mod StepLaws

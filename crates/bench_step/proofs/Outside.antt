@@ -28,7 +28,7 @@ use Rattle.protocol.specs.Calls.{validIdentity, vote, receive, timeout, awaitsD
 use Rattle.protocol.specs.Benches.{freshStation, fresh, station, sentBy, identity}
 use Rattle.protocol.specs.Steps.{perform, effectOf, effect, answering}
 use Rattle.protocol.specs.Events.{concernsOne, subject, source, restoreFrom, answerTo}
-use Rattle.bench_play.proofs.PlayLaws.{performed}
+use Rattle.bench_step.proofs.PlayLaws.{performed}
 use Rattle.bench_step.proofs.Seen.{seen}
 
 -- the number of no lock's controller

@@ -17,10 +17,10 @@ use Rattle.protocol.specs.Benches.{station, sentBy}
 use Rattle.protocol.specs.Events.{concernsOne, subject, source}
 use Rattle.protocol.specs.Questions.{refused, number, firstNo, questionsOf, agreesAt, factsOf, reply}
 use Rattle.protocol.specs.Steps.{effect, perform}
-use Rattle.bench_play.specs.declared.Played.{Played}
-use Rattle.bench_play.specs.Plays.{play}
-use Rattle.bench_play.proofs.Replies.{zero-yes, step-accepted, step-refused}
-use Rattle.bench_play.proofs.PlayLaws.{playAt, same-reply, play-answer, play-shares, play-steps}
+use Rattle.bench_step.specs.declared.plays.Played.{Played}
+use Rattle.bench_step.specs.Plays.{play}
+use Rattle.bench_step.proofs.Replies.{zero-yes, step-accepted, step-refused}
+use Rattle.bench_step.proofs.PlayLaws.{playAt, same-reply, play-answer, play-shares, play-steps}
 use Rattle.bench_step.specs.declared.Stepped.{Stepped}
 use Rattle.bench_step.specs.Steps.{stepped, wholeReply}
 use Rattle.bench_step.proofs.Seen.{seen, seen-sent, seen-station, seen-facts}

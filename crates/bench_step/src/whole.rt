@@ -6,7 +6,7 @@ use crate::parts::bench_of;
 use crate::parts::fresh_station;
 use crate::parts::station_at;
 use crate::parts::unsent_all;
-use bench_play::play;
+use crate::plays::play;
 use bench_questions::concerns_one;
 use bench_questions::facts_of;
 use bench_questions::question;

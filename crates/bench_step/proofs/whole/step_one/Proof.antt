@@ -4,7 +4,7 @@ use lib.ListN.{length, length-map}
 use Rattle.ground.specs.Limit.{limit}
 use Rattle.ground.specs.Lists.{put}
 use Rattle.protocol.specs.Events.{subject, source}
-use Rattle.bench_play.specs.Plays.{play}
+use Rattle.bench_step.specs.Plays.{play}
 use Rattle.bench_step.proofs.Seen.{seen}
 use Rattle.bench_step.proofs.StepLaws.{refuses, one-answer, one-first, one-past, one-within}
 use borrow.Author.Needs.{needs}
