@@ -1,1 +1,4 @@
 pub mod Texts
+mod Stations
+mod Sums
+mod Filled

@@ -1,10 +1,10 @@
 -- The two texts: the line for a schedule that is too long, and the report; and how long they can be.
 use Prim.Native.Nat.{ℕ, _≤_}
-use mathlib.Core.Path.{_≡_, refl}
-use mathlib.Core.Bool.{Bool, true, false}
+use mathlib.Core.Path.{_≡_}
+use mathlib.Core.Bool.{true, false}
 use mathlib.Core.List.{List}
 use native.Mathlib.Omega.{arith}
-use borrow.Author.Tests.{le-leb, le-ltb, ltb-true, ltb-false}
+use borrow.Author.Tests.{le-leb, le-ltb, ltb-false}
 use lib.ListN.{length, drop, take}
 use lib.Seq.{take-at}
 use Rattle.ground.specs.Tests.{by-cond}
@@ -20,8 +20,8 @@ use Rattle.bench_report.specs.Limits.{longestSchedule, mostAnswers, isTooLong, 
 use Rattle.bench_report.specs.Lines.{reportOf}
 use Rattle.bench_report.specs.Report.{tooLong, reported}
 use Rattle.bench_report.specs.Room.{report-some}
-use Rattle.bench_summary.specs.Summary.{summaryOf}
-use Rattle.bench_summary.specs.Room.{report-limit}
+use Rattle.bench_output.specs.Summary.{summaryOf}
+use Rattle.bench_output.specs.Room.{report-limit}
 use Rattle.bench_output.specs.Output.{outputOf}
 use Rattle.bench_output.specs.AlwaysPrints.{AlwaysPrints}
 

@@ -1,7 +1,11 @@
+-- what the report shows of a bench, and how long the report can be
+pub mod Summary
+pub mod Room
 -- what is printed, and that it always is
 pub mod Output
 pub mod AlwaysPrints
 -- the count of gates still open, for other languages
 pub mod OpenGates
--- trial 1, from bytes to text
+-- what is printed for some events, and trial 1, from bytes to text
+pub mod Examples
 pub mod Listing

@@ -1,13 +1,16 @@
 // The bench program but for its reading and writing: from the bytes of a schedule to the bytes that are printed, in a lent buffer.
+mod message_count;
 mod open_gates;
+mod rows;
+mod summary;
 
 use bench_report::MOST_ANSWERS;
 use bench_report::is_too_long;
 use bench_report::write_report;
 use bench_report::write_too_long;
 use bench_run::run;
-use bench_summary::summary_of;
 pub use open_gates::bench_open_gates;
+use summary::summary_of;
 ghost use Rattle.text.specs.Writing.{Rendered};
 ghost use Rattle.bench_output.specs.Output.{outputOf};
 ghost use Rattle.bench_output.specs.AlwaysPrints.{AlwaysPrints};

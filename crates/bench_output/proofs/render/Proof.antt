@@ -16,7 +16,7 @@ use Rattle.text.specs.WritingLaws.{same-fitted, rendered}
 use Rattle.bench_report.specs.declared.Summary.{Summary}
 use Rattle.bench_report.specs.Limits.{mostAnswers, isTooLong}
 use Rattle.bench_report.specs.Report.{reported}
-use Rattle.bench_summary.specs.Summary.{summaryOf}
+use Rattle.bench_output.specs.Summary.{summaryOf}
 use Rattle.bench_output.specs.Output.{outputOf}
 use Rattle.bench_output.proofs.Texts.{is-too-long, few-answers, few, counted, all-run, all-answered, is-report}
 use Rattle.bench_output.proofs.render.Statement.{statement}

@@ -1,15 +1,12 @@
 // What the report shows of a bench: a row for each controller, and the messages sent in this order, by kind.
 ghost use mathlib.Core.Path.{_≡_};
-ghost use Rattle.bench_summary.specs.Summary.{messageCountsOf, summaryOf};
+ghost use Rattle.bench_output.specs.Summary.{messageCountsOf, summaryOf};
+use crate::message_count::message_count;
+use crate::rows::rows_of;
 use bench_report::MessageCounts;
 use bench_report::Summary;
-use message_count::message_count;
 use model::Kind;
 use protocol::Bench;
-use rows::rows_of;
-
-mod message_count;
-mod rows;
 
 fn message_counts_of(b: Bench) -> MessageCounts
     ensures { λ r. ⌜ r ≡ messageCountsOf b ⌝ }
@@ -22,7 +19,7 @@ fn message_counts_of(b: Bench) -> MessageCounts
     }
 }
 
-pub fn summary_of(b: Bench) -> Summary
+pub(crate) fn summary_of(b: Bench) -> Summary
     ensures { λ r. ⌜ r ≡ summaryOf b ⌝ }
 {
     let stations = b.stations;

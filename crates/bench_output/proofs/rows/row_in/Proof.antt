@@ -1,7 +1,7 @@
--- `bench_summary::rows::row_in` meets its contract.
+-- `bench_output::rows::row_in` meets its contract.
 use borrow.Author.Needs.{needs}
-use Rattle.bench_summary.proofs.rows.row_in.Statement.{statement}
-use Rattle.bench_summary.proofs.rows.row_in.Tie as tie
+use Rattle.bench_output.proofs.rows.row_in.Statement.{statement}
+use Rattle.bench_output.proofs.rows.row_in.Tie as tie
 
 enum-known-condition : tie.Need-enum-known-condition
 enum-known-condition c = search needs

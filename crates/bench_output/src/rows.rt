@@ -1,7 +1,7 @@
 // What a C line shows of a controller.
 ghost use mathlib.Core.Path.{_≡_};
 ghost use mathlib.Core.List.{map};
-ghost use Rattle.bench_summary.specs.Summary.{rowIn, rowOf};
+ghost use Rattle.bench_output.specs.Summary.{rowIn, rowOf};
 use bench_report::Row;
 use ground::LIMIT;
 use model::Outcome;

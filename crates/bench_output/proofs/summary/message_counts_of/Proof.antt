@@ -1,7 +1,7 @@
--- `bench_summary::message_counts_of` meets its contract.
+-- `bench_output::summary::message_counts_of` meets its contract.
 use borrow.Author.Needs.{needs}
-use Rattle.bench_summary.proofs.message_counts_of.Statement.{statement}
-use Rattle.bench_summary.proofs.message_counts_of.Tie as tie
+use Rattle.bench_output.proofs.summary.message_counts_of.Statement.{statement}
+use Rattle.bench_output.proofs.summary.message_counts_of.Tie as tie
 
 message-count-requires : tie.Need-message-count-requires
 message-count-requires c κs = search needs

@@ -1,4 +1,4 @@
--- `bench_summary::message_count::message_count` meets its contract. The invariant: the total is the sum over the first i controllers, at most 255 for each.
+-- `bench_output::message_count::message_count` meets its contract. The invariant: the total is the sum over the first i controllers, at most 255 for each.
 use Prim.Native.Nat.{_*_, _-_, _≤_}
 use mathlib.Core.Path.{_≡_, _∙_, ap}
 use native.Mathlib.Omega.{arith}
@@ -7,10 +7,10 @@ use borrow.Author.Needs.{needs}
 use Rattle.ground.specs.Limit.{limit}
 use Rattle.protocol.specs.Benches.{station, freshStation, fresh, unsentAll}
 use Rattle.protocol.specs.Display.{messageCount, sentCount, sumTo}
-use Rattle.bench_summary.proofs.Stations.{sent-at}
-use Rattle.bench_summary.proofs.Sums.{no-sum, more-sum}
-use Rattle.bench_summary.proofs.message_count.message_count.Statement.{statement}
-use Rattle.bench_summary.proofs.message_count.message_count.Tie as tie
+use Rattle.bench_output.proofs.Stations.{sent-at}
+use Rattle.bench_output.proofs.Sums.{no-sum, more-sum}
+use Rattle.bench_output.proofs.message_count.message_count.Statement.{statement}
+use Rattle.bench_output.proofs.message_count.message_count.Tie as tie
 
 abbrev Inv-loop : tie.InvT-loop
 Inv-loop b kind end stations total₀ i₀ total i = (i ≤ end) × ((total ≤ i * 255) × (total ≡ sumTo i (sentCount b kind)))

@@ -1,8 +1,8 @@
--- `bench_summary::summary_of` meets its contract.
-use Rattle.bench_summary.specs.Summary.{summaryOf}
+-- `bench_output::summary::summary_of` meets its contract.
+use Rattle.bench_output.specs.Summary.{summaryOf}
 use borrow.Author.Needs.{needs}
-use Rattle.bench_summary.proofs.summary_of.Statement.{statement}
-use Rattle.bench_summary.proofs.summary_of.Tie as tie
+use Rattle.bench_output.proofs.summary.summary_of.Statement.{statement}
+use Rattle.bench_output.proofs.summary.summary_of.Tie as tie
 
 rows-of-requires : tie.Need-rows-of-requires
 rows-of-requires c κs = search needs

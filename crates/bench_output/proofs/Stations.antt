@@ -27,7 +27,7 @@ module _ (l : List Station) (i : ℕ) (h : length l ≤ i) where
   unfolding nth
   past = List·getD-eq-default l (freshStation []) h
 
-  pub sent-past : (kind : Kind) → 0 ≡ (ofKind kind ((nth (freshStation []) l (suc i)) .sent)) .to
+  sent-past : (kind : Kind) → 0 ≡ (ofKind kind ((nth (freshStation []) l (suc i)) .sent)) .to
   sent-past kind = nothing-sent kind ∙ ap (λ (s : Station). (ofKind kind (s .sent)) .to) (sym past)
 
 -- what the code reads at an index, or finds past the last station, is what the definitions read

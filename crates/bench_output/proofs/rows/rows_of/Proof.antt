@@ -1,4 +1,4 @@
--- `bench_summary::rows::rows_of` meets its contract. The invariant: the first i rows are those of the stations, the others blank.
+-- `bench_output::rows::rows_of` meets its contract. The invariant: the first i rows are those of the stations, the others blank.
 use Prim.Native.Nat.{_≤_, _<_, _-_}
 use mathlib.Core.List.{[], _++_, map}
 use mathlib.Core.Path.{_≡_, refl, sym, _∙_}
@@ -7,10 +7,10 @@ use lib.ListN.{length, take, drop, replicate, length-map, length-replicate, List
 use borrow.Author.Needs.{needs}
 use Rattle.protocol.specs.Benches.{freshStation, fresh, unsentAll}
 use Rattle.bench_report.specs.Lines.{blankRow}
-use Rattle.bench_summary.specs.Summary.{rowOf}
-use Rattle.bench_summary.proofs.Filled.{one-filled, all-filled}
-use Rattle.bench_summary.proofs.rows.rows_of.Statement.{statement}
-use Rattle.bench_summary.proofs.rows.rows_of.Tie as tie
+use Rattle.bench_output.specs.Summary.{rowOf}
+use Rattle.bench_output.proofs.Filled.{one-filled, all-filled}
+use Rattle.bench_output.proofs.rows.rows_of.Statement.{statement}
+use Rattle.bench_output.proofs.rows.rows_of.Tie as tie
 
 abbrev Inv-loop : tie.InvT-loop
 Inv-loop stations rows₀ i₀ rows i = (i ≤ 16) × (rows ≡ take i (map rowOf stations) ++ drop i (replicate 16 blankRow))

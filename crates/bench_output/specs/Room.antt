@@ -20,7 +20,7 @@ use Rattle.protocol.specs.Steps.{orderOpened, proposedTo, decidedAs, answering,
 use Rattle.bench_report.specs.Limits.{mostAnswers, longestReport, longestOutput}
 use Rattle.bench_report.specs.Lines.{reportOf}
 use Rattle.bench_report.specs.Room.{report-length}
-use Rattle.bench_summary.specs.Summary.{summaryOf}
+use Rattle.bench_output.specs.Summary.{summaryOf}
 
 is-accepted : (r : Reply) → isAccepted r ≡ true → r ≡ accepted
 is-accepted accepted e = refl

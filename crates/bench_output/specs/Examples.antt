@@ -1,4 +1,4 @@
--- What the program prints for some events, computed: the listing with an unwilling vote, the other conditions, nothing. (The listing itself: bench_output, from its bytes.)
+-- What the program prints for some events, computed: the listing with an unwilling vote, the other conditions, nothing. (The listing itself, from its bytes: `Listing`.)
 use Prim.Native.Nat.{_-_}
 use Prim.Native.String.{String}
 use mathlib.Core.Path.{_≡_, refl}
@@ -14,7 +14,7 @@ use Rattle.protocol.specs.Trials.{listing}
 use Rattle.text.specs.Text.{digits, decimal, signed, lines}
 use Rattle.bench_report.specs.Lines.{reportOf}
 use Rattle.bench_report.specs.Listing.{page}
-use Rattle.bench_summary.specs.Summary.{summaryOf}
+use Rattle.bench_output.specs.Summary.{summaryOf}
 
 pub record Example : Type 0 where
   pub events : List Event

@@ -1,3 +1,0 @@
-mod Stations
-mod Sums
-mod Filled
