@@ -28,6 +28,7 @@ use Rattle.protocol.specs.Controllers.{phaseIn, outcomeIn, keepHelped, await, p
 use Rattle.protocol.specs.Rules.{becomes, proposeIfSufficient}
 use Rattle.protocol.specs.Benches.{unsent, afterSend}
 use Rattle.protocol.specs.Steps.{proposedTo, renewed}
+use Rattle.bench_run.specs.Columns.{tagColumn, phaseColumn, outcomeColumn, cntColumn, cntHelpColumn, waitingColumn, proposalColumn, votesColumn, acksFromColumn, helpedColumn, helpedFromColumn, helpVotesColumn, callersColumn, targetColumn, voteSentColumn, ackSentColumn, helpSentColumn, helpedSentColumn}
 use Rattle.bench_run.specs.Tables.{rows, byteRows, wordRows, setsFrom, controllerFrom, stationFrom, stationsOf}
 
 -- the table in the list l is now in l′, with row r at place `at`; a list too short for that row has no such row to change
@@ -42,7 +43,7 @@ tagOf Stopped = 1
 tagOf (Standby o) = 2
 
 abbrev pub conditionTo : Condition → (ℕ → ℕ) → ℕ → ℕ
-conditionTo k b = upd (upd (upd b 0 (tagOf k)) 1 (phaseIn k)) 2 (outcomeNumber (outcomeIn k))
+conditionTo k b = upd (upd (upd b tagColumn (tagOf k)) phaseColumn (phaseIn k)) outcomeColumn (outcomeNumber (outcomeIn k))
 
 abbrev pub setTo : ℕ → VoteSet → (ℕ → ℕ) → ℕ → ℕ
 setTo c s w = upd (upd w c (s .known)) (c + 1) (s .willing)
@@ -52,16 +53,16 @@ outgoingTo c o w = setTo (c + 1) (o .votes) (upd w c (o .to))
 
 -- a row that holds nothing, in this condition; and one from which nothing was sent
 abbrev pub clearedBytes : Condition → (ℕ → ℕ) → ℕ → ℕ
-clearedBytes k b = upd (upd (upd (upd (conditionTo k b) 3 0) 4 0) 5 0) 6 0
+clearedBytes k b = upd (upd (upd (upd (conditionTo k b) cntColumn 0) cntHelpColumn 0) waitingColumn 0) proposalColumn 0
 
 abbrev pub clearedVotes : (ℕ → ℕ) → ℕ → ℕ
-clearedVotes w = upd (setTo 3 empty (upd (setTo 0 empty w) 2 0)) 5 0
+clearedVotes w = upd (setTo helpedColumn empty (upd (setTo votesColumn empty w) acksFromColumn 0)) helpedFromColumn 0
 
 abbrev pub clearedWords : (ℕ → ℕ) → ℕ → ℕ
-clearedWords w = upd (upd (setTo 6 empty (clearedVotes w)) 8 0) 9 0
+clearedWords w = upd (upd (setTo helpVotesColumn empty (clearedVotes w)) callersColumn 0) targetColumn 0
 
 abbrev pub unsentWords : (ℕ → ℕ) → ℕ → ℕ
-unsentWords w = outgoingTo 20 unsent (outgoingTo 17 unsent (outgoingTo 14 unsent (outgoingTo 11 unsent w)))
+unsentWords w = outgoingTo helpedSentColumn unsent (outgoingTo helpSentColumn unsent (outgoingTo ackSentColumn unsent (outgoingTo voteSentColumn unsent w)))
 
 -- the stations that two lists of numbers stand for, one of them, and its controller
 abbrev pub stationsIn : List ℕ → List ℕ → List Station
@@ -116,7 +117,7 @@ concluding i o decided m s = cond decided (record { shared = m; station = withCo
 
 -- may it take the word of the acknowledgements in its row as the outcome?
 abbrev pub rowHolds : (ℕ → ℕ) → ℕ → ℕ → Bool
-rowHolds w n j = has (w 2) j && complete n (nth empty (setsFrom w) j)
+rowHolds w n j = has (w acksFromColumn) j && complete n (nth empty (setsFrom w) j)
 
 abbrev pub rowDecides : (ℕ → ℕ) → ℕ → ℕ → ℕ → Bool
 rowDecides w n f i = allTo f (rowHolds w n) && (not (isBackup f i) || rowHolds w f (suc f))

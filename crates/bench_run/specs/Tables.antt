@@ -1,5 +1,5 @@
--- The bench of a run lies in two tables of numbers, a row for each controller: one of bytes, one of words of 32 bits. What stands in which column, and the
--- stations that the rows stand for.
+-- The bench of a run lies in two tables of numbers, a row for each controller: one of bytes, one of words of 32 bits. The stations that
+-- the rows stand for.
 use Prim.Native.Nat.{ℕ, zero, suc, _+_, _*_}
 use mathlib.Core.Bool.{cond}
 use mathlib.Core.List.{List, [], _∷_}
@@ -17,6 +17,7 @@ use Rattle.protocol.specs.declared.Saved.{Saved}
 use Rattle.protocol.specs.declared.Saved.the-variants.{Nothing, Newest}
 use Rattle.protocol.specs.declared.Controller.{Controller}
 use Rattle.protocol.specs.declared.Station.{Station}
+use Rattle.bench_run.specs.Columns.{tagColumn, phaseColumn, outcomeColumn, cntColumn, cntHelpColumn, waitingColumn, proposalColumn, savedColumn, savedIdColumn, savedNColumn, savedFColumn, savedOutcomeColumn, votesColumn, acksFromColumn, helpedColumn, helpedFromColumn, helpVotesColumn, callersColumn, targetColumn, positionColumn, voteSentColumn, ackSentColumn, helpSentColumn, helpedSentColumn, savedOrderColumn, savedPositionColumn, ackSetsColumn}
 
 -- a list of n elements, each from its index
 unfoldable pub tabulate : {A : Type 0} → ℕ → (ℕ → A) → List A
@@ -46,34 +47,34 @@ outgoingFrom w c = record { to = w c; votes = setFrom w (c + 1) }
 
 -- the vote sets of acknowledgements, by sender
 abbrev pub setColumn : ℕ → ℕ
-setColumn j = 25 + 2 * j
+setColumn j = ackSetsColumn + 2 * j
 
 unfoldable pub setsFrom : (ℕ → ℕ) → List VoteSet
 setsFrom w = tabulate limit (λ j. setFrom w (setColumn j))
 
 abbrev pub checkpointFrom : (ℕ → ℕ) → (ℕ → ℕ) → Checkpoint
-checkpointFrom b w = record { id = b 8; n = b 9; f = b 10; outcome = outcomeOf (b 11); order = w 23; position = w 24 }
+checkpointFrom b w = record { id = b savedIdColumn; n = b savedNColumn; f = b savedFColumn; outcome = outcomeOf (b savedOutcomeColumn); order = w savedOrderColumn; position = w savedPositionColumn }
 
 abbrev pub savedFrom : (ℕ → ℕ) → (ℕ → ℕ) → Saved
-savedFrom b w = cond (flagOf (b 7)) (Newest (checkpointFrom b w)) Nothing
+savedFrom b w = cond (flagOf (b savedColumn)) (Newest (checkpointFrom b w)) Nothing
 
 abbrev pub conditionIn : (ℕ → ℕ) → Condition
-conditionIn b = conditionFrom (b 0) (b 1) (b 2)
+conditionIn b = conditionFrom (b tagColumn) (b phaseColumn) (b outcomeColumn)
 
 -- a controller, by its row of bytes and its row of words
 unfoldable pub controllerFrom : (ℕ → ℕ) → (ℕ → ℕ) → Controller
 controllerFrom b w = record {
   condition = conditionIn b;
-  votes = setFrom w 0;
-  acks = record { sets = setsFrom w; from = w 2; cnt = record { 0 = b 3 } };
-  helped = record { votes = setFrom w 3; from = w 5; «cnt_help» = record { 0 = b 4 } };
-  help = record { waiting = flagOf (b 5); votes = setFrom w 6; callers = w 8 };
-  proposal = outcomeOf (b 6);
-  gate = record { target = w 9; position = w 10 };
+  votes = setFrom w votesColumn;
+  acks = record { sets = setsFrom w; from = w acksFromColumn; cnt = record { 0 = b cntColumn } };
+  helped = record { votes = setFrom w helpedColumn; from = w helpedFromColumn; «cnt_help» = record { 0 = b cntHelpColumn } };
+  help = record { waiting = flagOf (b waitingColumn); votes = setFrom w helpVotesColumn; callers = w callersColumn };
+  proposal = outcomeOf (b proposalColumn);
+  gate = record { target = w targetColumn; position = w positionColumn };
 }
 
 abbrev pub sentFrom : (ℕ → ℕ) → Sent
-sentFrom w = record { vote = outgoingFrom w 11; ack = outgoingFrom w 14; help = outgoingFrom w 17; helped = outgoingFrom w 20 }
+sentFrom w = record { vote = outgoingFrom w voteSentColumn; ack = outgoingFrom w ackSentColumn; help = outgoingFrom w helpSentColumn; helped = outgoingFrom w helpedSentColumn }
 
 unfoldable pub stationFrom : (ℕ → ℕ) → (ℕ → ℕ) → Station
 stationFrom b w = record { controller = controllerFrom b w; sent = sentFrom w; saved = savedFrom b w }

@@ -1,6 +1,7 @@
 // A whole schedule, played on a new bench. The bench of a run lies in two tables of numbers, a row for each controller, on which each kind of event is
 // played in place.
 mod arrivals;
+mod columns;
 mod lifecycle;
 mod outcomes;
 mod plays;

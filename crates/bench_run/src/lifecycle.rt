@@ -1,4 +1,27 @@
 // The arbiter's word, and what ends, saves, restores and renews a controller.
+use crate::columns::ACK_SENT;
+use crate::columns::ACKS_FROM;
+use crate::columns::CALLERS;
+use crate::columns::CNT;
+use crate::columns::CNT_HELP;
+use crate::columns::HELP_SENT;
+use crate::columns::HELP_VOTES;
+use crate::columns::HELPED;
+use crate::columns::HELPED_FROM;
+use crate::columns::HELPED_SENT;
+use crate::columns::POSITION;
+use crate::columns::PROPOSAL;
+use crate::columns::SAVED;
+use crate::columns::SAVED_F;
+use crate::columns::SAVED_ID;
+use crate::columns::SAVED_N;
+use crate::columns::SAVED_ORDER;
+use crate::columns::SAVED_OUTCOME;
+use crate::columns::SAVED_POSITION;
+use crate::columns::TARGET;
+use crate::columns::VOTE_SENT;
+use crate::columns::VOTES;
+use crate::columns::WAITING;
 use crate::outcomes::conclude_in;
 use crate::outcomes::shared_after;
 use crate::rows::condition_at;
@@ -39,6 +62,7 @@ ghost use Rattle.protocol.specs.Benches.{identity};
 ghost use Rattle.protocol.specs.Events.{restoreFrom};
 ghost use Rattle.protocol.specs.Questions.{isSaved};
 ghost use Rattle.protocol.specs.Steps.{decidedAs, answering, keeping, renewed};
+ghost use Rattle.bench_run.specs.Columns.{savedOrderColumn, savedOutcomeColumn, savedColumn, savedIdColumn, savedNColumn, savedFColumn};
 ghost use Rattle.bench_run.specs.Tables.{byteRows, wordRows, conditionIn};
 ghost use Rattle.bench_run.specs.Changes.{At, clearedBytes, clearedVotes, clearedWords, unsentWords, stationIn, controllerIn, withController, Changed, Left, RenewedUpTo};
 
@@ -63,20 +87,20 @@ fn clear_bytes(b: &mut [u8; BYTES], at: usize, k: Condition)
     ensures { λ _. ⌜ At 16 (now (b .entry)) (now (b .exit)) at (clearedBytes k (byteRows (now (b .entry)) at)) ⌝ }
 {
     put_condition(&mut *b, at, k);
-    put_byte(&mut *b, at, 3, 0);
-    put_byte(&mut *b, at, 4, 0);
-    put_byte(&mut *b, at, 5, 0);
-    put_byte(&mut *b, at, 6, 0);
+    put_byte(&mut *b, at, CNT, 0);
+    put_byte(&mut *b, at, CNT_HELP, 0);
+    put_byte(&mut *b, at, WAITING, 0);
+    put_byte(&mut *b, at, PROPOSAL, 0);
 }
 
 fn clear_votes(w: &mut [u32; WORDS], at: usize)
     requires { ⌜ at < limit ⌝ }
     ensures { λ _. ⌜ At 64 (now (w .entry)) (now (w .exit)) at (clearedVotes (wordRows (now (w .entry)) at)) ⌝ }
 {
-    put_set(&mut *w, at, 0, empty_set());
-    put_word(&mut *w, at, 2, 0);
-    put_set(&mut *w, at, 3, empty_set());
-    put_word(&mut *w, at, 5, 0);
+    put_set(&mut *w, at, VOTES, empty_set());
+    put_word(&mut *w, at, ACKS_FROM, 0);
+    put_set(&mut *w, at, HELPED, empty_set());
+    put_word(&mut *w, at, HELPED_FROM, 0);
 }
 
 fn clear_words(w: &mut [u32; WORDS], at: usize)
@@ -84,9 +108,9 @@ fn clear_words(w: &mut [u32; WORDS], at: usize)
     ensures { λ _. ⌜ At 64 (now (w .entry)) (now (w .exit)) at (clearedWords (wordRows (now (w .entry)) at)) ⌝ }
 {
     clear_votes(&mut *w, at);
-    put_set(&mut *w, at, 6, empty_set());
-    put_word(&mut *w, at, 8, 0);
-    put_word(&mut *w, at, 9, 0);
+    put_set(&mut *w, at, HELP_VOTES, empty_set());
+    put_word(&mut *w, at, CALLERS, 0);
+    put_word(&mut *w, at, TARGET, 0);
 }
 
 // It holds nothing but its position.
@@ -111,10 +135,10 @@ pub(crate) fn stop(b: &mut [u8; BYTES], w: &mut [u32; WORDS], m: Shared, at: usi
 // The checkpoint's outcome if it is of this order, else none.
 fn outcome_saved(b: &[u8; BYTES], w: &[u32; WORDS], at: usize, order: u32) -> Outcome
     requires { ⌜ at < limit ⌝ }
-    ensures { λ r. ⌜ r ≡ cond (eqb ((wordRows (now (w .entry)) at) 23) order) (outcomeOf ((byteRows (now (b .entry)) at) 11)) None ⌝ }
+    ensures { λ r. ⌜ r ≡ cond (eqb ((wordRows (now (w .entry)) at) savedOrderColumn) order) (outcomeOf ((byteRows (now (b .entry)) at) savedOutcomeColumn)) None ⌝ }
 {
-    if word(w, at, 23) == order {
-        return outcome_of(byte(b, at, 11));
+    if word(w, at, SAVED_ORDER) == order {
+        return outcome_of(byte(b, at, SAVED_OUTCOME));
     }
     Outcome::None
 }
@@ -138,12 +162,12 @@ pub(crate) fn restore(
 
 fn put_owner(b: &mut [u8; BYTES], at: usize, id: u8, n: u8, f: u8)
     requires { ⌜ at < limit ⌝ }
-    ensures { λ _. ⌜ At 16 (now (b .entry)) (now (b .exit)) at (upd (upd (upd (upd (byteRows (now (b .entry)) at) 7 1) 8 id) 9 n) 10 f) ⌝ }
+    ensures { λ _. ⌜ At 16 (now (b .entry)) (now (b .exit)) at (upd (upd (upd (upd (byteRows (now (b .entry)) at) savedColumn 1) savedIdColumn id) savedNColumn n) savedFColumn f) ⌝ }
 {
-    put_byte(&mut *b, at, 7, 1);
-    put_byte(&mut *b, at, 8, id);
-    put_byte(&mut *b, at, 9, n);
-    put_byte(&mut *b, at, 10, f);
+    put_byte(&mut *b, at, SAVED, 1);
+    put_byte(&mut *b, at, SAVED_ID, id);
+    put_byte(&mut *b, at, SAVED_N, n);
+    put_byte(&mut *b, at, SAVED_F, f);
 }
 
 // What it is and holds, as a checkpoint.
@@ -152,11 +176,11 @@ pub(crate) fn save(b: &mut [u8; BYTES], w: &mut [u32; WORDS], m: Shared, at: usi
     ensures { λ _. ⌜ (isPresent (conditionIn (byteRows (now (b .entry)) at)) ≡ true → Changed (now (b .entry)) (now (w .entry)) (now (b .exit)) (now (w .exit)) at (keeping (stationIn (now (b .entry)) (now (w .entry)) at) (save (identity m i) (controllerIn (now (b .entry)) (now (w .entry)) at)))) ⌝ }
 {
     let outcome = outcome_in(condition_at(b, at));
-    let position = word(w, at, 10);
+    let position = word(w, at, POSITION);
     put_owner(&mut *b, at, i, m.n, m.f);
-    put_byte(&mut *b, at, 11, outcome_number(outcome));
-    put_word(&mut *w, at, 23, m.order);
-    put_word(&mut *w, at, 24, position);
+    put_byte(&mut *b, at, SAVED_OUTCOME, outcome_number(outcome));
+    put_word(&mut *w, at, SAVED_ORDER, m.order);
+    put_word(&mut *w, at, SAVED_POSITION, position);
 }
 
 // A new order: all but the stopped begin at stage 0.
@@ -177,7 +201,7 @@ fn unsend(w: &mut [u32; WORDS], at: usize)
     put_outgoing(
         &mut *w,
         at,
-        11,
+        VOTE_SENT,
         Outgoing {
             to: 0,
             votes: empty_set(),
@@ -186,7 +210,7 @@ fn unsend(w: &mut [u32; WORDS], at: usize)
     put_outgoing(
         &mut *w,
         at,
-        14,
+        ACK_SENT,
         Outgoing {
             to: 0,
             votes: empty_set(),
@@ -195,7 +219,7 @@ fn unsend(w: &mut [u32; WORDS], at: usize)
     put_outgoing(
         &mut *w,
         at,
-        17,
+        HELP_SENT,
         Outgoing {
             to: 0,
             votes: empty_set(),
@@ -204,7 +228,7 @@ fn unsend(w: &mut [u32; WORDS], at: usize)
     put_outgoing(
         &mut *w,
         at,
-        20,
+        HELPED_SENT,
         Outgoing {
             to: 0,
             votes: empty_set(),

@@ -1,4 +1,7 @@
 // An outcome is taken; the counts of what is shared follow a condition.
+use crate::columns::POSITION;
+use crate::columns::TARGET;
+use crate::columns::WAITING;
 use crate::rows::condition_at;
 use crate::rows::put_condition;
 use crate::tables::BYTES;
@@ -64,8 +67,8 @@ pub(crate) fn conclude_in(b: &mut [u8; BYTES], w: &mut [u32; WORDS], at: usize, 
     ensures { λ _. ⌜ Changed (now (b .entry)) (now (w .entry)) (now (b .exit)) (now (w .exit)) at (withController (stationIn (now (b .entry)) (now (w .entry)) at) (conclude (controllerIn (now (b .entry)) (now (w .entry)) at) o)) ⌝ }
 {
     let condition = condition_at(b, at);
-    let position = landing_in(condition, o, word(w, at, 9), word(w, at, 10));
-    put_byte(&mut *b, at, 5, 0);
+    let position = landing_in(condition, o, word(w, at, TARGET), word(w, at, POSITION));
+    put_byte(&mut *b, at, WAITING, 0);
     put_condition(&mut *b, at, noting(condition, o));
-    put_word(&mut *w, at, 10, position);
+    put_word(&mut *w, at, POSITION, position);
 }

@@ -3,6 +3,14 @@ use crate::arrivals::ack_arrives;
 use crate::arrivals::help_arrives;
 use crate::arrivals::helped_arrives;
 use crate::arrivals::vote_arrives;
+use crate::columns::ACK_SENT;
+use crate::columns::ACK_SENT_SET;
+use crate::columns::HELP_SENT;
+use crate::columns::HELPED_SENT;
+use crate::columns::HELPED_SENT_SET;
+use crate::columns::SAVED;
+use crate::columns::VOTE_SENT;
+use crate::columns::VOTE_SENT_SET;
 use crate::lifecycle::decide;
 use crate::lifecycle::renew_to;
 use crate::lifecycle::restore;
@@ -111,7 +119,7 @@ fn play_vote(b: &[u8; BYTES], w: &mut [u32; WORDS], m: Shared, from: u8, to: u8)
     let answer = deliver_question(
         m,
         condition_at(b, at),
-        word(w, origin, 11),
+        word(w, origin, VOTE_SENT),
         true,
         from,
         to,
@@ -120,7 +128,7 @@ fn play_vote(b: &[u8; BYTES], w: &mut [u32; WORDS], m: Shared, from: u8, to: u8)
     if answer != 0 {
         return Played { answer, shared: m };
     }
-    let s = set_at(w, origin, 12);
+    let s = set_at(w, origin, VOTE_SENT_SET);
     vote_arrives(b, &mut *w, at, s);
     Played { answer, shared: m }
 }
@@ -133,7 +141,7 @@ fn play_ack(b: &mut [u8; BYTES], w: &mut [u32; WORDS], m: Shared, from: u8, to: 
     let answer = deliver_question(
         m,
         condition_at(b, at),
-        word(w, origin, 14),
+        word(w, origin, ACK_SENT),
         true,
         from,
         to,
@@ -142,7 +150,7 @@ fn play_ack(b: &mut [u8; BYTES], w: &mut [u32; WORDS], m: Shared, from: u8, to: 
     if answer != 0 {
         return Played { answer, shared: m };
     }
-    let s = set_at(w, origin, 15);
+    let s = set_at(w, origin, ACK_SENT_SET);
     let shared = ack_arrives(&mut *b, &mut *w, m, at, origin, from, s);
     Played { answer, shared }
 }
@@ -155,7 +163,7 @@ fn play_help(b: &[u8; BYTES], w: &mut [u32; WORDS], m: Shared, from: u8, to: u8)
     let answer = deliver_question(
         m,
         condition_at(b, at),
-        word(w, origin, 17),
+        word(w, origin, HELP_SENT),
         true,
         from,
         to,
@@ -176,7 +184,7 @@ fn play_helped(b: &mut [u8; BYTES], w: &mut [u32; WORDS], m: Shared, from: u8, t
     let answer = deliver_question(
         m,
         condition_at(b, at),
-        word(w, origin, 20),
+        word(w, origin, HELPED_SENT),
         true,
         from,
         to,
@@ -185,7 +193,7 @@ fn play_helped(b: &mut [u8; BYTES], w: &mut [u32; WORDS], m: Shared, from: u8, t
     if answer != 0 {
         return Played { answer, shared: m };
     }
-    let s = set_at(w, origin, 21);
+    let s = set_at(w, origin, HELPED_SENT_SET);
     let shared = helped_arrives(&mut *b, &mut *w, m, at, from, s);
     Played { answer, shared }
 }
@@ -266,7 +274,7 @@ fn play_restore(b: &mut [u8; BYTES], w: &mut [u32; WORDS], m: Shared, id: u8) ->
     ensures { λ r. ⌜ Steps m (now (b .entry)) (now (w .entry)) (Restore id) r (now (b .exit)) (now (w .exit)) ⌝ }
 {
     let at = seat(id);
-    let answer = restore_question(m, condition_at(b, at), byte(b, at, 7) == 1, id);
+    let answer = restore_question(m, condition_at(b, at), byte(b, at, SAVED) == 1, id);
     if answer != 0 {
         return Played { answer, shared: m };
     }

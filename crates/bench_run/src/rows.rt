@@ -1,4 +1,7 @@
 // What several columns of a row stand for together: conditions, vote sets, what was sent.
+use crate::columns::OUTCOME;
+use crate::columns::PHASE;
+use crate::columns::TAG;
 use crate::tables::BYTES;
 use crate::tables::WORDS;
 use crate::tables::byte;
@@ -38,7 +41,7 @@ pub(crate) fn condition_at(b: &[u8; BYTES], at: usize) -> Condition
     requires { ⌜ at < limit ⌝ }
     ensures { λ r. ⌜ r ≡ conditionIn (byteRows (now (b .entry)) at) ⌝ }
 {
-    condition_from(byte(b, at, 0), byte(b, at, 1), byte(b, at, 2))
+    condition_from(byte(b, at, TAG), byte(b, at, PHASE), byte(b, at, OUTCOME))
 }
 
 fn tag_of(k: Condition) -> u8
@@ -55,9 +58,9 @@ pub(crate) fn put_condition(b: &mut [u8; BYTES], at: usize, k: Condition)
     requires { ⌜ at < limit ⌝ }
     ensures { λ _. ⌜ At 16 (now (b .entry)) (now (b .exit)) at (conditionTo k (byteRows (now (b .entry)) at)) ⌝ }
 {
-    put_byte(&mut *b, at, 0, tag_of(k));
-    put_byte(&mut *b, at, 1, phase_in(k));
-    put_byte(&mut *b, at, 2, outcome_number(outcome_in(k)));
+    put_byte(&mut *b, at, TAG, tag_of(k));
+    put_byte(&mut *b, at, PHASE, phase_in(k));
+    put_byte(&mut *b, at, OUTCOME, outcome_number(outcome_in(k)));
 }
 
 pub(crate) fn set_at(w: &[u32; WORDS], at: usize, c: usize) -> VoteSet

@@ -1,4 +1,28 @@
 // The stations that the tables stand for, as values.
+use crate::columns::ACK_SENT;
+use crate::columns::ACK_SETS;
+use crate::columns::ACKS_FROM;
+use crate::columns::CALLERS;
+use crate::columns::CNT;
+use crate::columns::CNT_HELP;
+use crate::columns::HELP_SENT;
+use crate::columns::HELP_VOTES;
+use crate::columns::HELPED;
+use crate::columns::HELPED_FROM;
+use crate::columns::HELPED_SENT;
+use crate::columns::POSITION;
+use crate::columns::PROPOSAL;
+use crate::columns::SAVED;
+use crate::columns::SAVED_F;
+use crate::columns::SAVED_ID;
+use crate::columns::SAVED_N;
+use crate::columns::SAVED_ORDER;
+use crate::columns::SAVED_OUTCOME;
+use crate::columns::SAVED_POSITION;
+use crate::columns::TARGET;
+use crate::columns::VOTE_SENT;
+use crate::columns::VOTES;
+use crate::columns::WAITING;
 use crate::rows::condition_at;
 use crate::rows::outgoing_at;
 use crate::rows::set_at;
@@ -32,12 +56,12 @@ fn checkpoint_at(b: &[u8; BYTES], w: &[u32; WORDS], at: usize) -> Checkpoint
     ensures { λ r. ⌜ r ≡ checkpointFrom (byteRows (now (b .entry)) at) (wordRows (now (w .entry)) at) ⌝ }
 {
     Checkpoint {
-        id: byte(b, at, 8),
-        n: byte(b, at, 9),
-        f: byte(b, at, 10),
-        outcome: outcome_of(byte(b, at, 11)),
-        order: word(w, at, 23),
-        position: word(w, at, 24),
+        id: byte(b, at, SAVED_ID),
+        n: byte(b, at, SAVED_N),
+        f: byte(b, at, SAVED_F),
+        outcome: outcome_of(byte(b, at, SAVED_OUTCOME)),
+        order: word(w, at, SAVED_ORDER),
+        position: word(w, at, SAVED_POSITION),
     }
 }
 
@@ -45,7 +69,7 @@ fn saved_at(b: &[u8; BYTES], w: &[u32; WORDS], at: usize) -> Saved
     requires { ⌜ at < limit ⌝ }
     ensures { λ r. ⌜ r ≡ savedFrom (byteRows (now (b .entry)) at) (wordRows (now (w .entry)) at) ⌝ }
 {
-    if byte(b, at, 7) == 1 {
+    if byte(b, at, SAVED) == 1 {
         return Saved::Newest(checkpoint_at(b, w, at));
     }
     Saved::Nothing
@@ -58,7 +82,7 @@ fn sets_at(w: &[u32; WORDS], at: usize) -> [VoteSet; LIMIT]
     let mut sets = [empty_set(); LIMIT];
     let mut j: usize = 0;
     while j < LIMIT {
-        sets[j] = set_at(w, at, 25 + 2 * j);
+        sets[j] = set_at(w, at, ACK_SETS + 2 * j);
         j += 1;
     }
     sets
@@ -69,10 +93,10 @@ fn sent_at(w: &[u32; WORDS], at: usize) -> Sent
     ensures { λ r. ⌜ r ≡ sentFrom (wordRows (now (w .entry)) at) ⌝ }
 {
     Sent {
-        vote: outgoing_at(w, at, 11),
-        ack: outgoing_at(w, at, 14),
-        help: outgoing_at(w, at, 17),
-        helped: outgoing_at(w, at, 20),
+        vote: outgoing_at(w, at, VOTE_SENT),
+        ack: outgoing_at(w, at, ACK_SENT),
+        help: outgoing_at(w, at, HELP_SENT),
+        helped: outgoing_at(w, at, HELPED_SENT),
     }
 }
 
@@ -83,8 +107,8 @@ fn acks_at(b: &[u8; BYTES], w: &[u32; WORDS], at: usize) -> Acks
     let sets = sets_at(w, at);
     Acks {
         sets,
-        from: word(w, at, 2),
-        cnt: Cnt(byte(b, at, 3)),
+        from: word(w, at, ACKS_FROM),
+        cnt: Cnt(byte(b, at, CNT)),
     }
 }
 
@@ -93,9 +117,9 @@ fn helped_at(b: &[u8; BYTES], w: &[u32; WORDS], at: usize) -> HelpAnswers
     ensures { λ r. ⌜ r ≡ (controllerIn (now (b .entry)) (now (w .entry)) at) .helped ⌝ }
 {
     HelpAnswers {
-        votes: set_at(w, at, 3),
-        from: word(w, at, 5),
-        cnt_help: CntHelp(byte(b, at, 4)),
+        votes: set_at(w, at, HELPED),
+        from: word(w, at, HELPED_FROM),
+        cnt_help: CntHelp(byte(b, at, CNT_HELP)),
     }
 }
 
@@ -104,9 +128,9 @@ fn help_at(b: &[u8; BYTES], w: &[u32; WORDS], at: usize) -> HelpState
     ensures { λ r. ⌜ r ≡ (controllerIn (now (b .entry)) (now (w .entry)) at) .help ⌝ }
 {
     HelpState {
-        waiting: byte(b, at, 5) == 1,
-        votes: set_at(w, at, 6),
-        callers: word(w, at, 8),
+        waiting: byte(b, at, WAITING) == 1,
+        votes: set_at(w, at, HELP_VOTES),
+        callers: word(w, at, CALLERS),
     }
 }
 
@@ -119,14 +143,14 @@ fn controller_at(b: &[u8; BYTES], w: &[u32; WORDS], at: usize) -> Controller
     let help = help_at(b, w, at);
     Controller {
         condition: condition_at(b, at),
-        votes: set_at(w, at, 0),
+        votes: set_at(w, at, VOTES),
         acks,
         helped,
         help,
-        proposal: outcome_of(byte(b, at, 6)),
+        proposal: outcome_of(byte(b, at, PROPOSAL)),
         gate: Gate {
-            target: word(w, at, 9),
-            position: word(w, at, 10),
+            target: word(w, at, TARGET),
+            position: word(w, at, POSITION),
         },
     }
 }

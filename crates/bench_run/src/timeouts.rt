@@ -1,6 +1,18 @@
 // The vote, and the two timeouts.
 use crate::arrivals::keep_ack;
 use crate::arrivals::keep_helped;
+use crate::columns::ACK_SENT;
+use crate::columns::ACK_SETS;
+use crate::columns::ACKS_FROM;
+use crate::columns::CALLERS;
+use crate::columns::CNT;
+use crate::columns::HELP_SENT;
+use crate::columns::HELP_VOTES;
+use crate::columns::HELPED_SENT;
+use crate::columns::TARGET;
+use crate::columns::VOTE_SENT;
+use crate::columns::VOTES;
+use crate::columns::WAITING;
 use crate::outcomes::conclude_in;
 use crate::outcomes::shared_after;
 use crate::rows::condition_at;
@@ -78,13 +90,19 @@ pub(crate) fn cast(
     ensures { λ r. ⌜ Left (now (b .entry)) (now (w .entry)) (now (b .exit)) (now (w .exit)) at (answering m (stationIn (now (b .entry)) (now (w .entry)) at) (voteRule (m .n) (m .f) i willing target (controllerIn (now (b .entry)) (now (w .entry)) at))) r ⌝ }
 {
     let own = single(i, willing);
-    let held = set_at(w, at, 0);
+    let held = set_at(w, at, VOTES);
     let before = condition_at(b, at);
     let after = in_phase(phase_after_vote(m.f, i), outcome_in(before));
     put_condition(&mut *b, at, after);
-    put_set(&mut *w, at, 0, agreed_or(held, join(held, own)));
-    put_word(&mut *w, at, 9, target);
-    send(&mut *w, at, 11, recipients(m.n, m.f, Kind::Vote, i), own);
+    put_set(&mut *w, at, VOTES, agreed_or(held, join(held, own)));
+    put_word(&mut *w, at, TARGET, target);
+    send(
+        &mut *w,
+        at,
+        VOTE_SENT,
+        recipients(m.n, m.f, Kind::Vote, i),
+        own,
+    );
     shared_after(m, before, after)
 }
 
@@ -96,10 +114,10 @@ fn count_own(b: &mut [u8; BYTES], w: &mut [u32; WORDS], f: u8, at: usize, i: u8)
     if !is_backup(f, i) {
         return;
     }
-    if has(word(w, at, 2), i) {
+    if has(word(w, at, ACKS_FROM), i) {
         return;
     }
-    let votes = set_at(w, at, 0);
+    let votes = set_at(w, at, VOTES);
     keep_ack(&mut *b, &mut *w, at, at, i, votes);
 }
 
@@ -108,11 +126,17 @@ fn first_timeout(b: &mut [u8; BYTES], w: &mut [u32; WORDS], m: Shared, at: usize
     requires { ⌜ at < limit ⌝ }
     ensures { λ r. ⌜ (1 ≤ i → at ≡ i - 1 → Left (now (b .entry)) (now (w .entry)) (now (b .exit)) (now (w .exit)) at (answering m (stationIn (now (b .entry)) (now (w .entry)) at) (firstTimeout (m .n) (m .f) i (controllerIn (now (b .entry)) (now (w .entry)) at))) r) ⌝ }
 {
-    let votes = set_at(w, at, 0);
+    let votes = set_at(w, at, VOTES);
     let before = condition_at(b, at);
     let after = in_phase(2, outcome_in(before));
     put_condition(&mut *b, at, after);
-    send(&mut *w, at, 14, recipients(m.n, m.f, Kind::Ack, i), votes);
+    send(
+        &mut *w,
+        at,
+        ACK_SENT,
+        recipients(m.n, m.f, Kind::Ack, i),
+        votes,
+    );
     count_own(&mut *b, &mut *w, m.f, at, i);
     shared_after(m, before, after)
 }
@@ -128,7 +152,7 @@ fn ack_of(w: &[u32; WORDS], at: usize, j: u8) -> VoteSet
     if LIMIT < j as usize {
         return empty_set();
     }
-    let c = 25 + 2 * ((j - 1) as usize);
+    let c = ACK_SETS + 2 * ((j - 1) as usize);
     set_at(w, at, c)
 }
 
@@ -137,7 +161,7 @@ fn held_complete(w: &[u32; WORDS], at: usize, n: u8, j: u8) -> bool
     requires { ⌜ at < limit ⌝ }
     ensures { λ r. ⌜ r ≡ rowHolds (wordRows (now (w .entry)) at) n j ⌝ }
 {
-    if has(word(w, at, 2), j) {
+    if has(word(w, at, ACKS_FROM), j) {
         return complete(ack_of(w, at, j), n);
     }
     false
@@ -163,7 +187,7 @@ fn second_knows(w: &[u32; WORDS], at: usize, f: u8) -> bool
     requires { ⌜ at < limit ⌝ }
     ensures { λ r. ⌜ r ≡ rowHolds (wordRows (now (w .entry)) at) f (suc f) ⌝ }
 {
-    let from = word(w, at, 2);
+    let from = word(w, at, ACKS_FROM);
     if 32 <= f {
         return false;
     }
@@ -203,10 +227,10 @@ fn freeze(b: &mut [u8; BYTES], w: &mut [u32; WORDS], at: usize, votes: VoteSet)
     ensures { λ _. ⌜ Changed (now (b .entry)) (now (w .entry)) (now (b .exit)) (now (w .exit)) at (stationAfter (stationIn (now (b .entry)) (now (w .entry)) at) (ready votes (freeze (advance (controllerIn (now (b .entry)) (now (w .entry)) at) 3) votes))) ⌝ }
 {
     let before = condition_at(b, at);
-    let callers = word(w, at, 8);
+    let callers = word(w, at, CALLERS);
     put_condition(&mut *b, at, in_phase(3, outcome_in(before)));
-    put_set(&mut *w, at, 6, votes);
-    send(&mut *w, at, 20, callers, votes);
+    put_set(&mut *w, at, HELP_VOTES, votes);
+    send(&mut *w, at, HELPED_SENT, callers, votes);
 }
 
 // It waits, calls for help, and counts its own help vote set as an answer.
@@ -214,12 +238,12 @@ fn call_help(b: &mut [u8; BYTES], w: &mut [u32; WORDS], m: Shared, at: usize, i:
     requires { ⌜ at < limit ⌝ }
     ensures { λ _. ⌜ Changed (now (b .entry)) (now (w .entry)) (now (b .exit)) (now (w .exit)) at (calledHelp (m .n) (m .f) i (stationIn (now (b .entry)) (now (w .entry)) at)) ⌝ }
 {
-    let votes = set_at(w, at, 6);
-    put_byte(&mut *b, at, 5, 1);
+    let votes = set_at(w, at, HELP_VOTES);
+    put_byte(&mut *b, at, WAITING, 1);
     send(
         &mut *w,
         at,
-        17,
+        HELP_SENT,
         recipients(m.n, m.f, Kind::Help, i),
         empty_set(),
     );
@@ -243,7 +267,7 @@ fn concluded(
         conclude_in(&mut *b, &mut *w, at, o);
         return m;
     }
-    if 0 < byte(b, at, 3) {
+    if 0 < byte(b, at, CNT) {
         put_proposal(&mut *b, at, o);
         return proposed_to(m, o);
     }
@@ -259,7 +283,7 @@ fn second_timeout(b: &mut [u8; BYTES], w: &mut [u32; WORDS], m: Shared, at: usiz
     let before = condition_at(b, at);
     let acks = joined_acks(w, at, m.n);
     let decided = decides(w, at, m.n, m.f, i);
-    let own = set_at(w, at, 0);
+    let own = set_at(w, at, VOTES);
     freeze(&mut *b, &mut *w, at, help_votes(own, acks));
     let o = word_of(unanimous_in(m.n, acks));
     let next = concluded(&mut *b, &mut *w, m, at, i, o, decided);

@@ -1,4 +1,11 @@
 // The word of what a controller holds, and the count that ends waiting.
+use crate::columns::ACK_SETS;
+use crate::columns::ACKS_FROM;
+use crate::columns::CNT;
+use crate::columns::CNT_HELP;
+use crate::columns::HELPED;
+use crate::columns::PROPOSAL;
+use crate::columns::WAITING;
 use crate::rows::set_at;
 use crate::tables::BYTES;
 use crate::tables::WORDS;
@@ -24,6 +31,7 @@ ghost use Rattle.ground.specs.Update.{upd};
 ghost use Rattle.model.specs.Numbers.{outcomeNumber};
 ghost use Rattle.votes.specs.Joining.{joinAll, unanimousIn};
 ghost use Rattle.protocol.specs.Rules.{verdict, answersJoin};
+ghost use Rattle.bench_run.specs.Columns.{acksFromColumn, cntColumn, cntHelpColumn, waitingColumn, proposalColumn};
 ghost use Rattle.bench_run.specs.Tables.{byteRows, wordRows, setsFrom};
 ghost use Rattle.bench_run.specs.Changes.{At, stationIn, controllerIn, settled, Left};
 
@@ -40,14 +48,14 @@ pub(crate) fn up_to_limit(n: u8) -> u8
 // The join of the acknowledgements held, or that two of them contradict each other.
 pub(crate) fn joined_acks(w: &[u32; WORDS], at: usize, n: u8) -> Joined
     requires { ⌜ at < limit ⌝ }
-    ensures { λ r. ⌜ r ≡ joinAll n (wordRows (now (w .entry)) at 2) (setsFrom (wordRows (now (w .entry)) at)) ⌝ }
+    ensures { λ r. ⌜ r ≡ joinAll n (wordRows (now (w .entry)) at acksFromColumn) (setsFrom (wordRows (now (w .entry)) at)) ⌝ }
 {
-    let from = word(w, at, 2);
+    let from = word(w, at, ACKS_FROM);
     let end = up_to_limit(n);
     let mut joined = empty_set();
     let mut k: u8 = 0;
     while k < end {
-        let c = 25 + 2 * (k as usize);
+        let c = ACK_SETS + 2 * (k as usize);
         k += 1;
         if !has(from, k) {
             continue;
@@ -75,29 +83,29 @@ fn answers_verdict(b: &[u8; BYTES], w: &[u32; WORDS], at: usize, n: u8) -> Outco
     requires { ⌜ at < limit ⌝ }
     ensures { λ r. ⌜ r ≡ verdict n (answersJoin n (controllerIn (now (b .entry)) (now (w .entry)) at)) ⌝ }
 {
-    if 0 < byte(b, at, 3) {
+    if 0 < byte(b, at, CNT) {
         return word_of(unanimous_in(n, joined_acks(w, at, n)));
     }
-    let helped = set_at(w, at, 3);
+    let helped = set_at(w, at, HELPED);
     word_of(unanimous(helped, n))
 }
 
 // The two counts add up to n - f or more.
 fn counts_suffice(b: &[u8; BYTES], at: usize, n: u8, f: u8) -> bool
     requires { ⌜ at < limit ⌝ }
-    ensures { λ r. ⌜ r ≡ leb n (byteRows (now (b .entry)) at 3 + byteRows (now (b .entry)) at 4 + f) ⌝ }
+    ensures { λ r. ⌜ r ≡ leb n (byteRows (now (b .entry)) at cntColumn + byteRows (now (b .entry)) at cntHelpColumn + f) ⌝ }
 {
-    let counted = (byte(b, at, 3) as u32) + (byte(b, at, 4) as u32) + (f as u32);
+    let counted = (byte(b, at, CNT) as u32) + (byte(b, at, CNT_HELP) as u32) + (f as u32);
     (n as u32) <= counted
 }
 
 // It has put a word, and waits no more.
 pub(crate) fn put_proposal(b: &mut [u8; BYTES], at: usize, o: Outcome)
     requires { ⌜ at < limit ⌝ }
-    ensures { λ _. ⌜ At 16 (now (b .entry)) (now (b .exit)) at (upd (upd (byteRows (now (b .entry)) at) 5 0) 6 (outcomeNumber o)) ⌝ }
+    ensures { λ _. ⌜ At 16 (now (b .entry)) (now (b .exit)) at (upd (upd (byteRows (now (b .entry)) at) waitingColumn 0) proposalColumn (outcomeNumber o)) ⌝ }
 {
-    put_byte(&mut *b, at, 5, 0);
-    put_byte(&mut *b, at, 6, outcome_number(o));
+    put_byte(&mut *b, at, WAITING, 0);
+    put_byte(&mut *b, at, PROPOSAL, outcome_number(o));
 }
 
 // After something was counted: if it waits and the count is complete, a word is put.
@@ -105,7 +113,7 @@ pub(crate) fn settle(b: &mut [u8; BYTES], w: &[u32; WORDS], m: Shared, at: usize
     requires { ⌜ at < limit ⌝ }
     ensures { λ r. ⌜ Left (now (b .entry)) (now (w .entry)) (now (b .exit)) (now (w .entry)) at (settled m (stationIn (now (b .entry)) (now (w .entry)) at)) r ⌝ }
 {
-    if byte(b, at, 5) != 1 {
+    if byte(b, at, WAITING) != 1 {
         return m;
     }
     if !counts_suffice(b, at, m.n, m.f) {
