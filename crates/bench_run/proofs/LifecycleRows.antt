@@ -33,7 +33,8 @@ use Rattle.bench_run.specs.Changes.{At, clearedBytes, clearedWords, unse
 use Rattle.bench_run.proofs.Firsts.{first-more, first-all}
 use Rattle.bench_run.proofs.TableLaws.{follows, unchanged}
 use Rattle.bench_run.proofs.ChangeLaws.{changed, read-station, changed-then, length-stations}
-use Rattle.bench_run.proofs.ReadBack.{outcome-back, condition-back}
+use Rattle.bench_run.proofs.ReadBack.{condition-back}
+use Rattle.records.specs.CodeLaws.{outcome-of-number}
 use Rattle.bench_run.proofs.OutcomeRows.{left-becoming}
 
 -- a change g of the row as it then stands, by a vote set s that is t, follows another
@@ -79,7 +80,7 @@ left-restored b w b′ w′ at i m r before o h k e q x g =
 pub row-saved : (me : Identity) (b w : ℕ → ℕ) → isPresent (conditionIn b) ≡ true
     → stationFrom (upd (upd (upd (upd (upd b 7 1) 8 (me .id)) 9 (me .n)) 10 (me .f)) 11 (outcomeNumber (outcomeIn (conditionIn b)))) (upd (upd w 23 (me .order)) 24 (w 10)) ≡ keeping (stationFrom b w) (save me (controllerFrom b w))
 unfolding stationFrom controllerFrom setsFrom tabulate upd keeping save checkpointOf
-row-saved me b w h = rw (h, outcome-back (outcomeIn (conditionIn b)))
+row-saved me b w h = rw (h, outcome-of-number (outcomeIn (conditionIn b)))
 
 -- nothing sent
 abbrev withNothingSent : Station → Station

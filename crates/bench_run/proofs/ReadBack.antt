@@ -10,11 +10,11 @@ use borrow.Author.Tests.{eqb-true, eqb-false, ne-eqb}
 use Rattle.ground.specs.Limit.{limit}
 use Rattle.ground.specs.Tests.{split}
 use Rattle.ground.specs.Update.{upd, upd-same, upd-other, fun-ext}
-use Rattle.records.specs.Codes.{outcomeOf}
+use Rattle.records.specs.CodeLaws.{outcome-of-number}
 use Rattle.votes.specs.declared.VoteSet.{VoteSet}
 use Rattle.model.specs.Numbers.{outcomeNumber}
 use Rattle.model.specs.declared.Outcome.{Outcome}
-use Rattle.model.specs.declared.Outcome.the-variants.{None, Stay, Move}
+use Rattle.model.specs.declared.Outcome.the-variants.{None}
 use Rattle.protocol.specs.declared.Condition.{Condition}
 use Rattle.protocol.specs.declared.Condition.the-variants.{Running, Stopped, Standby}
 use Rattle.protocol.specs.declared.Counts.{Counts}
@@ -26,16 +26,10 @@ use Rattle.bench_run.specs.Tables.{tabulate, conditionFrom, setFrom, set
 use Rattle.bench_run.specs.Changes.{tagOf, setTo}
 use Rattle.bench_run.proofs.ChangeLaws.{set-tabulate}
 
-pub outcome-back : (o : Outcome) → outcomeOf (outcomeNumber o) ≡ o
-unfolding outcomeOf
-outcome-back None = refl
-outcome-back Stay = refl
-outcome-back Move = refl
-
 pub condition-back : (k : Condition) → conditionFrom (tagOf k) (phaseIn k) (outcomeNumber (outcomeIn k)) ≡ k
-condition-back (Running p) = ap (λ (o : Outcome). Running (record { phase = p .phase; outcome = o })) (outcome-back (p .outcome))
+condition-back (Running p) = ap (λ (o : Outcome). Running (record { phase = p .phase; outcome = o })) (outcome-of-number (p .outcome))
 condition-back Stopped = refl
-condition-back (Standby o) = ap Standby (outcome-back o)
+condition-back (Standby o) = ap Standby (outcome-of-number o)
 
 -- one vote set of the acknowledgements, in its two columns
 one-set : (w : ℕ → ℕ) (o : ℕ) (s : VoteSet) (j : ℕ) → setFrom (setTo (setColumn o) s w) (setColumn j) ≡ upd (λ i. setFrom w (setColumn i)) o s j

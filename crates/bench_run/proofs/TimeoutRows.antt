@@ -37,7 +37,8 @@ use Rattle.protocol.specs.Steps.{withCounts, proposedTo, stationAfter, answerin
 use Rattle.bench_run.specs.Tables.{tabulate, byteRows, conditionIn, setFrom, setColumn, setsFrom, outgoingFrom, controllerFrom, stationFrom}
 use Rattle.bench_run.specs.Changes.{conditionTo, setTo, outgoingTo, stationIn, Left, withController, settled, calledHelp, concluding, rowDecides}
 use Rattle.bench_run.proofs.ChangeLaws.{at-tabulate, length-tabulate, station-after}
-use Rattle.bench_run.proofs.ReadBack.{outcome-back, proposed-none}
+use Rattle.bench_run.proofs.ReadBack.{proposed-none}
+use Rattle.records.specs.CodeLaws.{outcome-of-number}
 
 -- a row from which a vote set was sent
 abbrev pub sentTo : ℕ → ℕ → VoteSet → (ℕ → ℕ) → ℕ → ℕ
@@ -52,7 +53,7 @@ pub vote-cast : (b w : ℕ → ℕ) (n f i : ℕ) (willing : Bool) (target : ℕ
     → k ≡ inPhase (cond (leb i (suc f)) 1 2) (outcomeIn (conditionIn b)) → v ≡ agreedOr (setFrom w 0) (join (setFrom w 0) own) → own ≡ single i willing → to ≡ recipients n f Vote i
     → stationFrom (conditionTo k b) (sentTo 11 to own (upd (setTo 0 v w) 9 target)) ≡ stationAfter (stationFrom b w) (voteRule n f i willing target (controllerFrom b w))
 unfolding stationFrom controllerFrom setsFrom tabulate upd stationAfter sentAfter voteRule advance aim learn
-vote-cast b w n f i willing target k own v to ek ev eo et = rw (ek, ev, eo, et, outcome-back (outcomeIn (conditionIn b)))
+vote-cast b w n f i willing target k own v to ek ev eo et = rw (ek, ev, eo, et, outcome-of-number (outcomeIn (conditionIn b)))
 
 pub vote-shared : (b w : ℕ → ℕ) (m : Shared) (i : ℕ) (willing : Bool) (target : ℕ) (before k : Condition)
     → before ≡ conditionIn b → k ≡ inPhase (cond (leb i (suc (m .f))) 1 2) (outcomeIn (conditionIn b))
@@ -96,7 +97,7 @@ pub ack-sent : (b w : ℕ → ℕ) (n f i : ℕ) (k : Condition) (s : VoteSet) (
     → k ≡ inPhase 2 (outcomeIn (conditionIn b)) → s ≡ setFrom w 0 → to ≡ recipients n f Ack i
     → stationFrom (conditionTo k b) (sentTo 14 to s w) ≡ stationAfter (stationFrom b w) (sending (advance (controllerFrom b w) 2) (acksTo (recipients n f Ack i) (setFrom w 0)))
 unfolding stationFrom controllerFrom setsFrom tabulate upd stationAfter sentAfter advance
-ack-sent b w n f i k s to ek es et = rw (ek, es, et, outcome-back (outcomeIn (conditionIn b)))
+ack-sent b w n f i k s to ek es et = rw (ek, es, et, outcome-of-number (outcomeIn (conditionIn b)))
 
 pub first-timed-out : (b w : ℕ → ℕ) (n f i : ℕ)
     → withOwn f i (stationAfter (stationFrom b w) (sending (advance (controllerFrom b w) 2) (acksTo (recipients n f Ack i) (setFrom w 0)))) ≡ stationAfter (stationFrom b w) (firstTimeout n f i (controllerFrom b w))
@@ -121,7 +122,7 @@ ack-past w j h = sym (nth-past empty (setsFrom w) j (let e = length-tabulate lim
 pub help-frozen : (b w : ℕ → ℕ) (k : Condition) (s : VoteSet) (to : ℕ) → k ≡ inPhase 3 (outcomeIn (conditionIn b)) → to ≡ w 8
     → stationFrom (conditionTo k b) (sentTo 20 to s (setTo 6 s w)) ≡ stationAfter (stationFrom b w) (ready s (freeze (advance (controllerFrom b w) 3) s))
 unfolding stationFrom controllerFrom setsFrom tabulate upd stationAfter sentAfter ready freeze advance
-help-frozen b w k s to ek et = rw (ek, et, outcome-back (outcomeIn (conditionIn b)))
+help-frozen b w k s to ek et = rw (ek, et, outcome-of-number (outcomeIn (conditionIn b)))
 
 -- it calls for help, then counts its own help vote set
 abbrev pub withAnswer : ℕ → VoteSet → Station → Station
@@ -141,7 +142,7 @@ concluding-outcome b w i o d m e = rw e
 pub concluding-word : (b w : ℕ → ℕ) (i : ℕ) (o : Outcome) (d : Bool) (m next : Shared) → d ≡ false → ltb 0 (b 3) ≡ true → next ≡ proposedTo m o
     → _≡_ {A = Effect} (record { shared = next; station = stationFrom (upd (upd b 5 0) 6 (outcomeNumber o)) w }) (concluding i o d m (stationFrom b w))
 unfolding stationFrom controllerFrom upd concluding propose
-concluding-word b w i o d m next e h en = rw (e, h, en, outcome-back o)
+concluding-word b w i o d m next e h en = rw (e, h, en, outcome-of-number o)
 
 pub concluding-help : (b w : ℕ → ℕ) (i : ℕ) (o : Outcome) (d : Bool) (m : Shared) → d ≡ false → ltb 0 (b 3) ≡ false
     → settled m (calledHelp (m .n) (m .f) i (stationFrom b w)) ≡ concluding i o d m (stationFrom b w)

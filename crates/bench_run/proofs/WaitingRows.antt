@@ -30,7 +30,8 @@ use Rattle.bench_run.specs.Tables.{byteRows, wordRows, setFrom, setColum
 use Rattle.bench_run.specs.Changes.{stationIn, withController, settled, Left}
 use Rattle.bench_run.proofs.TableLaws.{unchanged}
 use Rattle.bench_run.proofs.ChangeLaws.{at-tabulate, length-tabulate, changed, left}
-use Rattle.bench_run.proofs.ReadBack.{outcome-back, proposed-none, counts-stay, shared-stays}
+use Rattle.bench_run.proofs.ReadBack.{proposed-none, counts-stay, shared-stays}
+use Rattle.records.specs.CodeLaws.{outcome-of-number}
 
 -- the vote set of one sender, as it is read; there are as many as the limit
 pub set-of : (w : ℕ → ℕ) (k : ℕ) → k < limit → nth empty (setsFrom w) (suc k) ≡ setFrom w (setColumn k)
@@ -53,7 +54,7 @@ helped-word b w n h = rw h
 -- it has put a word
 pub proposal-put : (b w : ℕ → ℕ) (o : Outcome) → stationFrom (upd (upd b 5 0) 6 (outcomeNumber o)) w ≡ withController (stationFrom b w) (propose (controllerFrom b w) o)
 unfolding stationFrom controllerFrom upd propose
-proposal-put b w o = rw (outcome-back o)
+proposal-put b w o = rw (outcome-of-number o)
 
 -- what is shared, and a station
 abbrev pub leaving : Shared → Station → Effect

@@ -34,11 +34,11 @@ use crate::tables::byte;
 use crate::tables::put_byte;
 use crate::tables::put_word;
 use crate::tables::word;
-use crate::waiting::up_to_limit;
 use bench_step::decided_as;
 use controller_state::in_phase;
 use controller_state::is_stopped;
 use controller_state::outcome_in;
+use ground::up_to_limit;
 use model::Outcome;
 use model::outcome_number;
 use model::word_of;
@@ -198,42 +198,14 @@ fn unsend(w: &mut [u32; WORDS], at: usize)
     requires { ⌜ at < limit ⌝ }
     ensures { λ _. ⌜ At 64 (now (w .entry)) (now (w .exit)) at (unsentWords (wordRows (now (w .entry)) at)) ⌝ }
 {
-    put_outgoing(
-        &mut *w,
-        at,
-        VOTE_SENT,
-        Outgoing {
-            to: 0,
-            votes: empty_set(),
-        },
-    );
-    put_outgoing(
-        &mut *w,
-        at,
-        ACK_SENT,
-        Outgoing {
-            to: 0,
-            votes: empty_set(),
-        },
-    );
-    put_outgoing(
-        &mut *w,
-        at,
-        HELP_SENT,
-        Outgoing {
-            to: 0,
-            votes: empty_set(),
-        },
-    );
-    put_outgoing(
-        &mut *w,
-        at,
-        HELPED_SENT,
-        Outgoing {
-            to: 0,
-            votes: empty_set(),
-        },
-    );
+    let unsent = Outgoing {
+        to: 0,
+        votes: empty_set(),
+    };
+    put_outgoing(&mut *w, at, VOTE_SENT, unsent);
+    put_outgoing(&mut *w, at, ACK_SENT, unsent);
+    put_outgoing(&mut *w, at, HELP_SENT, unsent);
+    put_outgoing(&mut *w, at, HELPED_SENT, unsent);
 }
 
 fn renew(b: &mut [u8; BYTES], w: &mut [u32; WORDS], at: usize)

@@ -33,6 +33,7 @@ use crate::waiting::unanimous_in;
 use bench_step::proposed_to;
 use controller_state::in_phase;
 use controller_state::outcome_in;
+use controller_state::phase_after_vote;
 use controller_state::phase_in;
 use ground::LIMIT;
 use ground::has;
@@ -65,16 +66,6 @@ ghost use Rattle.protocol.specs.Benches.{identity};
 ghost use Rattle.protocol.specs.Steps.{stationAfter, answering};
 ghost use Rattle.bench_run.specs.Tables.{byteRows, wordRows, conditionIn, setsFrom};
 ghost use Rattle.bench_run.specs.Changes.{stationIn, controllerIn, withController, calledHelp, concluding, rowHolds, rowDecides, Changed, Left};
-
-// Controllers 1 to f + 1 go to stage 1, others to stage 2.
-fn phase_after_vote(f: u8, i: u8) -> u8
-    ensures { λ r. ⌜ r ≡ cond (leb i (suc f)) 1 2 ⌝ }
-{
-    if i as u16 <= f as u16 + 1 {
-        return 1;
-    }
-    2
-}
 
 // Its own vote goes on its vote set, and to the backups.
 pub(crate) fn cast(

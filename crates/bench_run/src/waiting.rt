@@ -13,8 +13,8 @@ use crate::tables::byte;
 use crate::tables::put_byte;
 use crate::tables::word;
 use bench_step::proposed_to;
-use ground::LIMIT;
 use ground::has;
+use ground::up_to_limit;
 use model::Outcome;
 use model::outcome_number;
 use model::word_of;
@@ -24,7 +24,7 @@ use votes::empty_set;
 use votes::join;
 use votes::unanimous;
 ghost use mathlib.Core.Path.{_≡_};
-ghost use Prim.Native.Nat.{_+_, _<_, min};
+ghost use Prim.Native.Nat.{_+_, _<_};
 ghost use lib.Dec.{leb};
 ghost use Rattle.ground.specs.Limit.{limit};
 ghost use Rattle.ground.specs.Update.{upd};
@@ -34,16 +34,6 @@ ghost use Rattle.protocol.specs.Rules.{verdict, answersJoin};
 ghost use Rattle.bench_run.specs.Columns.{acksFromColumn, cntColumn, cntHelpColumn, waitingColumn, proposalColumn};
 ghost use Rattle.bench_run.specs.Tables.{byteRows, wordRows, setsFrom};
 ghost use Rattle.bench_run.specs.Changes.{At, stationIn, controllerIn, settled, Left};
-
-// The smaller of n and the limit.
-pub(crate) fn up_to_limit(n: u8) -> u8
-    ensures { λ r. ⌜ r ≡ min n limit ⌝ }
-{
-    if (n as usize) < LIMIT {
-        return n;
-    }
-    LIMIT as u8
-}
 
 // The join of the acknowledgements held, or that two of them contradict each other.
 pub(crate) fn joined_acks(w: &[u32; WORDS], at: usize, n: u8) -> Joined

@@ -4,6 +4,7 @@ use controller_state::advance;
 use controller_state::aim;
 use controller_state::keep_ack;
 use controller_state::learn;
+use controller_state::phase_after_vote;
 use controller_state::sending;
 use controller_state::votes_to;
 use ground::has;
@@ -18,16 +19,6 @@ ghost use mathlib.Core.Path.{_≡_};
 ghost use mathlib.Core.Bool.{cond};
 ghost use lib.Dec.{leb};
 ghost use Rattle.protocol.specs.Rules.{voteRule, countOwn, firstTimeout};
-
-// Controllers 1 to f + 1 go to stage 1, others to stage 2.
-fn phase_after_vote(f: u8, i: u8) -> u8
-    ensures { λ r. ⌜ r ≡ cond (leb i (suc f)) 1 2 ⌝ }
-{
-    if i as u16 <= f as u16 + 1 {
-        return 1;
-    }
-    2
-}
 
 // Its own vote goes on its vote set, and to the backups.
 pub fn vote_rule(n: u8, f: u8, i: u8, willing: bool, target: u32, c: Controller) -> Answer

@@ -1,13 +1,11 @@
 // The small changes that the rules are made of.
 use crate::conditions::in_phase;
-use crate::conditions::is_running;
+use crate::conditions::landing;
 use crate::conditions::noting;
 use crate::conditions::outcome_in;
 use ground::LIMIT;
 use ground::insert;
 use model::Outcome;
-use model::is_move;
-use model::is_none;
 use protocol::Acks;
 use protocol::Cnt;
 use protocol::CntHelp;
@@ -21,12 +19,11 @@ use votes::agreed_or;
 use votes::empty_set;
 use votes::join;
 ghost use mathlib.Core.Path.{_≡_};
-ghost use mathlib.Core.Bool.{cond};
 ghost use lib.ListN.{replicate};
 ghost use Rattle.ground.specs.Limit.{limit};
 ghost use Rattle.votes.specs.VoteSets.{empty};
 ghost use Rattle.protocol.specs.Benches.{fresh};
-ghost use Rattle.protocol.specs.Controllers.{blank, cleared, advance, learn, aim, freeze, addCaller, await, propose, moves, conclude};
+ghost use Rattle.protocol.specs.Controllers.{blank, cleared, advance, learn, aim, freeze, addCaller, await, propose, conclude};
 
 // A controller of this condition that holds nothing. What stands in its list of acknowledgements no longer counts.
 fn blank(condition: Condition, sets: [VoteSet; LIMIT], position: u32) -> Controller
@@ -145,37 +142,13 @@ pub(crate) fn propose(c: Controller, proposal: Outcome) -> Controller
     }
 }
 
-// Does this outcome move the gate: it runs, has none yet, and this one is Move.
-fn moves(c: Controller, o: Outcome) -> bool
-    ensures { λ r. ⌜ r ≡ moves c o ⌝ }
-{
-    let condition = c.condition;
-    if !is_running(condition) {
-        return false;
-    }
-    if !is_none(outcome_in(condition)) {
-        return false;
-    }
-    is_move(o)
-}
-
-// Where the gate stands once this outcome is taken.
-fn landing(c: Controller, o: Outcome) -> u32
-    ensures { λ r. ⌜ r ≡ cond (moves c o) (c .gate .target) (c .gate .position) ⌝ }
-{
-    if moves(c, o) {
-        return c.gate.target;
-    }
-    c.gate.position
-}
-
 // An outcome is taken if there is none, and waiting ends.
 pub fn conclude(c: Controller, o: Outcome) -> Controller
     ensures { λ r. ⌜ r ≡ conclude c o ⌝ }
 {
     let now = c.condition;
     let condition = noting(now, o);
-    let position = landing(c, o);
+    let position = landing(now, o, c.gate);
     Controller {
         condition,
         help: HelpState {

@@ -1,5 +1,6 @@
 // What everything stands on: general laws of tests, counts and lists (specs/), and sets of controllers as masks.
 ghost use mathlib.Core.Path.{_≡_};
+ghost use Prim.Native.Nat.{min};
 ghost use Rattle.ground.specs.Limit.{limit};
 
 mod mask;
@@ -21,4 +22,14 @@ pub fn limit_is_one() -> usize
     ensures { λ r. ⌜ r ≡ limit ⌝ }
 {
     LIMIT
+}
+
+// The smaller of n and the limit.
+pub fn up_to_limit(n: u8) -> u8
+    ensures { λ r. ⌜ r ≡ min n limit ⌝ }
+{
+    if (n as usize) < LIMIT {
+        return n;
+    }
+    LIMIT as u8
 }

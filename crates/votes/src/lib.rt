@@ -9,6 +9,7 @@ use ground::LIMIT;
 use ground::full_to;
 use ground::has;
 use ground::insert;
+use ground::up_to_limit;
 
 mod tallies;
 
@@ -133,16 +134,6 @@ pub fn join_all(m: u8, from: u32, sets: [VoteSet; LIMIT]) -> Joined
         joined = next;
     }
     Joined::Agreed(joined)
-}
-
-// The smaller of m and the limit.
-fn up_to_limit(m: u8) -> u8
-    ensures { λ r. ⌜ r ≡ min m limit ⌝ }
-{
-    if (m as usize) < LIMIT {
-        return m;
-    }
-    LIMIT as u8
 }
 
 // When two vote sets contradict each other; and that the join of any list of vote sets is there exactly when they agree pairwise, as a contract.

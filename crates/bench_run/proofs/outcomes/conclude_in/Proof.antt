@@ -16,8 +16,8 @@ word-requires c κs = search needs
 word-requires-2 : tie.Need-word-requires-2
 word-requires-2 c κs = search needs
 
-landing-in-requires : tie.Need-landing-in-requires
-landing-in-requires c κs = search needs
+landing-requires : tie.Need-landing-requires
+landing-requires c κs = search needs
 
 put-byte-requires : tie.Need-put-byte-requires
 put-byte-requires c κs = search needs
@@ -36,7 +36,7 @@ returns c =
     changed _ _ _ _ _ _ _ _ (search needs)
     (follows 16 _ _ _ _ _ (conditionTo (c .before .before .before .noting .result)) (store 16 one-row-16 _ _ _ _ _ _ (search needs) refl (c .before .before .before .before .before .put-byte .ensures)) (c .before .before .put-condition .ensures))
     (store 64 one-row-64 _ _ _ _ _ _ (search needs) refl (c .put-word .ensures))
-    (concluded _ _ _ _ _ _ _ _ (c .before .before .before .before .before .before .before .before .before .before .before .before .condition-at .ensures) (c .before .before .before .noting .ensures) (c .before .before .before .before .before .before .before .before .before .before .word .ensures) (c .before .before .before .before .before .before .before .before .word2 .ensures) (c .before .before .before .before .before .before .before .landing-in .ensures))
+    (concluded _ _ _ _ _ _ _ _ (c .before .before .before .before .before .before .before .before .before .before .before .before .condition-at .ensures) (c .before .before .before .noting .ensures) (c .before .before .before .before .before .before .before .before .before .before .word .ensures) (c .before .before .before .before .before .before .before .before .word2 .ensures) (c .before .before .before .before .before .before .before .landing .ensures))
 
 pub conclude-in-spec : {M : Type 1} → statement M
 conclude-in-spec =
@@ -45,7 +45,7 @@ conclude-in-spec =
     condition-at-requires
     word-requires
     word-requires-2
-    landing-in-requires
+    landing-requires
     put-byte-requires
     noting-requires
     put-condition-requires

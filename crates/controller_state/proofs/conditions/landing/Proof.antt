@@ -1,6 +1,6 @@
 use borrow.Author.Needs.{needs}
-use Rattle.bench_run.proofs.outcomes.landing_in.Statement.{statement}
-use Rattle.bench_run.proofs.outcomes.landing_in.Tie as tie
+use Rattle.controller_state.proofs.conditions.landing.Statement.{statement}
+use Rattle.controller_state.proofs.conditions.landing.Tie as tie
 
 moves-in-requires : tie.Need-moves-in-requires
 moves-in-requires c κs = search needs
@@ -11,5 +11,5 @@ returns c = simp (← c .before .moves-in .ensures, c .if1 .taken)
 returns-2 : tie.Need-returns-2
 returns-2 c = simp (← c .before .moves-in .ensures, c .if1 .left)
 
-pub landing-in-spec : {M : Type 1} → statement M
-landing-in-spec = tie.close (tie.spec moves-in-requires returns returns-2)
+pub landing-spec : {M : Type 1} → statement M
+landing-spec = tie.close (tie.spec moves-in-requires returns returns-2)

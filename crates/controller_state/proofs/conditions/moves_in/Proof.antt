@@ -1,7 +1,7 @@
 use borrow.Author.Tests.{not-true, not-false}
 use borrow.Author.Needs.{needs}
-use Rattle.controller_state.proofs.changes.moves.Statement.{statement}
-use Rattle.controller_state.proofs.changes.moves.Tie as tie
+use Rattle.controller_state.proofs.conditions.moves_in.Statement.{statement}
+use Rattle.controller_state.proofs.conditions.moves_in.Tie as tie
 
 is-running-requires : tie.Need-is-running-requires
 is-running-requires c κs = search needs
@@ -24,8 +24,8 @@ is-move-requires c κs = search needs
 returns-3 : tie.Need-returns-3
 returns-3 c = simp (← c .before .before .before .before .before .is-running .ensures, not-false (c .before .before .before .before .before .is-running .result) (c .before .before .before .before .if1 .left), ← c .before .before .before .outcome-in .ensures, ← c .before .before .is-none .ensures, not-false (c .before .before .is-none .result) (c .before .if2 .left), c .is-move .ensures)
 
-pub moves-spec : {M : Type 1} → statement M
-moves-spec =
+pub moves-in-spec : {M : Type 1} → statement M
+moves-in-spec =
     tie.close
     (tie.spec
     is-running-requires

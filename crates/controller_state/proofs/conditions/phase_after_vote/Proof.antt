@@ -2,8 +2,8 @@ use Prim.Native.Nat.{suc}
 use native.Mathlib.Omega.{arith}
 use borrow.Author.Tests.{le-leb, lt-leb}
 use borrow.Author.Needs.{needs}
-use Rattle.bench_run.proofs.timeouts.phase_after_vote.Statement.{statement}
-use Rattle.bench_run.proofs.timeouts.phase_after_vote.Tie as tie
+use Rattle.controller_state.proofs.conditions.phase_after_vote.Statement.{statement}
+use Rattle.controller_state.proofs.conditions.phase_after_vote.Tie as tie
 
 add-if1 : tie.Need-add-if1
 add-if1 c = search needs
