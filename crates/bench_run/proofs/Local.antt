@@ -26,7 +26,7 @@ use Rattle.protocol.specs.Questions.{number, reply, firstNo, questionsOf, mayOp
 use Rattle.protocol.specs.Steps.{renewed, orderOpened, perform, step, run}
 use Rattle.protocol.specs.NoContradiction.{untestedReply, untestedPerform}
 use Rattle.protocol.proofs.claim.Reach.{Reached, reached}
-use Rattle.bench_step.proofs.Replies.{all-numbered, step-refused}
+use Rattle.bench_state.proofs.Replies.{all-numbered, step-refused}
 use Rattle.bench_run.proofs.Untested.{untestedEffect, same-reply, accepted-step, performs}
 use Rattle.bench_run.proofs.Asking.{Seat, same-questions, stationed}
 

@@ -31,7 +31,7 @@ use Rattle.protocol.specs.Controllers.{addCaller, hasCalled}
 use Rattle.protocol.specs.Questions.{number, firstNo, questionsOf, factsOf, mayOpen, isSaved}
 use Rattle.protocol.specs.Steps.{orderOpened, stationAfter, answering, run}
 use Rattle.bench_run.proofs.Untested.{untestedEffect}
-use Rattle.bench_questions.specs.Parts.{factsAt, ownFacts, openFacts}
+use Rattle.bench_state.specs.Parts.{factsAt, ownFacts, openFacts}
 use Rattle.bench_run.specs.Tables.{byteRows, wordRows, conditionIn, setFrom, controllerFrom, stationFrom}
 use Rattle.bench_run.specs.Changes.{stationsIn, stationIn, controllerIn, Changed, Left, RenewedUpTo}
 use Rattle.bench_run.specs.Plays.{benchIn, Steps}

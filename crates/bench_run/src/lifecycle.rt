@@ -34,7 +34,7 @@ use crate::tables::byte;
 use crate::tables::put_byte;
 use crate::tables::put_word;
 use crate::tables::word;
-use bench_step::decided_as;
+use bench_state::decided_as;
 use controller_state::in_phase;
 use controller_state::is_stopped;
 use controller_state::outcome_in;

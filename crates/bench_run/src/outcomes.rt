@@ -9,7 +9,7 @@ use crate::tables::WORDS;
 use crate::tables::put_byte;
 use crate::tables::put_word;
 use crate::tables::word;
-use bench_step::counts_after;
+use bench_state::counts_after;
 use controller_state::landing;
 use controller_state::noting;
 use model::Outcome;

@@ -5,7 +5,7 @@ use crate::plays::play;
 use crate::stations::stations_of;
 use crate::tables::BYTES;
 use crate::tables::WORDS;
-use bench_step::new_bench;
+use bench_state::new_bench;
 use event_record::ReadEvent;
 use event_record::answer_of;
 use model::Event;

@@ -30,7 +30,7 @@ use crate::waiting::joined_acks;
 use crate::waiting::put_proposal;
 use crate::waiting::settle;
 use crate::waiting::unanimous_in;
-use bench_step::proposed_to;
+use bench_state::proposed_to;
 use controller_state::in_phase;
 use controller_state::outcome_in;
 use controller_state::phase_after_vote;

@@ -12,7 +12,7 @@ use crate::tables::WORDS;
 use crate::tables::byte;
 use crate::tables::put_byte;
 use crate::tables::word;
-use bench_step::proposed_to;
+use bench_state::proposed_to;
 use ground::has;
 use ground::up_to_limit;
 use model::Outcome;

@@ -1,4 +1,3 @@
-pub mod Replies
 mod PlayLaws
 mod Defaults
 mod Maps

@@ -23,7 +23,7 @@ use Rattle.protocol.specs.Steps.{effectOf, effect, perform, performOne, step}
 use Rattle.bench_step.specs.declared.plays.Played.{Played}
 use Rattle.bench_step.specs.Plays.{replyOfOne, untestedOfOne, played, play}
 use Rattle.protocol.proofs.view.Refusals.{delivers, others-agree}
-use Rattle.bench_step.proofs.Replies.{all-numbered, zero-accepted, step-accepted}
+use Rattle.bench_state.proofs.Replies.{all-numbered, zero-accepted, step-accepted}
 
 accepted-of-one : (one : Bool) (qs : List Question) → numbered qs ≡ true → number (cond one (firstNo qs) (refused 7)) ≡ 0 → cond one (firstNo qs) (refused 7) ≡ accepted
 accepted-of-one true qs n z = reply-accepted qs (number (firstNo qs)) n refl z

@@ -19,7 +19,7 @@ use Rattle.protocol.specs.Questions.{refused, number, firstNo, questionsOf, agr
 use Rattle.protocol.specs.Steps.{effect, perform}
 use Rattle.bench_step.specs.declared.plays.Played.{Played}
 use Rattle.bench_step.specs.Plays.{play}
-use Rattle.bench_step.proofs.Replies.{zero-yes, step-accepted, step-refused}
+use Rattle.bench_state.proofs.Replies.{zero-yes, step-accepted, step-refused}
 use Rattle.bench_step.proofs.PlayLaws.{playAt, same-reply, play-answer, play-shares, play-steps}
 use Rattle.bench_step.specs.declared.Stepped.{Stepped}
 use Rattle.bench_step.specs.Steps.{stepped, wholeReply}

@@ -2,8 +2,10 @@
 use crate::calls::identity;
 use crate::calls::message;
 use crate::calls::restore_from;
-use crate::counts::counts_after;
 use crate::sends::sent_after;
+use bench_state::counts_after;
+use bench_state::decided_as;
+use bench_state::proposed_to;
 use controller::decide;
 use controller::receive;
 use controller::save;
@@ -12,12 +14,7 @@ use controller::timeout;
 use controller::vote;
 use controller_state::passed_over;
 use model::Event;
-use model::Outcome;
-use model::is_move;
-use model::is_stay;
-use model::word_of;
 use protocol::Answer;
-use protocol::Consensus;
 use protocol::Effect;
 use protocol::Saved;
 use protocol::Sent;
@@ -25,31 +22,7 @@ use protocol::Shared;
 use protocol::Station;
 ghost use mathlib.Core.Path.{_≡_};
 ghost use Rattle.protocol.specs.Events.{answerTo};
-ghost use Rattle.protocol.specs.Steps.{proposedTo, decidedAs, stationAfter, answering, keeping, effectOf};
-
-// What is shared, after a word was put, if any.
-pub fn proposed_to(m: Shared, proposal: Outcome) -> Shared
-    ensures { λ r. ⌜ r ≡ proposedTo m proposal ⌝ }
-{
-    let old = m.consensus;
-    let decision = old.decision;
-    let consensus = Consensus {
-        move_proposed: old.move_proposed | is_move(proposal),
-        stay_proposed: old.stay_proposed | is_stay(proposal),
-        decision,
-    };
-    Shared { consensus, ..m }
-}
-
-// What is shared, with the choice of the consensus.
-pub fn decided_as(m: Shared, to_move: bool) -> Shared
-    ensures { λ r. ⌜ r ≡ decidedAs m «to_move» ⌝ }
-{
-    let old = m.consensus;
-    let decision = word_of(to_move);
-    let consensus = Consensus { decision, ..old };
-    Shared { consensus, ..m }
-}
+ghost use Rattle.protocol.specs.Steps.{stationAfter, answering, keeping, effectOf};
 
 // A station after its controller's answer.
 fn station_after(s: Station, a: Answer) -> Station

@@ -1,9 +1,9 @@
 // The one function that plays an event of one controller.
 use crate::effects::answer_to;
 use crate::effects::effect_of;
-use bench_questions::concerns_one;
-use bench_questions::facts_of;
-use bench_questions::question;
+use bench_state::concerns_one;
+use bench_state::facts_of;
+use bench_state::question;
 use controller_state::is_contradicted;
 use model::Event;
 use protocol::Sent;

@@ -1,17 +1,17 @@
 // One event on the whole bench.
 use crate::Stepped;
-use crate::orders::may_open;
 use crate::orders::opened;
-use crate::parts::bench_of;
-use crate::parts::fresh_station;
-use crate::parts::station_at;
-use crate::parts::unsent_all;
 use crate::plays::play;
-use bench_questions::concerns_one;
-use bench_questions::facts_of;
-use bench_questions::question;
-use bench_questions::source;
-use bench_questions::subject;
+use crate::stations::station_at;
+use bench_state::bench_of;
+use bench_state::concerns_one;
+use bench_state::facts_of;
+use bench_state::fresh_station;
+use bench_state::may_open;
+use bench_state::question;
+use bench_state::source;
+use bench_state::subject;
+use bench_state::unsent_all;
 use ground::LIMIT;
 use model::Event;
 use protocol::Bench;

@@ -1,0 +1,14 @@
+use Rattle.protocol.specs.Benches.{unsentAll}
+use borrow.Author.Needs.{needs}
+use Rattle.bench_state.proofs.parts.unsent_all.Statement.{statement}
+use Rattle.bench_state.proofs.parts.unsent_all.Tie as tie
+
+empty-set-requires : tie.Need-empty-set-requires
+empty-set-requires c κs = search needs
+
+returns : tie.Need-returns
+unfolding unsentAll
+returns c = simp (c .empty-set .ensures)
+
+pub unsent-all-spec : {M : Type 1} → statement M
+unsent-all-spec = tie.close (tie.spec empty-set-requires returns)

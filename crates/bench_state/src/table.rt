@@ -1,0 +1,219 @@
+// The questions of each event, in document 01's sequence. Each function answers the number of the first "no", or 0, and asks nothing after it.
+use crate::tests::awaits_decision;
+use crate::tests::awaits_timeout;
+use crate::tests::is_present;
+use crate::tests::may_decide;
+use controller_state::is_running;
+use controller_state::is_stopped;
+use controller_state::phase_in;
+use ground::has;
+use model::Event;
+use model::Kind;
+use model::different_controllers;
+use model::is_controller;
+use model::position_in_range;
+use model::route;
+use model::sizes_in_range;
+use protocol::Condition;
+use protocol::Facts;
+use protocol::Shared;
+ghost use mathlib.Core.Path.{_≡_};
+ghost use mathlib.Core.Bool.{true, false};
+ghost use Rattle.model.specs.declared.Event.the-variants.{Lock, Order, Cast, Deliver, Timeout, Decide, Stop, Restore};
+ghost use Rattle.protocol.specs.Questions.{number, firstNo, questionsOf};
+ghost use Rattle.bench_state.specs.Parts.{factsAt, ownFacts, openFacts};
+
+pub fn lock_question(m: Shared, n: u8, f: u8) -> u8
+    ensures { λ r. ⌜ r ≡ number (firstNo (questionsOf (openFacts m false) (Lock n f))) ⌝ }
+{
+    if !sizes_in_range(n, f) {
+        return 4;
+    }
+    if m.locked {
+        return 6;
+    }
+    0
+}
+
+pub fn order_question(m: Shared, may_open: bool, order: u32) -> u8
+    ensures { λ r. ⌜ r ≡ number (firstNo (questionsOf (openFacts m «may_open») (Order order))) ⌝ }
+{
+    if !m.locked {
+        return 5;
+    }
+    if order < 1 {
+        return 8;
+    }
+    if order <= m.order {
+        return 12;
+    }
+    if !may_open {
+        return 13;
+    }
+    0
+}
+
+pub fn cast_question(m: Shared, k: Condition, id: u8, target: u32) -> u8
+    ensures { λ r. ⌜ r ≡ number (firstNo (questionsOf (ownFacts m k) (Cast id true target))) ⌝ }
+{
+    if !m.locked {
+        return 5;
+    }
+    if !is_controller(m.n, id) {
+        return 7;
+    }
+    if !position_in_range(target) {
+        return 11;
+    }
+    if m.order < 1 {
+        return 14;
+    }
+    if !is_running(k) {
+        return 15;
+    }
+    if phase_in(k) != 0 {
+        return 16;
+    }
+    0
+}
+
+pub fn deliver_question(
+    m: Shared,
+    k: Condition,
+    receivers: u32,
+    agrees: bool,
+    from: u8,
+    to: u8,
+    kind: Kind,
+) -> u8
+    ensures { λ r. ⌜ r ≡ number (firstNo (questionsOf (factsAt m k false receivers agrees) (Deliver from to kind))) ⌝ }
+{
+    if !m.locked {
+        return 5;
+    }
+    if !different_controllers(m.n, from, to) {
+        return 7;
+    }
+    if !route(m.f, kind, from, to) {
+        return 10;
+    }
+    if m.order < 1 {
+        return 14;
+    }
+    if !is_running(k) {
+        return 15;
+    }
+    if !has(receivers, to) {
+        return 17;
+    }
+    if !agrees {
+        return 24;
+    }
+    0
+}
+
+pub fn timeout_question(m: Shared, k: Condition, id: u8) -> u8
+    ensures { λ r. ⌜ r ≡ number (firstNo (questionsOf (ownFacts m k) (Timeout id))) ⌝ }
+{
+    if !m.locked {
+        return 5;
+    }
+    if !is_controller(m.n, id) {
+        return 7;
+    }
+    if m.order < 1 {
+        return 14;
+    }
+    if !is_running(k) {
+        return 15;
+    }
+    if !awaits_timeout(k) {
+        return 16;
+    }
+    0
+}
+
+pub fn decide_question(m: Shared, k: Condition, id: u8, to_move: bool) -> u8
+    ensures { λ r. ⌜ r ≡ number (firstNo (questionsOf (ownFacts m k) (Decide id «to_move»))) ⌝ }
+{
+    if !m.locked {
+        return 5;
+    }
+    if !is_controller(m.n, id) {
+        return 7;
+    }
+    if m.order < 1 {
+        return 14;
+    }
+    if !is_present(k) {
+        return 15;
+    }
+    if !awaits_decision(k) {
+        return 16;
+    }
+    if !may_decide(m.consensus, to_move) {
+        return 18;
+    }
+    0
+}
+
+// Stop and save.
+pub fn present_question(m: Shared, k: Condition, id: u8) -> u8
+    ensures { λ r. ⌜ r ≡ number (firstNo (questionsOf (ownFacts m k) (Stop id))) ⌝ }
+{
+    if !m.locked {
+        return 5;
+    }
+    if !is_controller(m.n, id) {
+        return 7;
+    }
+    if m.order < 1 {
+        return 14;
+    }
+    if !is_present(k) {
+        return 15;
+    }
+    0
+}
+
+pub fn restore_question(m: Shared, k: Condition, saved: bool, id: u8) -> u8
+    ensures { λ r. ⌜ r ≡ number (firstNo (questionsOf (factsAt m k saved 0 true) (Restore id))) ⌝ }
+{
+    if !m.locked {
+        return 5;
+    }
+    if !is_controller(m.n, id) {
+        return 7;
+    }
+    if m.order < 1 {
+        return 14;
+    }
+    if !is_stopped(k) {
+        return 15;
+    }
+    if !saved {
+        return 19;
+    }
+    0
+}
+
+// The number of the first "no" to an event, or 0: of every event, lock and order included.
+pub fn question(facts: Facts, e: Event) -> u8
+    ensures { λ r. ⌜ r ≡ number (firstNo (questionsOf facts e)) ⌝ }
+{
+    let m = facts.shared;
+    let k = facts.condition;
+    match e {
+        Event::Lock { n, f } => lock_question(m, n, f),
+        Event::Order { number } => order_question(m, facts.may_open, number),
+        Event::Cast { id, target, .. } => cast_question(m, k, id, target),
+        Event::Deliver { from, to, kind } => {
+            deliver_question(m, k, facts.receivers, facts.agrees, from, to, kind)
+        }
+        Event::Timeout { id } => timeout_question(m, k, id),
+        Event::Decide { id, to_move } => decide_question(m, k, id, to_move),
+        Event::Stop { id } => present_question(m, k, id),
+        Event::Save { id } => present_question(m, k, id),
+        Event::Restore { id } => restore_question(m, k, facts.has_checkpoint, id),
+    }
+}

@@ -1,0 +1,50 @@
+use Rattle.ground.specs.Limit.{limit}
+use mathlib.Core.List.{[]}
+use Rattle.protocol.specs.Benches.{freshStation, fresh, unsentAll}
+use Rattle.bench_step.proofs.Defaults.{nth-within}
+use mathlib.Core.Path.{_≡_, sym, _∙_}
+use native.Mathlib.Omega.{arith}
+use lib.ListN.{length, length-map}
+use Rattle.ground.specs.Lists.{nth-at, nth-past, nth}
+use borrow.Author.Needs.{needs}
+use Rattle.bench_step.proofs.stations.station_at.Statement.{statement}
+use Rattle.bench_step.proofs.stations.station_at.Tie as tie
+
+fresh-station-requires : tie.Need-fresh-station-requires
+fresh-station-requires c κs = search needs
+
+returns : tie.Need-returns
+unfolding nth
+returns c = let z : c .before .before .args .i ≡ 0 = omega arith in c .fresh-station .ensures ∙ sym (rw z)
+
+fresh-station-requires-2 : tie.Need-fresh-station-requires-2
+fresh-station-requires-2 c κs = search needs
+
+returns-2 : tie.Need-returns-2
+returns-2 c = let l : length (c .before .before .before .args .t1 .stations) ≡ limit = simp length-map at (c .before .before .before .good .0 .1 .1 .1 .0 .1 .0 .1) in c .fresh-station2 .ensures ∙ sym (nth-past _ _ _ (omega arith))
+
+cast-at : tie.Need-cast-at
+cast-at c = search needs
+
+mul-result : tie.Need-mul-result
+mul-result c = search needs
+
+element-copy-out-result : tie.Need-element-copy-out-result
+element-copy-out-result c = search needs
+
+returns-3 : tie.Need-returns-3
+unfolding freshStation fresh unsentAll
+returns-3 c = let l : length (c .before .before .before .args .t1 .stations) ≡ limit = simp length-map at (c .before .before .before .good .0 .1 .1 .1 .0 .1 .0 .1) in sym (nth-within _ (freshStation []) _ _ (omega arith) (omega arith) ∙ nth-at (freshStation []) _ _ (omega arith))
+
+pub station-at-spec : {M : Type 1} → statement M
+station-at-spec =
+    tie.close
+    (tie.spec
+    fresh-station-requires
+    returns
+    fresh-station-requires-2
+    returns-2
+    cast-at
+    mul-result
+    element-copy-out-result
+    returns-3)
