@@ -97,7 +97,7 @@ module _ (m : Shared) (b w : List ℕ) (e : Event) (at o q : ℕ) (p : PlaceOf (
 
 -- the questions as the code asks them: of the condition in the row, and what else the kind looks at
 module _ (m : Shared) (b w : List ℕ) (at : ℕ) (s : Sent) (k : Condition) (e : k ≡ conditionIn (byteRows b at)) where
-  pub asks-cast : (i : ℕ) (v : Bool) (t : ℕ) → number (firstNo (questionsOf (ownFacts m k) (Cast i true t))) ≡ number (firstNo (questionsOf (factsOf m (Cast i v t) (stationIn b w at) s (mayOpen m) true) (Cast i v t)))
+  pub asks-cast : (i : ℕ) (v : Bool) (t : ℕ) → number (firstNo (questionsOf (ownFacts m k) (Cast i v t))) ≡ number (firstNo (questionsOf (factsOf m (Cast i v t) (stationIn b w at) s (mayOpen m) true) (Cast i v t)))
   unfolding stationFrom controllerFrom
   asks-cast i v t = rw e
 
@@ -113,7 +113,7 @@ module _ (m : Shared) (b w : List ℕ) (at : ℕ) (s : Sent) (k : Condition) (e 
   unfolding stationFrom controllerFrom
   asks-stop i = rw e
 
-  pub asks-save : (i : ℕ) → number (firstNo (questionsOf (ownFacts m k) (Stop i))) ≡ number (firstNo (questionsOf (factsOf m (Save i) (stationIn b w at) s (mayOpen m) true) (Save i)))
+  pub asks-save : (i : ℕ) → number (firstNo (questionsOf (ownFacts m k) (Save i))) ≡ number (firstNo (questionsOf (factsOf m (Save i) (stationIn b w at) s (mayOpen m) true) (Save i)))
   unfolding stationFrom controllerFrom
   asks-save i = rw e
 

@@ -18,8 +18,8 @@ use protocol::Condition;
 use protocol::Facts;
 use protocol::Shared;
 ghost use mathlib.Core.Path.{_≡_};
-ghost use mathlib.Core.Bool.{true, false};
-ghost use Rattle.model.specs.declared.Event.the-variants.{Lock, Order, Cast, Deliver, Timeout, Decide, Stop, Restore};
+ghost use mathlib.Core.Bool.{Bool, true, false};
+ghost use Rattle.model.specs.declared.Event.the-variants.{Lock, Order, Cast, Deliver, Timeout, Decide, Stop, Save, Restore};
 ghost use Rattle.protocol.specs.Questions.{number, firstNo, questionsOf};
 ghost use Rattle.bench_state.specs.Parts.{factsAt, ownFacts, openFacts};
 
@@ -54,7 +54,7 @@ pub fn order_question(m: Shared, may_open: bool, order: u32) -> u8
 }
 
 pub fn cast_question(m: Shared, k: Condition, id: u8, target: u32) -> u8
-    ensures { λ r. ⌜ r ≡ number (firstNo (questionsOf (ownFacts m k) (Cast id true target))) ⌝ }
+    ensures { λ r. ⌜ ((willing : Bool) → r ≡ number (firstNo (questionsOf (ownFacts m k) (Cast id willing target)))) ⌝ }
 {
     if !m.locked {
         return 5;
@@ -157,9 +157,10 @@ pub fn decide_question(m: Shared, k: Condition, id: u8, to_move: bool) -> u8
     0
 }
 
-// Stop and save.
+// Stop and save have the same questions.
 pub fn present_question(m: Shared, k: Condition, id: u8) -> u8
     ensures { λ r. ⌜ r ≡ number (firstNo (questionsOf (ownFacts m k) (Stop id))) ⌝ }
+    ensures { λ r. ⌜ r ≡ number (firstNo (questionsOf (ownFacts m k) (Save id))) ⌝ }
 {
     if !m.locked {
         return 5;

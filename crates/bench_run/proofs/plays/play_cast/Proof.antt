@@ -20,7 +20,7 @@ cast-question-requires c κs = search needs
 returns : tie.Need-returns
 unfolding stationFrom controllerFrom
 returns c =
-    refused _ _ _ _ _ _ _ (c .before .before .before .before .seat .ensures) (c .before .before .before .before .seat .ensures) (c .before .cast-question .ensures ∙ asks-cast (c .before .before .before .before .before .args .m) (now (c .before .before .before .before .before .args .b)) (now (c .before .before .before .before .before .args .w)) (c .before .before .before .before .seat .result) ((stationIn (now (c .before .before .before .before .before .args .b)) (now (c .before .before .before .before .before .args .w)) (c .before .before .before .before .seat .result)) .sent) _ (c .before .before .condition-at .ensures) (c .before .before .before .before .before .args .id) (c .before .before .before .before .before .args .willing) (c .before .before .before .before .before .args .target)) (c .if1 .taken)
+    refused _ _ _ _ _ _ _ (c .before .before .before .before .seat .ensures) (c .before .before .before .before .seat .ensures) (c .before .cast-question .ensures (c .before .before .before .before .before .args .willing) ∙ asks-cast (c .before .before .before .before .before .args .m) (now (c .before .before .before .before .before .args .b)) (now (c .before .before .before .before .before .args .w)) (c .before .before .before .before .seat .result) ((stationIn (now (c .before .before .before .before .before .args .b)) (now (c .before .before .before .before .before .args .w)) (c .before .before .before .before .seat .result)) .sent) _ (c .before .before .condition-at .ensures) (c .before .before .before .before .before .args .id) (c .before .before .before .before .before .args .willing) (c .before .before .before .before .before .args .target)) (c .if1 .taken)
 
 cast-requires : tie.Need-cast-requires
 cast-requires c κs = search needs
@@ -28,7 +28,7 @@ cast-requires c κs = search needs
 returns-2 : tie.Need-returns-2
 unfolding untestedEffect stationFrom controllerFrom
 returns-2 c =
-    accepted-as _ _ _ _ _ _ _ (c .before .before .before .before .before .before .before .seat .ensures) (c .before .before .before .before .before .before .before .seat .ensures) (c .before .before .before .before .cast-question .ensures ∙ asks-cast (c .before .before .before .before .before .before .before .before .args .m) (now (c .before .before .before .before .before .before .before .before .args .b)) (now (c .before .before .before .before .before .before .before .before .args .w)) (c .before .before .before .before .before .before .before .seat .result) ((stationIn (now (c .before .before .before .before .before .before .before .before .args .b)) (now (c .before .before .before .before .before .before .before .before .args .w)) (c .before .before .before .before .before .before .before .seat .result)) .sent) _ (c .before .before .before .before .before .condition-at .ensures) (c .before .before .before .before .before .before .before .before .args .id) (c .before .before .before .before .before .before .before .before .args .willing) (c .before .before .before .before .before .before .before .before .args .target)) (c .before .before .before .if1 .left) refl _ _ _ (λ y. c .cast .ensures)
+    accepted-as _ _ _ _ _ _ _ (c .before .before .before .before .before .before .before .seat .ensures) (c .before .before .before .before .before .before .before .seat .ensures) (c .before .before .before .before .cast-question .ensures (c .before .before .before .before .before .before .before .before .args .willing) ∙ asks-cast (c .before .before .before .before .before .before .before .before .args .m) (now (c .before .before .before .before .before .before .before .before .args .b)) (now (c .before .before .before .before .before .before .before .before .args .w)) (c .before .before .before .before .before .before .before .seat .result) ((stationIn (now (c .before .before .before .before .before .before .before .before .args .b)) (now (c .before .before .before .before .before .before .before .before .args .w)) (c .before .before .before .before .before .before .before .seat .result)) .sent) _ (c .before .before .before .before .before .condition-at .ensures) (c .before .before .before .before .before .before .before .before .args .id) (c .before .before .before .before .before .before .before .before .args .willing) (c .before .before .before .before .before .before .before .before .args .target)) (c .before .before .before .if1 .left) refl _ _ _ (λ y. c .cast .ensures)
 
 pub play-cast-spec : {M : Type 1} → statement M
 play-cast-spec =

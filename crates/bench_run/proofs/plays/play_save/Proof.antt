@@ -21,7 +21,7 @@ present-question-requires c κs = search needs
 returns : tie.Need-returns
 unfolding stationFrom controllerFrom
 returns c =
-    refused _ _ _ _ _ _ _ (c .before .before .before .before .seat .ensures) (c .before .before .before .before .seat .ensures) (c .before .present-question .ensures ∙ asks-save (c .before .before .before .before .before .args .m) (now (c .before .before .before .before .before .args .b)) (now (c .before .before .before .before .before .args .w)) (c .before .before .before .before .seat .result) ((stationIn (now (c .before .before .before .before .before .args .b)) (now (c .before .before .before .before .before .args .w)) (c .before .before .before .before .seat .result)) .sent) _ (c .before .before .condition-at .ensures) (c .before .before .before .before .before .args .id)) (c .if1 .taken)
+    refused _ _ _ _ _ _ _ (c .before .before .before .before .seat .ensures) (c .before .before .before .before .seat .ensures) (c .before .present-question .ensures .1 ∙ asks-save (c .before .before .before .before .before .args .m) (now (c .before .before .before .before .before .args .b)) (now (c .before .before .before .before .before .args .w)) (c .before .before .before .before .seat .result) ((stationIn (now (c .before .before .before .before .before .args .b)) (now (c .before .before .before .before .before .args .w)) (c .before .before .before .before .seat .result)) .sent) _ (c .before .before .condition-at .ensures) (c .before .before .before .before .before .args .id)) (c .if1 .taken)
 
 save-requires : tie.Need-save-requires
 save-requires c κs = search needs
@@ -29,7 +29,7 @@ save-requires c κs = search needs
 returns-2 : tie.Need-returns-2
 unfolding untestedEffect stationFrom controllerFrom
 returns-2 c =
-    accepted-as _ _ _ _ _ _ _ (c .before .before .before .before .before .before .before .seat .ensures) (c .before .before .before .before .before .before .before .seat .ensures) (c .before .before .before .before .present-question .ensures ∙ asks-save (c .before .before .before .before .before .before .before .before .args .m) (now (c .before .before .before .before .before .before .before .before .args .b)) (now (c .before .before .before .before .before .before .before .before .args .w)) (c .before .before .before .before .before .before .before .seat .result) ((stationIn (now (c .before .before .before .before .before .before .before .before .args .b)) (now (c .before .before .before .before .before .before .before .before .args .w)) (c .before .before .before .before .before .before .before .seat .result)) .sent) _ (c .before .before .before .before .before .condition-at .ensures) (c .before .before .before .before .before .before .before .before .args .id)) (c .before .before .before .if1 .left) refl _ _ _ (λ y. left _ _ _ _ _ _ _ _ (c .save .ensures (y .all .1 .1 .1 .0)) refl)
+    accepted-as _ _ _ _ _ _ _ (c .before .before .before .before .before .before .before .seat .ensures) (c .before .before .before .before .before .before .before .seat .ensures) (c .before .before .before .before .present-question .ensures .1 ∙ asks-save (c .before .before .before .before .before .before .before .before .args .m) (now (c .before .before .before .before .before .before .before .before .args .b)) (now (c .before .before .before .before .before .before .before .before .args .w)) (c .before .before .before .before .before .before .before .seat .result) ((stationIn (now (c .before .before .before .before .before .before .before .before .args .b)) (now (c .before .before .before .before .before .before .before .before .args .w)) (c .before .before .before .before .before .before .before .seat .result)) .sent) _ (c .before .before .before .before .before .condition-at .ensures) (c .before .before .before .before .before .before .before .before .args .id)) (c .before .before .before .if1 .left) refl _ _ _ (λ y. left _ _ _ _ _ _ _ _ (c .save .ensures (y .all .1 .1 .1 .0)) refl)
 
 pub play-save-spec : {M : Type 1} → statement M
 play-save-spec =

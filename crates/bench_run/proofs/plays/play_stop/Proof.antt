@@ -20,7 +20,7 @@ present-question-requires c κs = search needs
 returns : tie.Need-returns
 unfolding stationFrom controllerFrom
 returns c =
-    refused _ _ _ _ _ _ _ (c .before .before .before .before .seat .ensures) (c .before .before .before .before .seat .ensures) (c .before .present-question .ensures ∙ asks-stop (c .before .before .before .before .before .args .m) (now (c .before .before .before .before .before .args .b)) (now (c .before .before .before .before .before .args .w)) (c .before .before .before .before .seat .result) ((stationIn (now (c .before .before .before .before .before .args .b)) (now (c .before .before .before .before .before .args .w)) (c .before .before .before .before .seat .result)) .sent) _ (c .before .before .condition-at .ensures) (c .before .before .before .before .before .args .id)) (c .if1 .taken)
+    refused _ _ _ _ _ _ _ (c .before .before .before .before .seat .ensures) (c .before .before .before .before .seat .ensures) (c .before .present-question .ensures .0 ∙ asks-stop (c .before .before .before .before .before .args .m) (now (c .before .before .before .before .before .args .b)) (now (c .before .before .before .before .before .args .w)) (c .before .before .before .before .seat .result) ((stationIn (now (c .before .before .before .before .before .args .b)) (now (c .before .before .before .before .before .args .w)) (c .before .before .before .before .seat .result)) .sent) _ (c .before .before .condition-at .ensures) (c .before .before .before .before .before .args .id)) (c .if1 .taken)
 
 stop-requires : tie.Need-stop-requires
 stop-requires c κs = search needs
@@ -28,7 +28,7 @@ stop-requires c κs = search needs
 returns-2 : tie.Need-returns-2
 unfolding untestedEffect stationFrom controllerFrom
 returns-2 c =
-    accepted-as _ _ _ _ _ _ _ (c .before .before .before .before .before .before .before .seat .ensures) (c .before .before .before .before .before .before .before .seat .ensures) (c .before .before .before .before .present-question .ensures ∙ asks-stop (c .before .before .before .before .before .before .before .before .args .m) (now (c .before .before .before .before .before .before .before .before .args .b)) (now (c .before .before .before .before .before .before .before .before .args .w)) (c .before .before .before .before .before .before .before .seat .result) ((stationIn (now (c .before .before .before .before .before .before .before .before .args .b)) (now (c .before .before .before .before .before .before .before .before .args .w)) (c .before .before .before .before .before .before .before .seat .result)) .sent) _ (c .before .before .before .before .before .condition-at .ensures) (c .before .before .before .before .before .before .before .before .args .id)) (c .before .before .before .if1 .left) refl _ _ _ (λ y. c .stop .ensures (y .all .1 .1 .1 .0))
+    accepted-as _ _ _ _ _ _ _ (c .before .before .before .before .before .before .before .seat .ensures) (c .before .before .before .before .before .before .before .seat .ensures) (c .before .before .before .before .present-question .ensures .0 ∙ asks-stop (c .before .before .before .before .before .before .before .before .args .m) (now (c .before .before .before .before .before .before .before .before .args .b)) (now (c .before .before .before .before .before .before .before .before .args .w)) (c .before .before .before .before .before .before .before .seat .result) ((stationIn (now (c .before .before .before .before .before .before .before .before .args .b)) (now (c .before .before .before .before .before .before .before .before .args .w)) (c .before .before .before .before .before .before .before .seat .result)) .sent) _ (c .before .before .before .before .before .condition-at .ensures) (c .before .before .before .before .before .before .before .before .args .id)) (c .before .before .before .if1 .left) refl _ _ _ (λ y. c .stop .ensures (y .all .1 .1 .1 .0))
 
 pub play-stop-spec : {M : Type 1} → statement M
 play-stop-spec =

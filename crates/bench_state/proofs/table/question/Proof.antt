@@ -68,7 +68,7 @@ returns-2 c = simp (c .before .before .e2 .given .1, c .order-question .ensures)
 
 returns-3 : tie.Need-returns-3
 unfolding firstNo
-returns-3 c = simp (c .before .before .e3 .given .1, c .cast-question .ensures)
+returns-3 c = simp (c .before .before .e3 .given .1, c .cast-question .ensures (c .before .before .e3 .given .0 .1 .0))
 
 returns-4 : tie.Need-returns-4
 unfolding firstNo
@@ -84,11 +84,11 @@ returns-6 c = simp (c .before .before .e6 .given .1, c .decide-question .ensures
 
 returns-7 : tie.Need-returns-7
 unfolding firstNo
-returns-7 c = simp (c .before .before .e7 .given .1, c .present-question .ensures)
+returns-7 c = simp (c .before .before .e7 .given .1, c .present-question .ensures .0)
 
 returns-8 : tie.Need-returns-8
 unfolding firstNo
-returns-8 c = simp (c .before .before .e8 .given .1, c .present-question2 .ensures)
+returns-8 c = simp (c .before .before .e8 .given .1, c .present-question2 .ensures .1)
 
 returns-9 : tie.Need-returns-9
 unfolding firstNo
