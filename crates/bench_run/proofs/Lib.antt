@@ -1,17 +1,17 @@
 pub mod Records
-pub mod TableLaws
-pub mod ChangeLaws
-pub mod ReadBack
+mod TableLaws
+mod ChangeLaws
+mod ReadBack
 mod Filling
 mod Firsts
 mod Idle
-pub mod WaitingRows
-pub mod ArrivalRows
-pub mod OutcomeRows
-pub mod TimeoutRows
-pub mod LifecycleRows
-pub mod Untested
+mod WaitingRows
+mod ArrivalRows
+mod OutcomeRows
+mod TimeoutRows
+mod LifecycleRows
+mod Untested
 mod Asking
-pub mod Local
-pub mod PlayLaws
-pub mod NewTables
+mod Local
+mod PlayLaws
+mod NewTables

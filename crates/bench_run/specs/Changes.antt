@@ -5,6 +5,7 @@ use mathlib.Core.Path.{_≡_}
 use mathlib.Core.List.{List, map, _++_}
 use lib.Dec.{ltb}
 use lib.ListN.{length, set, take, drop}
+use Rattle.ground.specs.Limit.{limit}
 use Rattle.ground.specs.Lists.{nth}
 use Rattle.ground.specs.Mask.{has}
 use Rattle.ground.specs.Quantify.{allTo}
@@ -28,7 +29,7 @@ use Rattle.protocol.specs.Controllers.{phaseIn, outcomeIn, keepHelped, await, p
 use Rattle.protocol.specs.Rules.{becomes, proposeIfSufficient}
 use Rattle.protocol.specs.Benches.{unsent, afterSend}
 use Rattle.protocol.specs.Steps.{proposedTo, renewed}
-use Rattle.bench_run.specs.Columns.{tagColumn, phaseColumn, outcomeColumn, cntColumn, cntHelpColumn, waitingColumn, proposalColumn, votesColumn, acksFromColumn, helpedColumn, helpedFromColumn, helpVotesColumn, callersColumn, targetColumn, voteSentColumn, ackSentColumn, helpSentColumn, helpedSentColumn}
+use Rattle.bench_run.specs.Columns.{byteColumns, wordColumns, tagColumn, phaseColumn, outcomeColumn, cntColumn, cntHelpColumn, waitingColumn, proposalColumn, votesColumn, acksFromColumn, helpedColumn, helpedFromColumn, helpVotesColumn, callersColumn, targetColumn, voteSentColumn, ackSentColumn, helpSentColumn, helpedSentColumn}
 use Rattle.bench_run.specs.Tables.{rows, byteRows, wordRows, setsFrom, controllerFrom, stationFrom, stationsOf}
 
 -- the table in the list l is now in l′, with row r at place `at`; a list too short for that row has no such row to change
@@ -76,8 +77,8 @@ controllerIn b w at = controllerFrom (byteRows b at) (wordRows w at)
 
 -- lists of the tables' sizes
 pub record Sized (b w : List ℕ) : Type 0 where
-  pub bytes : length b ≡ 256
-  pub words : length w ≡ 1024
+  pub bytes : length b ≡ limit * byteColumns
+  pub words : length w ≡ limit * wordColumns
 
 -- the lists b and w are now b′ and w′: the station at one place is s, all others are as they were
 pub record Changed (b w b′ w′ : List ℕ) (at : ℕ) (s : Station) : Type 0 where

@@ -1,6 +1,13 @@
 -- What stands in which column of a row; src/columns.rt has the same names. A vote set takes two columns of words, a vote set and its receivers three.
 use Prim.Native.Nat.{ℕ}
 
+-- so many columns has a row
+abbrev pub byteColumns : ℕ
+byteColumns = 16
+
+abbrev pub wordColumns : ℕ
+wordColumns = 64
+
 -- a row of bytes: the condition, the counts of acknowledgements and help answers, whether it waits, the word put, the checkpoint
 abbrev pub tagColumn : ℕ
 tagColumn = 0

@@ -1,7 +1,7 @@
 -- A schedule: event records as bytes. Document 01, "The bench program": "The records follow one another with nothing between them."
 use Prim.Native.Nat.{ℕ, zero, suc, _+_, _-_, _*_, _/_}
 use mathlib.Core.List.{List, [], _∷_, _++_}
-use lib.ListN.{length, take, drop}
+use lib.ListN.{length}
 use Rattle.model.specs.declared.Event.{Event}
 unfoldable pub use Rattle.schedule_reader.specs.Pieces.{pieceAt}
 use Rattle.event_record.specs.Events.{eventLength, readEvent}

@@ -17,7 +17,7 @@ use Rattle.protocol.specs.declared.Saved.{Saved}
 use Rattle.protocol.specs.declared.Saved.the-variants.{Nothing, Newest}
 use Rattle.protocol.specs.declared.Controller.{Controller}
 use Rattle.protocol.specs.declared.Station.{Station}
-use Rattle.bench_run.specs.Columns.{tagColumn, phaseColumn, outcomeColumn, cntColumn, cntHelpColumn, waitingColumn, proposalColumn, savedColumn, savedIdColumn, savedNColumn, savedFColumn, savedOutcomeColumn, votesColumn, acksFromColumn, helpedColumn, helpedFromColumn, helpVotesColumn, callersColumn, targetColumn, positionColumn, voteSentColumn, ackSentColumn, helpSentColumn, helpedSentColumn, savedOrderColumn, savedPositionColumn, ackSetsColumn}
+use Rattle.bench_run.specs.Columns.{byteColumns, wordColumns, tagColumn, phaseColumn, outcomeColumn, cntColumn, cntHelpColumn, waitingColumn, proposalColumn, savedColumn, savedIdColumn, savedNColumn, savedFColumn, savedOutcomeColumn, votesColumn, acksFromColumn, helpedColumn, helpedFromColumn, helpVotesColumn, callersColumn, targetColumn, positionColumn, voteSentColumn, ackSentColumn, helpSentColumn, helpedSentColumn, savedOrderColumn, savedPositionColumn, ackSetsColumn}
 
 -- a list of n elements, each from its index
 unfoldable pub tabulate : {A : Type 0} → ℕ → (ℕ → A) → List A
@@ -29,10 +29,10 @@ unfoldable pub rows : ℕ → List ℕ → ℕ → ℕ → ℕ
 rows width l i c = cond (ltb c width) (getD l (i * width + c) 0) 0
 
 abbrev pub byteRows : List ℕ → ℕ → ℕ → ℕ
-byteRows = rows 16
+byteRows = rows byteColumns
 
 abbrev pub wordRows : List ℕ → ℕ → ℕ → ℕ
-wordRows = rows 64
+wordRows = rows wordColumns
 
 -- a condition, as three bytes
 abbrev pub conditionFrom : ℕ → ℕ → ℕ → Condition

@@ -130,10 +130,7 @@ fn keeps_acks(b: &[u8; BYTES], at: usize) -> bool
     requires { ⌜ at < limit ⌝ }
     ensures { λ r. ⌜ r ≡ (leb (phaseIn (conditionIn (byteRows (now (b .entry)) at))) 2 || flagOf (byteRows (now (b .entry)) at waitingColumn)) ⌝ }
 {
-    if phase_in(condition_at(b, at)) <= 2 {
-        return true;
-    }
-    byte(b, at, WAITING) == 1
+    controller_state::keeps_acks(condition_at(b, at), byte(b, at, WAITING) == 1)
 }
 
 // An acknowledgement: kept, one per sender.

@@ -1,5 +1,10 @@
 // What stands in which column of a row; specs/Columns.antt has the same names. A vote set takes two columns of words, a vote set and its receivers three.
 
+// So many columns has a row.
+pub(crate) const BYTE_COLUMNS: usize = 16;
+
+pub(crate) const WORD_COLUMNS: usize = 64;
+
 // A row of bytes: the condition, the counts of acknowledgements and help answers, whether it waits, the word put, the checkpoint.
 pub(crate) const TAG: usize = 0;
 

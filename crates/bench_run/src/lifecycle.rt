@@ -35,9 +35,9 @@ use crate::tables::put_byte;
 use crate::tables::put_word;
 use crate::tables::word;
 use bench_state::decided_as;
-use controller_state::in_phase;
-use controller_state::is_stopped;
 use controller_state::outcome_in;
+use controller_state::outcome_kept;
+use controller_state::renewed_condition;
 use ground::up_to_limit;
 use model::Outcome;
 use model::outcome_number;
@@ -56,13 +56,13 @@ ghost use Rattle.ground.specs.Update.{upd};
 ghost use Rattle.records.specs.Codes.{outcomeOf};
 ghost use Rattle.model.specs.declared.Outcome.the-variants.{None};
 ghost use Rattle.protocol.specs.declared.Condition.the-variants.{Stopped};
-ghost use Rattle.protocol.specs.Controllers.{isPresent, isStopped, inPhase, cleared};
+ghost use Rattle.protocol.specs.Controllers.{isPresent, isStopped, cleared};
 ghost use Rattle.protocol.specs.Calls.{awaitsDecision, decide, stop, save};
 ghost use Rattle.protocol.specs.Benches.{identity};
 ghost use Rattle.protocol.specs.Events.{restoreFrom};
 ghost use Rattle.protocol.specs.Questions.{isSaved};
 ghost use Rattle.protocol.specs.Steps.{decidedAs, answering, keeping, renewed};
-ghost use Rattle.bench_run.specs.Columns.{savedOrderColumn, savedOutcomeColumn, savedColumn, savedIdColumn, savedNColumn, savedFColumn};
+ghost use Rattle.bench_run.specs.Columns.{byteColumns, wordColumns, savedOrderColumn, savedOutcomeColumn, savedColumn, savedIdColumn, savedNColumn, savedFColumn};
 ghost use Rattle.bench_run.specs.Tables.{byteRows, wordRows, conditionIn};
 ghost use Rattle.bench_run.specs.Changes.{At, clearedBytes, clearedVotes, clearedWords, unsentWords, stationIn, controllerIn, withController, Changed, Left, RenewedUpTo};
 
@@ -84,7 +84,7 @@ pub(crate) fn decide(
 
 fn clear_bytes(b: &mut [u8; BYTES], at: usize, k: Condition)
     requires { ⌜ at < limit ⌝ }
-    ensures { λ _. ⌜ At 16 (now (b .entry)) (now (b .exit)) at (clearedBytes k (byteRows (now (b .entry)) at)) ⌝ }
+    ensures { λ _. ⌜ At byteColumns (now (b .entry)) (now (b .exit)) at (clearedBytes k (byteRows (now (b .entry)) at)) ⌝ }
 {
     put_condition(&mut *b, at, k);
     put_byte(&mut *b, at, CNT, 0);
@@ -95,7 +95,7 @@ fn clear_bytes(b: &mut [u8; BYTES], at: usize, k: Condition)
 
 fn clear_votes(w: &mut [u32; WORDS], at: usize)
     requires { ⌜ at < limit ⌝ }
-    ensures { λ _. ⌜ At 64 (now (w .entry)) (now (w .exit)) at (clearedVotes (wordRows (now (w .entry)) at)) ⌝ }
+    ensures { λ _. ⌜ At wordColumns (now (w .entry)) (now (w .exit)) at (clearedVotes (wordRows (now (w .entry)) at)) ⌝ }
 {
     put_set(&mut *w, at, VOTES, empty_set());
     put_word(&mut *w, at, ACKS_FROM, 0);
@@ -105,7 +105,7 @@ fn clear_votes(w: &mut [u32; WORDS], at: usize)
 
 fn clear_words(w: &mut [u32; WORDS], at: usize)
     requires { ⌜ at < limit ⌝ }
-    ensures { λ _. ⌜ At 64 (now (w .entry)) (now (w .exit)) at (clearedWords (wordRows (now (w .entry)) at)) ⌝ }
+    ensures { λ _. ⌜ At wordColumns (now (w .entry)) (now (w .exit)) at (clearedWords (wordRows (now (w .entry)) at)) ⌝ }
 {
     clear_votes(&mut *w, at);
     put_set(&mut *w, at, HELP_VOTES, empty_set());
@@ -137,10 +137,11 @@ fn outcome_saved(b: &[u8; BYTES], w: &[u32; WORDS], at: usize, order: u32) -> Ou
     requires { ⌜ at < limit ⌝ }
     ensures { λ r. ⌜ r ≡ cond (eqb ((wordRows (now (w .entry)) at) savedOrderColumn) order) (outcomeOf ((byteRows (now (b .entry)) at) savedOutcomeColumn)) None ⌝ }
 {
-    if word(w, at, SAVED_ORDER) == order {
-        return outcome_of(byte(b, at, SAVED_OUTCOME));
-    }
-    Outcome::None
+    outcome_kept(
+        word(w, at, SAVED_ORDER),
+        outcome_of(byte(b, at, SAVED_OUTCOME)),
+        order,
+    )
 }
 
 // A stopped controller stands by. The gate stays where it is.
@@ -162,7 +163,7 @@ pub(crate) fn restore(
 
 fn put_owner(b: &mut [u8; BYTES], at: usize, id: u8, n: u8, f: u8)
     requires { ⌜ at < limit ⌝ }
-    ensures { λ _. ⌜ At 16 (now (b .entry)) (now (b .exit)) at (upd (upd (upd (upd (byteRows (now (b .entry)) at) savedColumn 1) savedIdColumn id) savedNColumn n) savedFColumn f) ⌝ }
+    ensures { λ _. ⌜ At byteColumns (now (b .entry)) (now (b .exit)) at (upd (upd (upd (upd (byteRows (now (b .entry)) at) savedColumn 1) savedIdColumn id) savedNColumn n) savedFColumn f) ⌝ }
 {
     put_byte(&mut *b, at, SAVED, 1);
     put_byte(&mut *b, at, SAVED_ID, id);
@@ -183,20 +184,10 @@ pub(crate) fn save(b: &mut [u8; BYTES], w: &mut [u32; WORDS], m: Shared, at: usi
     put_word(&mut *w, at, SAVED_POSITION, position);
 }
 
-// A new order: all but the stopped begin at stage 0.
-fn renewed_condition(k: Condition) -> Condition
-    ensures { λ r. ⌜ r ≡ cond (isStopped k) Stopped (inPhase 0 None) ⌝ }
-{
-    if is_stopped(k) {
-        return Condition::Stopped;
-    }
-    in_phase(0, Outcome::None)
-}
-
 // Nothing sent yet, of any kind.
 fn unsend(w: &mut [u32; WORDS], at: usize)
     requires { ⌜ at < limit ⌝ }
-    ensures { λ _. ⌜ At 64 (now (w .entry)) (now (w .exit)) at (unsentWords (wordRows (now (w .entry)) at)) ⌝ }
+    ensures { λ _. ⌜ At wordColumns (now (w .entry)) (now (w .exit)) at (unsentWords (wordRows (now (w .entry)) at)) ⌝ }
 {
     let unsent = Outgoing {
         to: 0,

@@ -24,6 +24,7 @@ use crate::tables::byte;
 use crate::tables::word;
 use crate::timeouts::cast;
 use crate::timeouts::timeout;
+use bench_state::all_undecided;
 use bench_state::cast_question;
 use bench_state::decide_question;
 use bench_state::deliver_question;
@@ -37,7 +38,6 @@ use bench_state::timeout_question;
 use ground::LIMIT;
 use model::Event;
 use model::Kind;
-use protocol::Counts;
 use protocol::Shared;
 ghost use mathlib.Core.Path.{_≡_};
 ghost use Prim.Native.Nat.{_-_, _≤_, _<_};
@@ -66,10 +66,7 @@ fn play_lock(b: &[u8; BYTES], w: &[u32; WORDS], m: Shared, n: u8, f: u8) -> Play
     if answer != 0 {
         return Played { answer, shared: m };
     }
-    let counts = Counts {
-        undecided: n,
-        present: n,
-    };
+    let counts = all_undecided(n);
     let shared = Shared {
         locked: true,
         n,
@@ -111,7 +108,7 @@ fn play_cast(
     Played { answer, shared }
 }
 
-fn play_vote(b: &[u8; BYTES], w: &mut [u32; WORDS], m: Shared, from: u8, to: u8) -> Played
+fn deliver_vote(b: &[u8; BYTES], w: &mut [u32; WORDS], m: Shared, from: u8, to: u8) -> Played
     ensures { λ r. ⌜ Steps m (now (b .entry)) (now (w .entry)) (Deliver from to Vote) r (now (b .entry)) (now (w .exit)) ⌝ }
 {
     let at = seat(to);
@@ -133,7 +130,7 @@ fn play_vote(b: &[u8; BYTES], w: &mut [u32; WORDS], m: Shared, from: u8, to: u8)
     Played { answer, shared: m }
 }
 
-fn play_ack(b: &mut [u8; BYTES], w: &mut [u32; WORDS], m: Shared, from: u8, to: u8) -> Played
+fn deliver_ack(b: &mut [u8; BYTES], w: &mut [u32; WORDS], m: Shared, from: u8, to: u8) -> Played
     ensures { λ r. ⌜ Steps m (now (b .entry)) (now (w .entry)) (Deliver from to Ack) r (now (b .exit)) (now (w .exit)) ⌝ }
 {
     let at = seat(to);
@@ -155,7 +152,7 @@ fn play_ack(b: &mut [u8; BYTES], w: &mut [u32; WORDS], m: Shared, from: u8, to: 
     Played { answer, shared }
 }
 
-fn play_help(b: &[u8; BYTES], w: &mut [u32; WORDS], m: Shared, from: u8, to: u8) -> Played
+fn deliver_help(b: &[u8; BYTES], w: &mut [u32; WORDS], m: Shared, from: u8, to: u8) -> Played
     ensures { λ r. ⌜ Steps m (now (b .entry)) (now (w .entry)) (Deliver from to Help) r (now (b .entry)) (now (w .exit)) ⌝ }
 {
     let at = seat(to);
@@ -176,7 +173,7 @@ fn play_help(b: &[u8; BYTES], w: &mut [u32; WORDS], m: Shared, from: u8, to: u8)
     Played { answer, shared: m }
 }
 
-fn play_helped(b: &mut [u8; BYTES], w: &mut [u32; WORDS], m: Shared, from: u8, to: u8) -> Played
+fn deliver_helped(b: &mut [u8; BYTES], w: &mut [u32; WORDS], m: Shared, from: u8, to: u8) -> Played
     ensures { λ r. ⌜ Steps m (now (b .entry)) (now (w .entry)) (Deliver from to Helped) r (now (b .exit)) (now (w .exit)) ⌝ }
 {
     let at = seat(to);
@@ -198,7 +195,7 @@ fn play_helped(b: &mut [u8; BYTES], w: &mut [u32; WORDS], m: Shared, from: u8, t
     Played { answer, shared }
 }
 
-fn play_delivery(
+fn deliver(
     b: &mut [u8; BYTES],
     w: &mut [u32; WORDS],
     m: Shared,
@@ -209,10 +206,10 @@ fn play_delivery(
     ensures { λ r. ⌜ Steps m (now (b .entry)) (now (w .entry)) (Deliver from to kind) r (now (b .exit)) (now (w .exit)) ⌝ }
 {
     match kind {
-        Kind::Vote => play_vote(b, &mut *w, m, from, to),
-        Kind::Ack => play_ack(&mut *b, &mut *w, m, from, to),
-        Kind::Help => play_help(b, &mut *w, m, from, to),
-        Kind::Helped => play_helped(&mut *b, &mut *w, m, from, to),
+        Kind::Vote => deliver_vote(b, &mut *w, m, from, to),
+        Kind::Ack => deliver_ack(&mut *b, &mut *w, m, from, to),
+        Kind::Help => deliver_help(b, &mut *w, m, from, to),
+        Kind::Helped => deliver_helped(&mut *b, &mut *w, m, from, to),
     }
 }
 
@@ -294,7 +291,7 @@ pub(crate) fn play(b: &mut [u8; BYTES], w: &mut [u32; WORDS], m: Shared, e: Even
             willing,
             target,
         } => play_cast(&mut *b, &mut *w, m, id, willing, target),
-        Event::Deliver { from, to, kind } => play_delivery(&mut *b, &mut *w, m, from, to, kind),
+        Event::Deliver { from, to, kind } => deliver(&mut *b, &mut *w, m, from, to, kind),
         Event::Timeout { id } => play_timeout(&mut *b, &mut *w, m, id),
         Event::Decide { id, to_move } => play_decide(&mut *b, &mut *w, m, id, to_move),
         Event::Stop { id } => play_stop(&mut *b, &mut *w, m, id),

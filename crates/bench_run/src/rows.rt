@@ -21,6 +21,7 @@ ghost use Prim.Native.Nat.{_+_, _<_};
 ghost use Rattle.ground.specs.Limit.{limit};
 ghost use Rattle.protocol.specs.Benches.{afterSend};
 ghost use Rattle.protocol.specs.declared.Send.the-variants.{To};
+ghost use Rattle.bench_run.specs.Columns.{byteColumns, wordColumns};
 ghost use Rattle.bench_run.specs.Tables.{byteRows, wordRows, conditionFrom, conditionIn, setFrom, outgoingFrom};
 ghost use Rattle.bench_run.specs.Changes.{At, tagOf, conditionTo, setTo, outgoingTo};
 
@@ -56,7 +57,7 @@ fn tag_of(k: Condition) -> u8
 
 pub(crate) fn put_condition(b: &mut [u8; BYTES], at: usize, k: Condition)
     requires { ⌜ at < limit ⌝ }
-    ensures { λ _. ⌜ At 16 (now (b .entry)) (now (b .exit)) at (conditionTo k (byteRows (now (b .entry)) at)) ⌝ }
+    ensures { λ _. ⌜ At byteColumns (now (b .entry)) (now (b .exit)) at (conditionTo k (byteRows (now (b .entry)) at)) ⌝ }
 {
     put_byte(&mut *b, at, TAG, tag_of(k));
     put_byte(&mut *b, at, PHASE, phase_in(k));
@@ -64,7 +65,7 @@ pub(crate) fn put_condition(b: &mut [u8; BYTES], at: usize, k: Condition)
 }
 
 pub(crate) fn set_at(w: &[u32; WORDS], at: usize, c: usize) -> VoteSet
-    requires { ⌜ (at < limit) × (c + 1 < 64) ⌝ }
+    requires { ⌜ (at < limit) × (c + 1 < wordColumns) ⌝ }
     ensures { λ r. ⌜ r ≡ setFrom (wordRows (now (w .entry)) at) c ⌝ }
 {
     VoteSet {
@@ -74,15 +75,15 @@ pub(crate) fn set_at(w: &[u32; WORDS], at: usize, c: usize) -> VoteSet
 }
 
 pub(crate) fn put_set(w: &mut [u32; WORDS], at: usize, c: usize, s: VoteSet)
-    requires { ⌜ (at < limit) × (c + 1 < 64) ⌝ }
-    ensures { λ _. ⌜ At 64 (now (w .entry)) (now (w .exit)) at (setTo c s (wordRows (now (w .entry)) at)) ⌝ }
+    requires { ⌜ (at < limit) × (c + 1 < wordColumns) ⌝ }
+    ensures { λ _. ⌜ At wordColumns (now (w .entry)) (now (w .exit)) at (setTo c s (wordRows (now (w .entry)) at)) ⌝ }
 {
     put_word(&mut *w, at, c, s.known);
     put_word(&mut *w, at, c + 1, s.willing);
 }
 
 pub(crate) fn outgoing_at(w: &[u32; WORDS], at: usize, c: usize) -> Outgoing
-    requires { ⌜ (at < limit) × (c + 2 < 64) ⌝ }
+    requires { ⌜ (at < limit) × (c + 2 < wordColumns) ⌝ }
     ensures { λ r. ⌜ r ≡ outgoingFrom (wordRows (now (w .entry)) at) c ⌝ }
 {
     Outgoing {
@@ -92,8 +93,8 @@ pub(crate) fn outgoing_at(w: &[u32; WORDS], at: usize, c: usize) -> Outgoing
 }
 
 pub(crate) fn put_outgoing(w: &mut [u32; WORDS], at: usize, c: usize, o: Outgoing)
-    requires { ⌜ (at < limit) × (c + 2 < 64) ⌝ }
-    ensures { λ _. ⌜ At 64 (now (w .entry)) (now (w .exit)) at (outgoingTo c o (wordRows (now (w .entry)) at)) ⌝ }
+    requires { ⌜ (at < limit) × (c + 2 < wordColumns) ⌝ }
+    ensures { λ _. ⌜ At wordColumns (now (w .entry)) (now (w .exit)) at (outgoingTo c o (wordRows (now (w .entry)) at)) ⌝ }
 {
     let votes = o.votes;
     put_word(&mut *w, at, c, o.to);
@@ -102,8 +103,8 @@ pub(crate) fn put_outgoing(w: &mut [u32; WORDS], at: usize, c: usize, o: Outgoin
 
 // More is sent of one kind, whose columns start at c.
 pub(crate) fn send(w: &mut [u32; WORDS], at: usize, c: usize, to: u32, votes: VoteSet)
-    requires { ⌜ (at < limit) × (c + 2 < 64) ⌝ }
-    ensures { λ _. ⌜ At 64 (now (w .entry)) (now (w .exit)) at (outgoingTo c (afterSend (outgoingFrom (wordRows (now (w .entry)) at) c) (To to votes)) (wordRows (now (w .entry)) at)) ⌝ }
+    requires { ⌜ (at < limit) × (c + 2 < wordColumns) ⌝ }
+    ensures { λ _. ⌜ At wordColumns (now (w .entry)) (now (w .exit)) at (outgoingTo c (afterSend (outgoingFrom (wordRows (now (w .entry)) at) c) (To to votes)) (wordRows (now (w .entry)) at)) ⌝ }
 {
     let old = word(w, at, c);
     let o = Outgoing {

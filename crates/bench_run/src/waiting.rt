@@ -18,6 +18,8 @@ use ground::up_to_limit;
 use model::Outcome;
 use model::outcome_number;
 use model::word_of;
+use protocol::Cnt;
+use protocol::CntHelp;
 use protocol::Shared;
 use votes::Joined;
 use votes::empty_set;
@@ -31,7 +33,7 @@ ghost use Rattle.ground.specs.Update.{upd};
 ghost use Rattle.model.specs.Numbers.{outcomeNumber};
 ghost use Rattle.votes.specs.Joining.{joinAll, unanimousIn};
 ghost use Rattle.protocol.specs.Rules.{verdict, answersJoin};
-ghost use Rattle.bench_run.specs.Columns.{acksFromColumn, cntColumn, cntHelpColumn, waitingColumn, proposalColumn};
+ghost use Rattle.bench_run.specs.Columns.{byteColumns, acksFromColumn, cntColumn, cntHelpColumn, waitingColumn, proposalColumn};
 ghost use Rattle.bench_run.specs.Tables.{byteRows, wordRows, setsFrom};
 ghost use Rattle.bench_run.specs.Changes.{At, stationIn, controllerIn, settled, Left};
 
@@ -85,14 +87,13 @@ fn counts_suffice(b: &[u8; BYTES], at: usize, n: u8, f: u8) -> bool
     requires { ⌜ at < limit ⌝ }
     ensures { λ r. ⌜ r ≡ leb n (byteRows (now (b .entry)) at cntColumn + byteRows (now (b .entry)) at cntHelpColumn + f) ⌝ }
 {
-    let counted = (byte(b, at, CNT) as u32) + (byte(b, at, CNT_HELP) as u32) + (f as u32);
-    (n as u32) <= counted
+    controller_state::counts_suffice(n, f, Cnt(byte(b, at, CNT)), CntHelp(byte(b, at, CNT_HELP)))
 }
 
 // It has put a word, and waits no more.
 pub(crate) fn put_proposal(b: &mut [u8; BYTES], at: usize, o: Outcome)
     requires { ⌜ at < limit ⌝ }
-    ensures { λ _. ⌜ At 16 (now (b .entry)) (now (b .exit)) at (upd (upd (byteRows (now (b .entry)) at) waitingColumn 0) proposalColumn (outcomeNumber o)) ⌝ }
+    ensures { λ _. ⌜ At byteColumns (now (b .entry)) (now (b .exit)) at (upd (upd (byteRows (now (b .entry)) at) waitingColumn 0) proposalColumn (outcomeNumber o)) ⌝ }
 {
     put_byte(&mut *b, at, WAITING, 0);
     put_byte(&mut *b, at, PROPOSAL, outcome_number(o));

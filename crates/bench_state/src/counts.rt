@@ -1,6 +1,6 @@
 // The count of gates still open, after one controller has changed.
-use crate::tests::is_present;
 use controller_state::bump;
+use controller_state::is_present;
 use controller_state::is_running;
 use controller_state::lower;
 use controller_state::outcome_in;

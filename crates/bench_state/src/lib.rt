@@ -1,17 +1,12 @@
 // A bench's parts as they begin, what is shared and what an event leaves of it, and the questions that the bench puts to an event, from what they look at.
 mod counts;
-mod events;
 mod parts;
 mod shared;
 mod table;
 mod tests;
 
 pub use counts::counts_after;
-pub use events::concerns_one;
-pub use events::facts_of;
-pub use events::of_kind;
-pub use events::source;
-pub use events::subject;
+pub use parts::all_undecided;
 pub use parts::bench_of;
 pub use parts::fresh_station;
 pub use parts::new_bench;
@@ -27,7 +22,5 @@ pub use table::deliver_question;
 pub use table::lock_question;
 pub use table::order_question;
 pub use table::present_question;
-pub use table::question;
 pub use table::restore_question;
 pub use table::timeout_question;
-pub use tests::is_present;

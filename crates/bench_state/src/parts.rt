@@ -55,7 +55,7 @@ pub(crate) fn no_consensus() -> Consensus
 }
 
 // As many undecided as present.
-pub(crate) fn all_undecided(present: u8) -> Counts
+pub fn all_undecided(present: u8) -> Counts
     ensures { λ r. ⌜ r ≡ allUndecided present ⌝ }
 {
     Counts {

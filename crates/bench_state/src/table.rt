@@ -1,13 +1,12 @@
 // The questions of each event, in document 01's sequence. Each function answers the number of the first "no", or 0, and asks nothing after it.
 use crate::tests::awaits_decision;
 use crate::tests::awaits_timeout;
-use crate::tests::is_present;
 use crate::tests::may_decide;
+use controller_state::is_present;
 use controller_state::is_running;
 use controller_state::is_stopped;
 use controller_state::phase_in;
 use ground::has;
-use model::Event;
 use model::Kind;
 use model::different_controllers;
 use model::is_controller;
@@ -15,7 +14,6 @@ use model::position_in_range;
 use model::route;
 use model::sizes_in_range;
 use protocol::Condition;
-use protocol::Facts;
 use protocol::Shared;
 ghost use mathlib.Core.Path.{_≡_};
 ghost use mathlib.Core.Bool.{Bool, true, false};
@@ -196,25 +194,4 @@ pub fn restore_question(m: Shared, k: Condition, saved: bool, id: u8) -> u8
         return 19;
     }
     0
-}
-
-// The number of the first "no" to an event, or 0: of every event, lock and order included.
-pub fn question(facts: Facts, e: Event) -> u8
-    ensures { λ r. ⌜ r ≡ number (firstNo (questionsOf facts e)) ⌝ }
-{
-    let m = facts.shared;
-    let k = facts.condition;
-    match e {
-        Event::Lock { n, f } => lock_question(m, n, f),
-        Event::Order { number } => order_question(m, facts.may_open, number),
-        Event::Cast { id, target, .. } => cast_question(m, k, id, target),
-        Event::Deliver { from, to, kind } => {
-            deliver_question(m, k, facts.receivers, facts.agrees, from, to, kind)
-        }
-        Event::Timeout { id } => timeout_question(m, k, id),
-        Event::Decide { id, to_move } => decide_question(m, k, id, to_move),
-        Event::Stop { id } => present_question(m, k, id),
-        Event::Save { id } => present_question(m, k, id),
-        Event::Restore { id } => restore_question(m, k, facts.has_checkpoint, id),
-    }
 }

@@ -7,19 +7,8 @@ use protocol::Consensus;
 ghost use mathlib.Core.Path.{_≡_};
 ghost use mathlib.Core.Bool.{_&&_, _||_};
 ghost use lib.Dec.{eqb};
-ghost use Rattle.protocol.specs.Controllers.{isStandby, isPresent, phaseIn};
+ghost use Rattle.protocol.specs.Controllers.{isStandby, phaseIn};
 ghost use Rattle.protocol.specs.Questions.{wasProposed, noOther};
-
-// 15: running or standing by.
-pub fn is_present(k: Condition) -> bool
-    ensures { λ r. ⌜ r ≡ isPresent k ⌝ }
-{
-    match k {
-        Condition::Running(_) => true,
-        Condition::Stopped => false,
-        Condition::Standby(_) => true,
-    }
-}
 
 // 16, of a timeout.
 pub(crate) fn awaits_timeout(k: Condition) -> bool

@@ -1,5 +1,5 @@
 // A controller as it is called, the message that is handed to it, and the checkpoint from which it is restored.
-use bench_state::of_kind;
+use crate::events::of_kind;
 use controller::restore;
 use controller_state::passed_over;
 use model::Kind;

@@ -2,8 +2,10 @@
 // is then put back (`plays`).
 mod calls;
 mod effects;
+mod events;
 mod orders;
 mod plays;
+mod questions;
 mod sends;
 mod stations;
 mod whole;

@@ -1,9 +1,9 @@
-// The one function that plays an event of one controller.
+// An event of one controller, played on its station by value.
 use crate::effects::answer_to;
 use crate::effects::effect_of;
-use bench_state::concerns_one;
-use bench_state::facts_of;
-use bench_state::question;
+use crate::events::concerns_one;
+use crate::events::facts_of;
+use crate::questions::question;
 use controller_state::is_contradicted;
 use model::Event;
 use protocol::Sent;

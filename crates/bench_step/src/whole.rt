@@ -1,16 +1,16 @@
 // One event on the whole bench.
 use crate::Stepped;
+use crate::events::concerns_one;
+use crate::events::facts_of;
+use crate::events::source;
+use crate::events::subject;
 use crate::orders::opened;
 use crate::plays::play;
+use crate::questions::question;
 use crate::stations::station_at;
 use bench_state::bench_of;
-use bench_state::concerns_one;
-use bench_state::facts_of;
 use bench_state::fresh_station;
 use bench_state::may_open;
-use bench_state::question;
-use bench_state::source;
-use bench_state::subject;
 use bench_state::unsent_all;
 use ground::LIMIT;
 use model::Event;

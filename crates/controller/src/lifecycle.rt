@@ -2,15 +2,16 @@
 use controller_state::becomes;
 use controller_state::cleared;
 use controller_state::conclude;
-use controller_state::in_phase;
+use controller_state::is_present;
 use controller_state::is_running;
 use controller_state::is_standby;
 use controller_state::is_stopped;
 use controller_state::outcome_in;
+use controller_state::outcome_kept;
 use controller_state::passed_over;
 use controller_state::phase_in;
+use controller_state::renewed_condition;
 use model::Checkpoint;
-use model::Outcome;
 use model::word_of;
 use protocol::Answer;
 use protocol::Condition;
@@ -18,10 +19,6 @@ use protocol::Controller;
 use protocol::Identity;
 use protocol::Saved;
 ghost use mathlib.Core.Path.{_≡_};
-ghost use mathlib.Core.Bool.{cond, _||_};
-ghost use lib.Dec.{eqb};
-ghost use Rattle.model.specs.declared.Outcome.the-variants.{None};
-ghost use Rattle.protocol.specs.Controllers.{runs, standsBy};
 ghost use Rattle.protocol.specs.Calls.{awaitsDecision, decide, stop, checkpointOf, SaveOf, restore, renew};
 
 // It stands by, or runs at stage 3.
@@ -48,22 +45,12 @@ pub fn decide(to_move: bool, c: Controller) -> Answer
     passed_over(c)
 }
 
-// Running or standing by.
-fn is_up(c: Controller) -> bool
-    ensures { λ r. ⌜ r ≡ (runs c || standsBy c) ⌝ }
-{
-    let now = c.condition;
-    if is_running(now) {
-        return true;
-    }
-    is_standby(now)
-}
-
 // It ends everything but the position of its gate.
 pub fn stop(c: Controller) -> Answer
     ensures { λ r. ⌜ r ≡ stop c ⌝ }
 {
-    if is_up(c) {
+    let now = c.condition;
+    if is_present(now) {
         return becomes(cleared(Condition::Stopped, c));
     }
     passed_over(c)
@@ -88,20 +75,11 @@ fn checkpoint_of(me: Identity, c: Controller) -> Checkpoint
 pub fn save(me: Identity, c: Controller) -> Saved
     ensures { λ r. ⌜ SaveOf me c r ⌝ }
 {
-    if is_up(c) {
+    let now = c.condition;
+    if is_present(now) {
         return Saved::Newest(checkpoint_of(me, c));
     }
     Saved::Nothing
-}
-
-// The checkpoint's outcome if it is of this order, else none.
-fn outcome_saved(me: Identity, saved: Checkpoint) -> Outcome
-    ensures { λ r. ⌜ r ≡ cond (eqb (saved .order) (me .order)) (saved .outcome) None ⌝ }
-{
-    if saved.order == me.order {
-        return saved.outcome;
-    }
-    Outcome::None
 }
 
 // A stopped controller stands by. The gate stays where it is.
@@ -110,7 +88,8 @@ pub fn restore(me: Identity, saved: Checkpoint, c: Controller) -> Answer
 {
     let now = c.condition;
     if is_stopped(now) {
-        let outcome = outcome_saved(me, saved);
+        let held = saved.outcome;
+        let outcome = outcome_kept(saved.order, held, me.order);
         let next = cleared(Condition::Standby(outcome), c);
         return becomes(next);
     }
@@ -122,8 +101,5 @@ pub fn renew(c: Controller) -> Controller
     ensures { λ r. ⌜ r ≡ renew c ⌝ }
 {
     let now = c.condition;
-    if is_stopped(now) {
-        return cleared(Condition::Stopped, c);
-    }
-    cleared(in_phase(0, Outcome::None), c)
+    cleared(renewed_condition(now), c)
 }

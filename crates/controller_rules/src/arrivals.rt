@@ -5,6 +5,7 @@ use controller_state::becomes;
 use controller_state::helps;
 use controller_state::keep_ack;
 use controller_state::keep_helped;
+use controller_state::keeps_acks;
 use controller_state::learn;
 use controller_state::passed_over;
 use controller_state::phase_in;
@@ -17,9 +18,6 @@ use protocol::Controller;
 use protocol::Send;
 use votes::VoteSet;
 ghost use mathlib.Core.Path.{_≡_};
-ghost use mathlib.Core.Bool.{_||_};
-ghost use lib.Dec.{leb};
-ghost use Rattle.protocol.specs.Controllers.{phase};
 ghost use Rattle.protocol.specs.Rules.{voteArrives, ackArrives, helpedArrives, keepsCall, answersCall, helpArrives};
 ghost use Rattle.protocol.specs.Calls.{arrives};
 
@@ -34,17 +32,6 @@ fn vote_arrives(s: VoteSet, c: Controller) -> Answer
     passed_over(c)
 }
 
-// Acknowledgements are kept until a word is put or an outcome is there.
-fn keeps_acks(c: Controller) -> bool
-    ensures { λ r. ⌜ r ≡ (leb (phase c) 2 || c .help .waiting) ⌝ }
-{
-    let condition = c.condition;
-    if phase_in(condition) <= 2 {
-        return true;
-    }
-    c.help.waiting
-}
-
 // An acknowledgement: kept, one per sender.
 fn ack_arrives(n: u8, f: u8, j: u8, s: VoteSet, c: Controller) -> Answer
     ensures { λ r. ⌜ r ≡ ackArrives n f j s c ⌝ }
@@ -52,7 +39,8 @@ fn ack_arrives(n: u8, f: u8, j: u8, s: VoteSet, c: Controller) -> Answer
     if has(c.acks.from, j) {
         return passed_over(c);
     }
-    if keeps_acks(c) {
+    let condition = c.condition;
+    if keeps_acks(condition, c.help.waiting) {
         return propose_if_sufficient(n, f, becomes(keep_ack(c, j, s)));
     }
     passed_over(c)

@@ -14,10 +14,7 @@ use model::recipients;
 use protocol::Answer;
 use protocol::Controller;
 use votes::single;
-ghost use Prim.Native.Nat.{suc};
 ghost use mathlib.Core.Path.{_≡_};
-ghost use mathlib.Core.Bool.{cond};
-ghost use lib.Dec.{leb};
 ghost use Rattle.protocol.specs.Rules.{voteRule, countOwn, firstTimeout};
 
 // Its own vote goes on its vote set, and to the backups.

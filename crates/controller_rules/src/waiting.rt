@@ -1,4 +1,5 @@
 // The word of what is held, and the count that ends waiting.
+use controller_state::counts_suffice;
 use controller_state::proposing;
 use model::Outcome;
 use model::word_of;
@@ -34,8 +35,9 @@ fn sufficient(n: u8, f: u8, c: Controller) -> bool
     ensures { λ r. ⌜ r ≡ sufficient n f c ⌝ }
 {
     if c.help.waiting {
-        let counted = (c.acks.cnt.0 as u32) + (c.helped.cnt_help.0 as u32) + (f as u32);
-        return (n as u32) <= counted;
+        let cnt = c.acks.cnt;
+        let cnt_help = c.helped.cnt_help;
+        return counts_suffice(n, f, cnt, cnt_help);
     }
     false
 }

@@ -1,11 +1,14 @@
 // What a controller holds by sender: acknowledgements and help answers.
+use crate::conditions::phase_in;
 use ground::LIMIT;
 use ground::has;
 use ground::insert;
 use ground::remove;
+use model::Outcome;
 use protocol::Acks;
 use protocol::Cnt;
 use protocol::CntHelp;
+use protocol::Condition;
 use protocol::Controller;
 use protocol::HelpAnswers;
 use votes::VoteSet;
@@ -14,10 +17,13 @@ use votes::contradicts;
 use votes::empty_set;
 use votes::join;
 ghost use mathlib.Core.Path.{_≡_};
-ghost use Prim.Native.Nat.{_-_};
+ghost use mathlib.Core.Bool.{cond, _||_};
+ghost use Prim.Native.Nat.{_+_, _-_};
+ghost use lib.Dec.{eqb, leb};
 ghost use Rattle.ground.specs.Lists.{nth, put};
 ghost use Rattle.votes.specs.VoteSets.{empty};
-ghost use Rattle.protocol.specs.Controllers.{bump, keepAck, dropIf, dropTo, dropContradicting, keepHelped};
+ghost use Rattle.model.specs.declared.Outcome.the-variants.{None};
+ghost use Rattle.protocol.specs.Controllers.{phaseIn, bump, keepAck, dropIf, dropTo, dropContradicting, keepHelped};
 
 // One more, as far as a byte counts.
 pub fn bump(k: u8) -> u8
@@ -146,4 +152,32 @@ pub fn keep_helped(c: Controller, j: u8, s: VoteSet) -> Controller
     let mut next = c;
     next.helped = helped;
     next
+}
+
+// Acknowledgements are kept until a word is put or an outcome is there.
+pub fn keeps_acks(condition: Condition, waiting: bool) -> bool
+    ensures { λ r. ⌜ r ≡ (leb (phaseIn condition) 2 || waiting) ⌝ }
+{
+    if phase_in(condition) <= 2 {
+        return true;
+    }
+    waiting
+}
+
+// The two counts, which are added here alone, come to n - f or more.
+pub fn counts_suffice(n: u8, f: u8, cnt: Cnt, cnt_help: CntHelp) -> bool
+    ensures { λ r. ⌜ r ≡ leb n (cnt .0 + «cnt_help» .0 + f) ⌝ }
+{
+    let counted = (cnt.0 as u32) + (cnt_help.0 as u32) + (f as u32);
+    (n as u32) <= counted
+}
+
+// The outcome of a checkpoint of this order; of another order's, none.
+pub fn outcome_kept(saved: u32, outcome: Outcome, order: u32) -> Outcome
+    ensures { λ r. ⌜ r ≡ cond (eqb saved order) outcome None ⌝ }
+{
+    if saved == order {
+        return outcome;
+    }
+    Outcome::None
 }

@@ -184,9 +184,16 @@ noting (Running p) o = Running (record { phase = p .phase; outcome = orElse (p .
 noting Stopped o = Stopped
 noting (Standby x) o = Standby (orElse x o)
 
+-- does it move the gate: it runs, has no outcome yet, and this one is Move; and where the gate then stands
+abbrev pub movesIn : Condition → Outcome → Bool
+movesIn k o = isRunning k && isNone (outcomeIn k) && isMove o
+
 abbrev pub moves : Controller → Outcome → Bool
-moves c o = runs c && isNone (outcome c) && isMove o
+moves c o = movesIn (c .condition) o
+
+abbrev pub landing : Condition → Outcome → Gate → ℕ
+landing k o g = cond (movesIn k o) (g .target) (g .position)
 
 unfoldable pub conclude : Controller → Outcome → Controller
 conclude c o = withGate (withHelp (withCondition c (noting (c .condition) o)) (waitingAs false (c .help)))
-    (record { target = c .gate .target; position = cond (moves c o) (c .gate .target) (c .gate .position) })
+    (record { target = c .gate .target; position = landing (c .condition) o (c .gate) })

@@ -78,9 +78,12 @@ verdict n j = wordOf (unanimousIn n j)
 
 -- **Vote** (stage 0): "Its own vote goes on its sheet. It sends a vote telegram to every other controller of 1 to f; a holder also sends one to f + 1.
 -- Controllers 1 to f + 1 go to stage 1, others to stage 2."
+abbrev pub phaseAfterVote : ℕ → ℕ → ℕ
+phaseAfterVote f i = cond (leb i (suc f)) 1 2
+
 unfoldable pub voteRule : ℕ → ℕ → ℕ → Bool → ℕ → Controller → Answer
 voteRule n f i willing target c =
-    sending (advance (aim (learn c (single i willing)) target) (cond (leb i (suc f)) 1 2)) (votesTo (recipients n f Vote i) (single i willing))
+    sending (advance (aim (learn c (single i willing)) target) (phaseAfterVote f i)) (votesTo (recipients n f Vote i) (single i willing))
 
 -- **Vote arrives**: "at stage 0 or 1 it goes on the sheet; later it is passed over."
 unfoldable pub voteArrives : VoteSet → Controller → Answer

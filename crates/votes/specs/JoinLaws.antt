@@ -19,9 +19,9 @@ use Rattle.ground.specs.Inclusion.{empty-zero, some-member, within-has}
 use Rattle.ground.specs.Lists.{nth, nth-past}
 use Rattle.votes.specs.VoteSets.{empty, knows, wills, union, unionAll}
 use Rattle.votes.specs.VoteLaws.{union-knows, union-wills, union-comm, union-assoc, union-empty, union-within}
-use Rattle.votes.specs.Joining.{disputed, contradicts, join, agreedOr, joinNext, joinFrom, joinList, joinAll, agreesWith, pairwise, joinedNumber, joinedValues}
+use Rattle.votes.specs.Joining.{disputed, contradicts, join, agreedOr, joinNext, joinFrom, joinList, joinAll, agreesWith, pairwise}
 use Rattle.votes.specs.Tallies.{unionList, setsOf}
-use Rattle.votes.specs.Contradictions.{WellFormed, AllWellFormed, Differ, Contradictions}
+use Rattle.votes.specs.Contradictions.{WellFormed, AllWellFormed, Differ}
 use Rattle.votes.specs.declared.VoteSet.{VoteSet}
 use Rattle.votes.specs.declared.Joined.{Joined}
 use Rattle.votes.specs.declared.Joined.the-variants.{Agreed, Contradiction}

@@ -1,6 +1,5 @@
 // Vote sets (document 01: sheets).
 ghost use mathlib.Core.Path.{_≡_};
-ghost use Prim.Native.Nat.{min};
 ghost use Rattle.ground.specs.Limit.{limit};
 ghost use Rattle.votes.specs.VoteSets.{empty, single, complete, unanimous};
 ghost use Rattle.votes.specs.Joining.{contradicts, join, joinAll, agreedOr};

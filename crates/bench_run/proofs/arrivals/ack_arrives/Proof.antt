@@ -1,3 +1,4 @@
+-- Passed over if held or too late; else kept, and then, if it waits, settled: the rule's cases, on the row.
 use Prim.Native.Nat.{ℕ}
 use mathlib.Core.Path.{sym, ap, _∙_}
 use borrow.Author.Tests.{ne-eqb, not-true, not-false}

@@ -1,3 +1,4 @@
+-- Three ways: called before, kept before stage 3, answered from then on; each is the rule's case, on the row.
 use Prim.Native.Nat.{ℕ}
 use mathlib.Core.Path.{refl, sym, ap, _∙_}
 use lib.Dec.{leb}

@@ -1,3 +1,4 @@
+-- Three stores in one row: who sent it, its vote set at the sender's place (sets-back), one more counted.
 use Prim.Native.Nat.{ℕ}
 use mathlib.Core.Path.{refl, ap, _∙_}
 use Rattle.ground.specs.Mask.{insert}

@@ -1,3 +1,4 @@
+-- Three stores in one row: the join, who sent it, one more counted.
 use Prim.Native.Nat.{ℕ}
 use mathlib.Core.Path.{refl, ap, _∙_}
 use Rattle.ground.specs.Mask.{insert}

@@ -1,3 +1,4 @@
+-- Each arm is one kind's function, whose promise is of the event that the arm matched.
 use borrow.Author.Needs.{needs}
 use Rattle.bench_run.proofs.plays.play.Statement.{statement}
 use Rattle.bench_run.proofs.plays.play.Tie as tie
@@ -23,8 +24,8 @@ play-cast-requires c κs = search needs
 enum-known-e-4 : tie.Need-enum-known-e-4
 enum-known-e-4 c = search needs
 
-play-delivery-requires : tie.Need-play-delivery-requires
-play-delivery-requires c κs = search needs
+deliver-requires : tie.Need-deliver-requires
+deliver-requires c κs = search needs
 
 enum-known-e-5 : tie.Need-enum-known-e-5
 enum-known-e-5 c = search needs
@@ -66,7 +67,7 @@ returns-3 : tie.Need-returns-3
 returns-3 c = rw (c .before .before .before .before .e3 .given .1) (c .play-cast .ensures)
 
 returns-4 : tie.Need-returns-4
-returns-4 c = rw (c .before .before .before .before .e4 .given .1) (c .play-delivery .ensures)
+returns-4 c = rw (c .before .before .before .before .e4 .given .1) (c .deliver .ensures)
 
 returns-5 : tie.Need-returns-5
 returns-5 c = rw (c .before .before .before .before .e5 .given .1) (c .play-timeout .ensures)
@@ -94,7 +95,7 @@ play-spec =
     enum-known-e-3
     play-cast-requires
     enum-known-e-4
-    play-delivery-requires
+    deliver-requires
     enum-known-e-5
     play-timeout-requires
     enum-known-e-6

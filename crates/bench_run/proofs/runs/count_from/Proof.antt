@@ -1,7 +1,4 @@
-use mathlib.Core.Path.{sym, _∙_, ap}
-use Prim.Native.Nat.{ℕ, _+_, _/_}
-use mathlib.Core.List.{List}
-use lib.ListN.{length-drop, drop-of-length-le}
+use lib.ListN.{length-drop}
 use native.Mathlib.Omega.{arith}
 use Rattle.bench_run.specs.Schedule.{count}
 use borrow.Author.Needs.{needs}

@@ -1,3 +1,4 @@
+-- The stores follow one another in the row, and the row they leave is the station that the vote rule leaves (vote-cast); the counts follow the condition.
 use mathlib.Core.Path.{refl, _∙_}
 use borrow.Author.Needs.{needs}
 use Rattle.protocol.specs.Steps.{answering}

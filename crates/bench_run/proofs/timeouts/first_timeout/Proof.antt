@@ -1,3 +1,4 @@
+-- The condition and the acknowledgement sent, then its own acknowledgement counted: two changes of one station, one after the other.
 use mathlib.Core.Path.{refl, _∙_}
 use borrow.Author.Needs.{needs}
 use Rattle.protocol.specs.Steps.{answering}

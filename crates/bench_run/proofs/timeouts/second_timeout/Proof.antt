@@ -1,3 +1,4 @@
+-- The help vote set is frozen, then what comes of it (`concluded`) is left: the definition's rule takes the same two steps.
 use mathlib.Core.Path.{_∙_}
 use borrow.Author.Needs.{needs}
 use Rattle.bench_run.specs.Changes.{concluding}

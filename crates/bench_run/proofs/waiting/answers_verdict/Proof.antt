@@ -1,3 +1,4 @@
+-- The word of the acknowledgements if any is counted, else of the help answers, as `answersJoin` has it.
 use Prim.Native.Nat.{ℕ}
 use mathlib.Core.Path.{sym, ap, _∙_}
 use mathlib.Core.Bool.{Bool}

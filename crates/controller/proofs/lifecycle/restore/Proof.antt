@@ -6,8 +6,8 @@ use Rattle.controller.proofs.lifecycle.restore.Tie as tie
 is-stopped-requires : tie.Need-is-stopped-requires
 is-stopped-requires c κs = search needs
 
-outcome-saved-requires : tie.Need-outcome-saved-requires
-outcome-saved-requires c κs = search needs
+outcome-kept-requires : tie.Need-outcome-kept-requires
+outcome-kept-requires c κs = search needs
 
 cleared-requires : tie.Need-cleared-requires
 cleared-requires c κs = search needs
@@ -17,7 +17,7 @@ becomes-requires c κs = search needs
 
 returns : tie.Need-returns
 unfolding restore
-returns c = simp (← c .before .before .before .before .is-stopped .ensures, c .before .before .before .if1 .taken, c .before .before .outcome-saved .ensures, c .before .cleared .ensures, c .becomes .ensures)
+returns c = simp (← c .before .before .before .before .is-stopped .ensures, c .before .before .before .if1 .taken, c .before .before .outcome-kept .ensures, c .before .cleared .ensures, c .becomes .ensures)
 
 passed-over-requires : tie.Need-passed-over-requires
 passed-over-requires c κs = search needs
@@ -31,7 +31,7 @@ restore-spec =
     tie.close
     (tie.spec
     is-stopped-requires
-    outcome-saved-requires
+    outcome-kept-requires
     cleared-requires
     becomes-requires
     returns

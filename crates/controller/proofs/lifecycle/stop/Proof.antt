@@ -3,8 +3,8 @@ use borrow.Author.Needs.{needs}
 use Rattle.controller.proofs.lifecycle.stop.Statement.{statement}
 use Rattle.controller.proofs.lifecycle.stop.Tie as tie
 
-is-up-requires : tie.Need-is-up-requires
-is-up-requires c κs = search needs
+is-present-requires : tie.Need-is-present-requires
+is-present-requires c κs = search needs
 
 cleared-requires : tie.Need-cleared-requires
 cleared-requires c κs = search needs
@@ -14,20 +14,20 @@ becomes-requires c κs = search needs
 
 returns : tie.Need-returns
 unfolding stop
-returns c = simp (← c .before .before .before .is-up .ensures, c .before .before .if1 .taken, c .before .cleared .ensures, c .becomes .ensures)
+returns c = simp (← c .before .before .before .is-present .ensures, c .before .before .if1 .taken, c .before .cleared .ensures, c .becomes .ensures)
 
 passed-over-requires : tie.Need-passed-over-requires
 passed-over-requires c κs = search needs
 
 returns-2 : tie.Need-returns-2
 unfolding stop
-returns-2 c = simp (← c .before .before .is-up .ensures, c .before .if1 .left, c .passed-over .ensures)
+returns-2 c = simp (← c .before .before .is-present .ensures, c .before .if1 .left, c .passed-over .ensures)
 
 pub stop-spec : {M : Type 1} → statement M
 stop-spec =
     tie.close
     (tie.spec
-    is-up-requires
+    is-present-requires
     cleared-requires
     becomes-requires
     returns

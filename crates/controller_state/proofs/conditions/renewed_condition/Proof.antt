@@ -1,6 +1,6 @@
 use borrow.Author.Needs.{needs}
-use Rattle.bench_run.proofs.lifecycle.renewed_condition.Statement.{statement}
-use Rattle.bench_run.proofs.lifecycle.renewed_condition.Tie as tie
+use Rattle.controller_state.proofs.conditions.renewed_condition.Statement.{statement}
+use Rattle.controller_state.proofs.conditions.renewed_condition.Tie as tie
 
 is-stopped-requires : tie.Need-is-stopped-requires
 is-stopped-requires c κs = search needs

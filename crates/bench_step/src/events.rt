@@ -13,7 +13,7 @@ ghost use Rattle.protocol.specs.Events.{concernsOne, subject, source, receivers
 ghost use Rattle.protocol.specs.Questions.{isSaved, factsOf};
 
 // Is it the event of one controller?
-pub fn concerns_one(e: Event) -> bool
+pub(crate) fn concerns_one(e: Event) -> bool
     ensures { λ r. ⌜ r ≡ concernsOne e ⌝ }
 {
     match e {
@@ -30,7 +30,7 @@ pub fn concerns_one(e: Event) -> bool
 }
 
 // The controller that an event may change; 0 where it is the whole bench.
-pub fn subject(e: Event) -> u8
+pub(crate) fn subject(e: Event) -> u8
     ensures { λ r. ⌜ r ≡ subject e ⌝ }
 {
     match e {
@@ -47,7 +47,7 @@ pub fn subject(e: Event) -> u8
 }
 
 // The controller whose message a delivery hands over; of any other event its subject.
-pub fn source(e: Event) -> u8
+pub(crate) fn source(e: Event) -> u8
     ensures { λ r. ⌜ r ≡ source e ⌝ }
 {
     match e {
@@ -64,7 +64,7 @@ pub fn source(e: Event) -> u8
 }
 
 // The messages of one kind that a controller has sent.
-pub fn of_kind(kind: Kind, s: Sent) -> Outgoing
+pub(crate) fn of_kind(kind: Kind, s: Sent) -> Outgoing
     ensures { λ r. ⌜ r ≡ ofKind kind s ⌝ }
 {
     match kind {
@@ -118,7 +118,14 @@ fn is_saved(saved: Saved) -> bool
 
 // What the questions of an event look at: `s` is the station of the controller that it concerns, `sent` is what its source has sent, and
 // `may_open` says whether an order may be opened, `agrees` whether the delivered vote set contradicts none that is held.
-pub fn facts_of(m: Shared, e: Event, s: Station, sent: Sent, may_open: bool, agrees: bool) -> Facts
+pub(crate) fn facts_of(
+    m: Shared,
+    e: Event,
+    s: Station,
+    sent: Sent,
+    may_open: bool,
+    agrees: bool,
+) -> Facts
     ensures { λ r. ⌜ r ≡ factsOf m e s sent «may_open» agrees ⌝ }
 {
     let receivers = receivers_in(e, sent);

@@ -1,6 +1,6 @@
 use borrow.Author.Needs.{needs}
-use Rattle.bench_state.proofs.events.facts_of.Statement.{statement}
-use Rattle.bench_state.proofs.events.facts_of.Tie as tie
+use Rattle.bench_step.proofs.events.facts_of.Statement.{statement}
+use Rattle.bench_step.proofs.events.facts_of.Tie as tie
 
 receivers-in-requires : tie.Need-receivers-in-requires
 receivers-in-requires c κs = search needs

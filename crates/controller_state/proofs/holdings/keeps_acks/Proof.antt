@@ -1,7 +1,7 @@
 use borrow.Author.Tests.{le-leb, lt-leb}
 use borrow.Author.Needs.{needs}
-use Rattle.controller_rules.proofs.arrivals.keeps_acks.Statement.{statement}
-use Rattle.controller_rules.proofs.arrivals.keeps_acks.Tie as tie
+use Rattle.controller_state.proofs.holdings.keeps_acks.Statement.{statement}
+use Rattle.controller_state.proofs.holdings.keeps_acks.Tie as tie
 
 phase-in-requires : tie.Need-phase-in-requires
 phase-in-requires c κs = search needs

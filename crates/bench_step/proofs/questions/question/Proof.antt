@@ -1,8 +1,8 @@
 -- Each arm is one kind's table: the definition's case, by the contract of that kind's function.
 use Rattle.protocol.specs.Questions.{firstNo}
 use borrow.Author.Needs.{needs}
-use Rattle.bench_state.proofs.table.question.Statement.{statement}
-use Rattle.bench_state.proofs.table.question.Tie as tie
+use Rattle.bench_step.proofs.questions.question.Statement.{statement}
+use Rattle.bench_step.proofs.questions.question.Tie as tie
 
 enum-known-e : tie.Need-enum-known-e
 enum-known-e c = search needs

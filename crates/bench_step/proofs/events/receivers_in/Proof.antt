@@ -1,7 +1,7 @@
 -- Only a delivery has receivers; of any other event there are none.
 use borrow.Author.Needs.{needs}
-use Rattle.bench_state.proofs.events.receivers_in.Statement.{statement}
-use Rattle.bench_state.proofs.events.receivers_in.Tie as tie
+use Rattle.bench_step.proofs.events.receivers_in.Statement.{statement}
+use Rattle.bench_step.proofs.events.receivers_in.Tie as tie
 
 enum-told : tie.Need-enum-told
 enum-told c = search needs
