@@ -25,21 +25,21 @@ use Rattle.protocol.specs.Steps.{stationAfter, answering}
 use Rattle.bench_run.specs.Tables.{tabulate, conditionIn, setFrom, outgoingFrom, setColumn, setsFrom, controllerFrom, stationFrom}
 use Rattle.bench_run.specs.Changes.{setTo, outgoingTo, withController, settled}
 use Rattle.bench_run.proofs.ReadBack.{sets-back}
-use Rattle.bench_run.proofs.WaitingRows.{leaving, passed, settling}
+use Rattle.bench_run.proofs.WaitingRows.{leaving, left-passed-over, settling}
 
 pub vote-kept : (b w : ℕ → ℕ) (s v : VoteSet) → leb (phaseIn (conditionIn b)) 1 ≡ true → v ≡ agreedOr (setFrom w 0) (join (setFrom w 0) s)
     → stationFrom b (setTo 0 v w) ≡ stationAfter (stationFrom b w) (voteArrives s (controllerFrom b w))
 unfolding stationFrom controllerFrom setsFrom tabulate upd stationAfter sentAfter voteArrives becomes learn
 vote-kept b w s v h e = rw (h, e)
 
-pub vote-passed : (b w : ℕ → ℕ) (s : VoteSet) → leb (phaseIn (conditionIn b)) 1 ≡ false → stationFrom b w ≡ stationAfter (stationFrom b w) (voteArrives s (controllerFrom b w))
+pub vote-passed-over : (b w : ℕ → ℕ) (s : VoteSet) → leb (phaseIn (conditionIn b)) 1 ≡ false → stationFrom b w ≡ stationAfter (stationFrom b w) (voteArrives s (controllerFrom b w))
 unfolding stationFrom controllerFrom stationAfter sentAfter voteArrives passedOver
-vote-passed b w s h = rw h
+vote-passed-over b w s h = rw h
 
 -- a help call: passed over, kept, answered
-pub call-passed : (b w : ℕ → ℕ) (j : ℕ) → has (w 8) j ≡ true → stationFrom b w ≡ stationAfter (stationFrom b w) (helpArrives j (controllerFrom b w))
+pub call-passed-over : (b w : ℕ → ℕ) (j : ℕ) → has (w 8) j ≡ true → stationFrom b w ≡ stationAfter (stationFrom b w) (helpArrives j (controllerFrom b w))
 unfolding stationFrom controllerFrom stationAfter sentAfter helpArrives passedOver
-call-passed b w j h = rw h
+call-passed-over b w j h = rw h
 
 pub call-kept : (b w : ℕ → ℕ) (j v : ℕ) → has (w 8) j ≡ false → leb (phaseIn (conditionIn b)) 2 ≡ true → v ≡ insert (w 8) j
     → stationFrom b (upd w 8 v) ≡ stationAfter (stationFrom b w) (helpArrives j (controllerFrom b w))
@@ -65,7 +65,7 @@ counts-helped m s j v h = rw h (settling m s (keepHelped (s .controller) j v) re
 passes-helped : (m : Shared) (s : Station) (j : ℕ) (v : VoteSet) → (not (hasHelped (s .controller) j) && s .controller .help .waiting) ≡ false
     → leaving m s ≡ answering m s (helpedArrives (m .n) (m .f) j v (s .controller))
 unfolding helpedArrives
-passes-helped m s j v h = rw h (passed m s)
+passes-helped m s j v h = rw h (left-passed-over m s)
 
 pub helped-counts : (m : Shared) (b w : ℕ → ℕ) (j : ℕ) (s : VoteSet) → has (w 5) j ≡ false → flagOf (b 5) ≡ true
     → settled m (withController (stationFrom b w) (keepHelped (controllerFrom b w) j s)) ≡ answering m (stationFrom b w) (helpedArrives (m .n) (m .f) j s (controllerFrom b w))
@@ -131,7 +131,7 @@ counts-ack m s j v h = rw h (settling m s (keepAck (s .controller) j v) refl)
 passes-ack : (m : Shared) (s : Station) (j : ℕ) (v : VoteSet) → (not (hasAck (s .controller) j) && (leb (phase (s .controller)) 2 || s .controller .help .waiting)) ≡ false
     → leaving m s ≡ answering m s (ackArrives (m .n) (m .f) j v (s .controller))
 unfolding ackArrives
-passes-ack m s j v h = rw h (passed m s)
+passes-ack m s j v h = rw h (left-passed-over m s)
 
 pub ack-counts : (m : Shared) (b w : ℕ → ℕ) (j : ℕ) (s : VoteSet) → has (w 2) j ≡ false → (leb (phaseIn (conditionIn b)) 2 || flagOf (b 5)) ≡ true
     → settled m (withController (stationFrom b w) (keepAck (controllerFrom b w) j s)) ≡ answering m (stationFrom b w) (ackArrives (m .n) (m .f) j s (controllerFrom b w))

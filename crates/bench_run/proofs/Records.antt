@@ -19,7 +19,7 @@ use Rattle.protocol.specs.Benches.{newBench}
 use Rattle.protocol.specs.Steps.{run}
 use Rattle.protocol.proofs.claim.Moments.{run-append}
 use Rattle.bench_run.specs.Schedule.{piece, pieceAt, count, letThrough, eventsTo}
-use Rattle.bench_run.specs.Runs.{answerNumber, answersTo, hasRoom, notRun, runOf, answered, Ran}
+use Rattle.bench_run.specs.Runs.{answerNumber, answersTo, hasRoom, notRun, runOf, answered, RunAsDefined}
 use Rattle.bench_run.specs.Plays.{Steps, StepsRecord}
 use Rattle.bench_run.specs.declared.plays.Played.{Played}
 
@@ -92,14 +92,14 @@ module _ (m : Shared) (b w : List ℕ) (x r : ReadEvent) (here : r ≡ x) where
       (record { reached = λ es z l. record { answer = e ∙ ap (λ (z : ReadEvent). answerOf z .number) d; bench = refl; sized = z } })
 
 -- the result: with too little room nothing is run, else all are played
-pub no-room : (s out : List ℕ) (all : ℕ) → all ≡ count s → length out < all → Ran s out notRun out
+pub no-room : (s out : List ℕ) (all : ℕ) → all ≡ count s → length out < all → RunAsDefined s out notRun out
 unfolding runOf answered
 no-room s out all w h =
     let f : hasRoom s out ≡ false = lt-leb (count s) (length out) (omega (arith, w)) in
     record { result = rw f; buffer = rw f }
 
 pub ended : (s out₀ : List ℕ) (all k : ℕ) (b : Bench) (out : List ℕ) → Within s out₀ all k out → all ≤ k → Upto s out₀ k b out
-    → Ran s out₀ (record { complete = true; count = all; bench = b }) out
+    → RunAsDefined s out₀ (record { complete = true; count = all; bench = b }) out
 unfolding runOf answered
 ended s out₀ all k b out p h u =
     let e : k ≡ count s = omega (arith, p .upto, p .whole) in

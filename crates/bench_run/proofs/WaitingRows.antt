@@ -90,9 +90,9 @@ counted m m′ b w o p y h e =
     ap (λ (x : Shared). leaving x (stationFrom (upd (upd b 5 0) 6 (outcomeNumber o)) w)) p ∙ ap (leaving (proposedTo m o)) (proposal-put b w o) ∙ word-put m (stationFrom b w) o (rw (y, h)) e
 
 -- an answer that passes over leaves all; one that becomes a controller of the same condition settles
-pub passed : (m : Shared) (s : Station) → leaving m s ≡ answering m s (passedOver (s .controller))
+pub left-passed-over : (m : Shared) (s : Station) → leaving m s ≡ answering m s (passedOver (s .controller))
 unfolding answering stationAfter sentAfter passedOver
-passed m s = ap (λ (x : Shared). leaving x s) (sym (shared-stays m (s .controller .condition)))
+left-passed-over m s = ap (λ (x : Shared). leaving x s) (sym (shared-stays m (s .controller .condition)))
 
 counts-same : (m : Shared) (o : Outcome) (j k : Condition) → j ≡ k → proposedTo m o ≡ withCounts (proposedTo m o) (countsAfter k j (m .counts))
 unfolding proposedTo

@@ -47,6 +47,6 @@ unfoldable pub answered : List ℕ → List ℕ → List ℕ
 answered s out = cond (hasRoom s out) (answers s ++ drop (count s) out) out
 
 -- what a run of a schedule promises: of its result, and of the buffer that was lent to it
-pub record Ran (s out : List ℕ) (r : RunResult) (after : List ℕ) : Type 0 where
+pub record RunAsDefined (s out : List ℕ) (r : RunResult) (after : List ℕ) : Type 0 where
   pub result : r ≡ runOf s out
   pub buffer : after ≡ answered s out

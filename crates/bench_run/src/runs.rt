@@ -23,7 +23,7 @@ ghost use Rattle.protocol.specs.Benches.{newBench};
 ghost use Rattle.bench_run.specs.Changes.{Sized};
 ghost use Rattle.bench_run.specs.Plays.{benchIn, StepsRecord};
 ghost use Rattle.bench_run.specs.Schedule.{count};
-ghost use Rattle.bench_run.specs.Runs.{notRun, Ran};
+ghost use Rattle.bench_run.specs.Runs.{notRun, RunAsDefined};
 
 // How many records there are from a place on, with a short last piece.
 fn count_from(s: &[u8], from: usize) -> usize
@@ -77,7 +77,7 @@ fn play_records(
     first: Shared,
 ) -> Shared
     requires { ⌜ (all ≡ count (drop from (now s))) × (all ≤ length (now answers)) ⌝ }
-    ensures { λ m. ⌜ (Sized (now (b .entry)) (now (w .entry)) → benchIn first (now (b .entry)) (now (w .entry)) ≡ newBench → Ran (drop from (now (s .entry))) (now (answers .entry)) (record { complete = true; count = all; bench = benchIn m (now (b .exit)) (now (w .exit)) }) (now (answers .exit))) ⌝ }
+    ensures { λ m. ⌜ (Sized (now (b .entry)) (now (w .entry)) → benchIn first (now (b .entry)) (now (w .entry)) ≡ newBench → RunAsDefined (drop from (now (s .entry))) (now (answers .entry)) (record { complete = true; count = all; bench = benchIn m (now (b .exit)) (now (w .exit)) }) (now (answers .exit))) ⌝ }
 {
     let mut m = first;
     let mut k: usize = 0;
@@ -92,7 +92,7 @@ fn play_records(
 
 // Plays what stands from a place of the schedule on. The bench lies in two tables of this function's own.
 fn run_from(s: &[u8], from: usize, answers: &mut [u8]) -> RunResult
-    ensures { λ r. ⌜ Ran (drop from (now (s .entry))) (now (answers .entry)) r (now (answers .exit)) ⌝ }
+    ensures { λ r. ⌜ RunAsDefined (drop from (now (s .entry))) (now (answers .entry)) r (now (answers .exit)) ⌝ }
 {
     let count = count_from(s, from);
     if answers.len() < count {
@@ -119,7 +119,7 @@ fn run_from(s: &[u8], from: usize, answers: &mut [u8]) -> RunResult
 
 // Plays what a reader has before it: the run goes by the reader's slice and position.
 fn run_reader<'a>(r: Reader<'a>, answers: &mut [u8]) -> RunResult
-    ensures { λ x. ⌜ Ran (drop (r .entry .at) (now (r .entry .src))) (now (answers .entry)) x (now (answers .exit)) ⌝ }
+    ensures { λ x. ⌜ RunAsDefined (drop (r .entry .at) (now (r .entry .src))) (now (answers .entry)) x (now (answers .exit)) ⌝ }
 {
     run_from(r.src, r.at, answers)
 }
@@ -127,7 +127,7 @@ fn run_reader<'a>(r: Reader<'a>, answers: &mut [u8]) -> RunResult
 // Plays the whole schedule, by a reader at its front. One byte for each record goes into `answers`; if that is too short nothing is run, and the result
 // says so.
 pub fn run(s: &[u8], answers: &mut [u8]) -> RunResult
-    ensures { λ r. ⌜ Ran (now (s .entry)) (now (answers .entry)) r (now (answers .exit)) ⌝ }
+    ensures { λ r. ⌜ RunAsDefined (now (s .entry)) (now (answers .entry)) r (now (answers .exit)) ⌝ }
 {
     run_reader(reader_at(s, 0), answers)
 }

@@ -21,11 +21,11 @@ use Rattle.protocol.specs.Benches.{station, sentBy, identity}
 use Rattle.protocol.specs.Events.{subject, source, answerTo}
 use Rattle.protocol.specs.Questions.{agreesAt}
 use Rattle.protocol.proofs.view.Refusals.{delivers, others-agree}
-use Rattle.bench_step.proofs.Seen.{seen, seen-sent, seen-station}
+use Rattle.bench_step.proofs.StationsRead.{stationRead, read-sent, read-station}
 use Rattle.bench_step.proofs.Outside.{few, within}
 
 -- no event but a delivery is refused by it
-both-agree : (b : Bench) (e : Event) → delivers e ≡ false → agreesAt (b .shared) e ((seen b (source e)) .sent) (seen b (subject e)) ≡ agreesAt (b .shared) e (sentBy b (source e)) (station b (subject e))
+both-agree : (b : Bench) (e : Event) → delivers e ≡ false → agreesAt (b .shared) e ((stationRead b (source e)) .sent) (stationRead b (subject e)) ≡ agreesAt (b .shared) e (sentBy b (source e)) (station b (subject e))
 both-agree b e d = others-agree (b .shared) e _ _ d ∙ sym (others-agree (b .shared) e _ _ d)
 
 -- a valid identity has a station
@@ -38,17 +38,17 @@ numbered me e =
     let k : me .id ≤ me .n = within (me .n) (me .id) one in
     (leb-true 1 (me .id) (and-l (leb 1 (me .id)) (leb (me .id) (me .n)) one), omega arith)
 
-pub seen-agrees : (b : Bench) (e : Event) → length (b .stations) ≡ limit
-    → agreesAt (b .shared) e ((seen b (source e)) .sent) (seen b (subject e)) ≡ agreesAt (b .shared) e (sentBy b (source e)) (station b (subject e))
-seen-agrees b (Lock n f) l = both-agree b (Lock n f) refl
-seen-agrees b (Order o) l = both-agree b (Order o) refl
-seen-agrees b (Cast i willing target) l = both-agree b (Cast i willing target) refl
-seen-agrees b (Deliver i j kind) l = elim (split (validIdentity (identity (b .shared) j))) [
-  | inl v ↦ let k = numbered (identity (b .shared) j) v in rw (seen-station b j l (k .0) (k .1), seen-sent b i)
+pub read-agrees : (b : Bench) (e : Event) → length (b .stations) ≡ limit
+    → agreesAt (b .shared) e ((stationRead b (source e)) .sent) (stationRead b (subject e)) ≡ agreesAt (b .shared) e (sentBy b (source e)) (station b (subject e))
+read-agrees b (Lock n f) l = both-agree b (Lock n f) refl
+read-agrees b (Order o) l = both-agree b (Order o) refl
+read-agrees b (Cast i willing target) l = both-agree b (Cast i willing target) refl
+read-agrees b (Deliver i j kind) l = elim (split (validIdentity (identity (b .shared) j))) [
+  | inl v ↦ let k = numbered (identity (b .shared) j) v in rw (read-station b j l (k .0) (k .1), read-sent b i)
   | inr v ↦ unfold answerTo receive passedOver in rw v
 ]
-seen-agrees b (Timeout i) l = both-agree b (Timeout i) refl
-seen-agrees b (Decide i move) l = both-agree b (Decide i move) refl
-seen-agrees b (Stop i) l = both-agree b (Stop i) refl
-seen-agrees b (Save i) l = both-agree b (Save i) refl
-seen-agrees b (Restore i) l = both-agree b (Restore i) refl
+read-agrees b (Timeout i) l = both-agree b (Timeout i) refl
+read-agrees b (Decide i move) l = both-agree b (Decide i move) refl
+read-agrees b (Stop i) l = both-agree b (Stop i) refl
+read-agrees b (Save i) l = both-agree b (Save i) refl
+read-agrees b (Restore i) l = both-agree b (Restore i) refl

@@ -3,5 +3,5 @@ mod Defaults
 mod Maps
 mod Outside
 mod Agrees
-mod Seen
+mod StationsRead
 mod StepLaws

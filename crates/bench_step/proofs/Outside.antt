@@ -29,7 +29,7 @@ use Rattle.protocol.specs.Benches.{freshStation, fresh, station, sentBy, identi
 use Rattle.protocol.specs.Steps.{perform, effectOf, effect, answering}
 use Rattle.protocol.specs.Events.{concernsOne, subject, source, restoreFrom, answerTo}
 use Rattle.bench_step.proofs.PlayLaws.{performed}
-use Rattle.bench_step.proofs.Seen.{seen}
+use Rattle.bench_step.proofs.StationsRead.{stationRead}
 
 -- the number of no lock's controller
 pub few : (n f : ℕ) → sizesInRange n f ≡ true → n ≤ limit
@@ -64,12 +64,12 @@ alike m (Restore i) sent l l′ o h = refl
 
 -- an accepted event of a number past the limit changes no station; what it leaves of what is shared, the code finds on the station that it reads
 pub outside : (b : Bench) (e : Event) → length (b .stations) ≡ limit → concernsOne e ≡ true → limit < subject e
-    → perform b e ≡ record { shared = (effect (b .shared) e (sentBy b (source e)) (seen b (subject e))) .shared; stations = b .stations }
+    → perform b e ≡ record { shared = (effect (b .shared) e (sentBy b (source e)) (stationRead b (subject e))) .shared; stations = b .stations }
 unfolding put
 outside b e l o h = performed b e o ∙ λ t. record { shared = same t; stations = set-out (b .stations) (subject e - 1) ((effect (b .shared) e (sentBy b (source e)) (station b (subject e))) .station) (omega arith) t }
   where
     past : (d : Station) → nth d (b .stations) (subject e) ≡ d
     past d = nth-past d (b .stations) (subject e) (omega arith)
 
-    same : (effect (b .shared) e (sentBy b (source e)) (station b (subject e))) .shared ≡ (effect (b .shared) e (sentBy b (source e)) (seen b (subject e))) .shared
+    same : (effect (b .shared) e (sentBy b (source e)) (station b (subject e))) .shared ≡ (effect (b .shared) e (sentBy b (source e)) (stationRead b (subject e))) .shared
     same = unfold station in rw (past (freshStation []), past (freshStation (replicate limit empty))) (alike (b .shared) e (sentBy b (source e)) [] (replicate limit empty) o h)

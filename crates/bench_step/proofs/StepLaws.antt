@@ -23,9 +23,9 @@ use Rattle.bench_state.proofs.Replies.{zero-yes, step-accepted, step-refused}
 use Rattle.bench_step.proofs.PlayLaws.{playAt, same-reply, play-answer, play-shares, play-steps}
 use Rattle.bench_step.specs.declared.Stepped.{Stepped}
 use Rattle.bench_step.specs.Steps.{stepped, wholeReply}
-use Rattle.bench_step.proofs.Seen.{seen, seen-sent, seen-station, seen-facts}
+use Rattle.bench_step.proofs.StationsRead.{stationRead, read-sent, read-station, read-facts}
 use Rattle.bench_step.proofs.Outside.{outside}
-use Rattle.bench_step.proofs.Agrees.{seen-agrees}
+use Rattle.bench_step.proofs.Agrees.{read-agrees}
 
 module _ (b : Bench) (e : Event) (q : ℕ) (asked : q ≡ number (reply b e)) where
   pub refuses : (q ≡ 0 → ⊥) → _≡_ {A = Stepped} (record { answer = q; bench = b }) (stepped b e)
@@ -66,13 +66,13 @@ numbered-from-1 b (Save i) o z = first (b .shared .n) i (zero-yes b (Save i) z .
 numbered-from-1 b (Restore i) o z = first (b .shared .n) i (zero-yes b (Restore i) z .1 .0)
 
 -- an event of one controller, played on its station as the code reads it
-module _ (b : Bench) (e : Event) (l : length (b .stations) ≡ limit) (o : concernsOne e ≡ true) (p : Played) (w : p ≡ play (b .shared) e ((seen b (source e)) .sent) (seen b (subject e))) where
+module _ (b : Bench) (e : Event) (l : length (b .stations) ≡ limit) (o : concernsOne e ≡ true) (p : Played) (w : p ≡ play (b .shared) e ((stationRead b (source e)) .sent) (stationRead b (subject e))) where
   pub one-answer : p .answer ≡ number (reply b e)
   one-answer =
       ap (λ (x : Played). x .answer) w
-      ∙ play-answer (b .shared) e ((seen b (source e)) .sent) (seen b (subject e))
-      ∙ ap (λ (v : Facts). number (cond (concernsOne e) (firstNo (questionsOf v e)) (refused 7))) (seen-facts b e false (agreesAt (b .shared) e ((seen b (source e)) .sent) (seen b (subject e)))
-      ∙ ap (λ (a : Bool). factsOf (b .shared) e (station b (subject e)) (sentBy b (source e)) false a) (seen-agrees b e l))
+      ∙ play-answer (b .shared) e ((stationRead b (source e)) .sent) (stationRead b (subject e))
+      ∙ ap (λ (v : Facts). number (cond (concernsOne e) (firstNo (questionsOf v e)) (refused 7))) (read-facts b e false (agreesAt (b .shared) e ((stationRead b (source e)) .sent) (stationRead b (subject e)))
+      ∙ ap (λ (a : Bool). factsOf (b .shared) e (station b (subject e)) (sentBy b (source e)) false a) (read-agrees b e l))
       ∙ ap number (same-reply b e o)
 
   pub one-first : p .answer ≡ 0 → 1 ≤ subject e
@@ -81,13 +81,13 @@ module _ (b : Bench) (e : Event) (l : length (b .stations) ≡ limit) (o : conce
   pub one-past : p .answer ≡ 0 → limit < subject e
       → _≡_ {A = Stepped} (record { answer = p .answer; bench = record { shared = p .shared; stations = b .stations } }) (stepped b e)
   one-past z h =
-      let y : (play (b .shared) e ((seen b (source e)) .sent) (seen b (subject e))) .answer ≡ 0 = ap (λ (x : Played). x .answer) (sym w) ∙ z in
-      let s : p .shared ≡ (effect (b .shared) e ((seen b (source e)) .sent) (seen b (subject e))) .shared = ap (λ (x : Played). x .shared) w ∙ play-shares (b .shared) e _ _ y in
-      accepts b e (p .answer) one-answer z _ (rw (s, seen-sent b (source e)) (sym (outside b e l o h)))
+      let y : (play (b .shared) e ((stationRead b (source e)) .sent) (stationRead b (subject e))) .answer ≡ 0 = ap (λ (x : Played). x .answer) (sym w) ∙ z in
+      let s : p .shared ≡ (effect (b .shared) e ((stationRead b (source e)) .sent) (stationRead b (subject e))) .shared = ap (λ (x : Played). x .shared) w ∙ play-shares (b .shared) e _ _ y in
+      accepts b e (p .answer) one-answer z _ (rw (s, read-sent b (source e)) (sym (outside b e l o h)))
 
   pub one-within : p .answer ≡ 0 → subject e ≤ limit
       → _≡_ {A = Stepped} (record { answer = p .answer; bench = record { shared = p .shared; stations = put (b .stations) (subject e) (p .station) } }) (stepped b e)
   one-within z h =
-      let at : p ≡ playAt b e = w ∙ rw (seen-station b (subject e) l (one-first z) h, seen-sent b (source e)) in
+      let at : p ≡ playAt b e = w ∙ rw (read-station b (subject e) l (one-first z) h, read-sent b (source e)) in
       let y : (playAt b e) .answer ≡ 0 = ap (λ (x : Played). x .answer) (sym at) ∙ z in
       rw (one-answer, at, play-steps b e o y)

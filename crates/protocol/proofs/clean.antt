@@ -4,7 +4,7 @@ pub mod Kept
 pub mod Added
 pub mod Parts
 pub mod Steps
-pub mod Quiet
+pub mod WithoutHelp
 pub mod Back
 pub mod Loops
 pub mod Schedule

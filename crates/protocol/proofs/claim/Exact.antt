@@ -1,4 +1,4 @@
--- Exactly 2fn. In a clean order an outcome comes after every vote and every acknowledgement was delivered (clean/Quiet), and what was delivered was sent: so at least fn
+-- Exactly 2fn. In a clean order an outcome comes after every vote and every acknowledgement was delivered (clean/WithoutHelp), and what was delivered was sent: so at least fn
 -- of each kind. The two kinds together are at most 2fn in any order (demand 3). So the figures are exact.
 use Prim.Native.Nat.{ℕ, zero, suc, _+_, _*_, _≤_, _<_}
 use mathlib.Core.Path.{_≡_, refl, sym, _∙_, ap, subst, subst₂}
@@ -29,7 +29,7 @@ use Rattle.protocol.proofs.clean.Log.{logV}
 use Rattle.protocol.proofs.clean.Log as steps
 use Rattle.protocol.proofs.clean.Steps.{clean-by-steps, clean-log}
 use Rattle.protocol.proofs.clean.Parts.{vote-route, vote-route₂, ack-route, ack-route₂}
-use Rattle.protocol.proofs.clean.Quiet.{Delivered, Quiet, blank-quiet, run-quiet}
+use Rattle.protocol.proofs.clean.WithoutHelp.{Delivered, WithoutHelp, blank-without-help, run-without-help}
 use Rattle.protocol.proofs.claim.Moments.{logAt}
 use Rattle.protocol.proofs.claim.Start.{Opened, start, freshes, lock-inv, lock-good}
 use Rattle.protocol.proofs.claim.Bound.{vote-self, ack-self}
@@ -115,7 +115,7 @@ module _ (n f : ℕ) (f<n : f < n) where
         let s : sumTo (suc f) g ≤ sumTo n g = sum-mono g (suc f) n f<n in omega arith
 
 -- a bench in a clean order
-module _ (b : Bench) (f<n : b .shared .f < b .shared .n) (log : List Event) (q : Quiet (b .shared .n) (b .shared .f) (view b) log) where
+module _ (b : Bench) (f<n : b .shared .f < b .shared .n) (log : List Event) (q : WithoutHelp (b .shared .n) (b .shared .f) (view b) log) where
   abbrev n : ℕ
   n = b .shared .n
 
@@ -152,9 +152,9 @@ module _ (es : List Event) (o : Opened es) (c : Clean ((after es) .shared .n) ((
   abbrev b₀ : Bench
   b₀ = benchOf true (o .n) (o .f)
 
-  lock-quiet : Quiet (o .n) (o .f) (view b₀) []
+  lock-without-help : WithoutHelp (o .n) (o .f) (view b₀) []
   unfolding view
-  lock-quiet = blank-quiet (o .n) (o .f) (view b₀) (λ k. freshes true (o .n) (o .f) k .ctl) (λ k. freshes true (o .n) (o .f) k .sent) (unfold benchOf in refl) (unfold benchOf in refl)
+  lock-without-help = blank-without-help (o .n) (o .f) (view b₀) (λ k. freshes true (o .n) (o .f) k .ctl) (λ k. freshes true (o .n) (o .f) k .sent) (unfold benchOf in refl) (unfold benchOf in refl)
       (λ k v e x. none-word v (sym (ap savedOutcome (freshes true (o .n) (o .f) k .saved)) ∙ x))
 
   vlog : List Event
@@ -167,10 +167,10 @@ module _ (es : List Event) (o : Opened es) (c : Clean ((after es) .shared .n) ((
   clean-steps : steps.Clean (o .n) (o .f) vlog
   clean-steps = subst (steps.Clean (o .n) (o .f)) is-log (clean-by-steps (o .n) (o .f) (logAt es) (clean-log (o .n) (o .f) es (subst₂ (λ x y. Clean x y es) (here es o .is-n) (here es o .is-f) c)))
 
-  quiet : Quiet ((after es) .shared .n) ((after es) .shared .f) (view (after es)) vlog
+  without-help : WithoutHelp ((after es) .shared .n) ((after es) .shared .f) (view (after es)) vlog
   unfolding vlog
-  quiet = subst₂ (λ x y. Quiet x y (view (after es)) vlog) (sym (here es o .is-n)) (sym (here es o .is-f)) (subst (λ (v : View). Quiet (o .n) (o .f) v vlog) (sym (here es o .shows))
-      (run-quiet (o .n) (o .f) (range es o .high) (range es o .low) (range es o .small) (o .post) (view b₀) [] (lock-inv (o .n) (o .f) (o .sized)) (λ x. lock-good (o .n) (o .f) (o .sized) (range es o .high)) (λ x. lock-quiet) clean-steps))
+  without-help = subst₂ (λ x y. WithoutHelp x y (view (after es)) vlog) (sym (here es o .is-n)) (sym (here es o .is-f)) (subst (λ (v : View). WithoutHelp (o .n) (o .f) v vlog) (sym (here es o .shows))
+      (run-without-help (o .n) (o .f) (range es o .high) (range es o .low) (range es o .small) (o .post) (view b₀) [] (lock-inv (o .n) (o .f) (o .sized)) (λ x. lock-good (o .n) (o .f) (o .sized) (range es o .high)) (λ x. lock-without-help) clean-steps))
 
   below : (after es) .shared .f < (after es) .shared .n
   below = let x : (after es) .shared .n ≡ o .n = here es o .is-n in let y : (after es) .shared .f ≡ o .f = here es o .is-f in let z : o .f < o .n = range es o .high in omega arith
@@ -178,7 +178,7 @@ module _ (es : List Event) (o : Opened es) (c : Clean ((after es) .shared .n) ((
   -- one outcome is enough
   delivered : HoldsSome es 1 → Delivered ((after es) .shared .n) ((after es) .shared .f) vlog
   unfolding view
-  delivered h = let w : Word (h .outcome) = word-of (h .outcome) (h .holds .some) in quiet .held 1 (w .move) (h .holds .shows ∙ w .is)
+  delivered h = let w : Word (h .outcome) = word-of (h .outcome) (h .holds .some) in without-help .held 1 (w .move) (h .holds .shows ∙ w .is)
 
 record Figures (b : Bench) : Type 0 where
   votes : messageCount b Vote ≡ b .shared .f * b .shared .n
@@ -190,7 +190,7 @@ figures : (es : List Event) → CleanEnd es → Figures (after es)
 figures es e = elim (start es) [
   | inl z ↦ subst Figures (sym z) none
   | inr o ↦
-      let q : Quiet ((after es) .shared .n) ((after es) .shared .f) (view (after es)) (vlog es o (e .clean)) = quiet es o (e .clean) in
+      let q : WithoutHelp ((after es) .shared .n) ((after es) .shared .f) (view (after es)) (vlog es o (e .clean)) = without-help es o (e .clean) in
       let l : (after es) .shared .f < (after es) .shared .n = below es o (e .clean) in
       let d : Delivered ((after es) .shared .n) ((after es) .shared .f) (vlog es o (e .clean)) = delivered es o (e .clean) (e .ended 1 (omega arith) (omega arith)) in
       let x : fn es ≤ messageCount (after es) Vote = votes-least-sent (after es) l _ q d in

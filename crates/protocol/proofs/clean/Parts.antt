@@ -213,10 +213,10 @@ module _ (n f : ℕ) where
       | inr x ↦ let p : (votedBy k (b .state .sent k) ≡ true) × (willBy k (b .state .sent k) ≡ w) = h k w t x in (g k .voted (p .0), g k .will (p .0) ∙ p .1)
     ]
 
-    tidy-quiet : (b b′ : View) (e : Event) (log : List Event) → NotTimeout e → KeptAll n f e b b′ → New n f e b b′ → Tidy b log → Tidy b′ (e ∷ log)
-    tidy-quiet b b′ e log nb t nw (inl a) = inl (A-step b b′ e log nb a t nw)
-    tidy-quiet b b′ e log nb t nw (inr (inl p)) = inr (inl (B-step b b′ e log p t nw (λ j q. absurd (subst NotTimeout q nb))))
-    tidy-quiet b b′ e log nb t nw (inr (inr p)) = inr (inr (C-step b b′ e log p t nw))
+    tidy-untimed : (b b′ : View) (e : Event) (log : List Event) → NotTimeout e → KeptAll n f e b b′ → New n f e b b′ → Tidy b log → Tidy b′ (e ∷ log)
+    tidy-untimed b b′ e log nb t nw (inl a) = inl (A-step b b′ e log nb a t nw)
+    tidy-untimed b b′ e log nb t nw (inr (inl p)) = inr (inl (B-step b b′ e log p t nw (λ j q. absurd (subst NotTimeout q nb))))
+    tidy-untimed b b′ e log nb t nw (inr (inr p)) = inr (inr (C-step b b′ e log p t nw))
 
     -- past the first timeout
     abbrev Late : View → List Event → Type 0
@@ -288,9 +288,9 @@ module _ (n f : ℕ) where
         | inr s ↦ let h : b .order < (performV n f b e) .order = s .order in let o : (performV n f b e) .order ≡ b .order = perform-order b e g in absurd (omega arith)
       ]
 
-      quiet-good : (b : View) (e : Event) (log : List Event) → Inv n f b → Goes n f e → NotTimeout e → accepts n f b e ≡ true → Good b log → Good (performV n f b e) (e ∷ log)
-      quiet-good b e log inv g nb q h = record {
-        tidy = tidy-quiet b (performV n f b e) e log nb (perform-tame n f small b e g q) (perform-new n f small b e inv q) (h .tidy);
+      untimed-good : (b : View) (e : Event) (log : List Event) → Inv n f b → Goes n f e → NotTimeout e → accepts n f b e ≡ true → Good b log → Good (performV n f b e) (e ∷ log)
+      untimed-good b e log inv g nb q h = record {
+        tidy = tidy-untimed b (performV n f b e) e log nb (perform-tame n f small b e g q) (perform-new n f small b e inv q) (h .tidy);
         told = told-step b (performV n f b e) e log (h .told) (perform-grows b e inv g q) (perform-new n f small b e inv q);
       }
 
@@ -304,13 +304,13 @@ module _ (n f : ℕ) where
       unfolding entered
       perform-good b (Lock a x) log inv q h c = unfold accepts firstNo in absurd (false≢true (ask-l _ _ _ (ask-r _ _ _ q)))
       perform-good b (Order o) log inv q h c = unfold performV in opened-good b o
-      perform-good b (Cast i w t) log inv q h c = quiet-good b _ log inv tt tt q (h (c .0))
-      perform-good b (Deliver i j k) log inv q h c = quiet-good b _ log inv tt tt q (h (c .0))
+      perform-good b (Cast i w t) log inv q h c = untimed-good b _ log inv tt tt q (h (c .0))
+      perform-good b (Deliver i j k) log inv q h c = untimed-good b _ log inv tt tt q (h (c .0))
       perform-good b (Timeout i) log inv q h c = timeout-good b i log inv (c .1) q (h (c .0))
-      perform-good b (Decide i w) log inv q h c = quiet-good b _ log inv tt tt q (h (c .0))
+      perform-good b (Decide i w) log inv q h c = untimed-good b _ log inv tt tt q (h (c .0))
       perform-good b (Stop i) log inv q h c = absurd (c .1)
-      perform-good b (Save i) log inv q h c = quiet-good b _ log inv tt tt q (h (c .0))
-      perform-good b (Restore i) log inv q h c = quiet-good b _ log inv tt tt q (h (c .0))
+      perform-good b (Save i) log inv q h c = untimed-good b _ log inv tt tt q (h (c .0))
+      perform-good b (Restore i) log inv q h c = untimed-good b _ log inv tt tt q (h (c .0))
 
       pub step-good : (b : View) (e : Event) (log : List Event) → Inv n f b → (Clean n f log → Good b log) → Clean n f (pushV n f b e log) → Good (stepV n f b e) (pushV n f b e log)
       unfolding stepV pushV

@@ -11,7 +11,7 @@ use Rattle.bench_run.specs.Tables.{outgoingFrom}
 use Rattle.bench_run.specs.Changes.{outgoingTo}
 use Rattle.bench_run.proofs.TableLaws.{unchanged, store, follows, one-row-64}
 use Rattle.bench_run.proofs.ChangeLaws.{changed}
-use Rattle.bench_run.proofs.ArrivalRows.{call-passed, call-kept, call-answered}
+use Rattle.bench_run.proofs.ArrivalRows.{call-passed-over, call-kept, call-answered}
 use borrow.Author.Needs.{needs}
 use Rattle.bench_run.proofs.arrivals.help_arrives.Statement.{statement}
 use Rattle.bench_run.proofs.arrivals.help_arrives.Tie as tie
@@ -24,7 +24,7 @@ has-requires c κs = search needs
 
 returns : tie.Need-returns
 returns c =
-    changed _ _ _ _ _ _ _ _ (c .before .before .before .before .pre) (unchanged 16 _ _) (unchanged 64 _ _) (call-passed _ _ _ (ap (λ (k : ℕ). has k (c .before .before .before .before .args .j)) (sym (c .before .before .word .ensures)) ∙ sym (c .before .has .ensures) ∙ c .if1 .taken))
+    changed _ _ _ _ _ _ _ _ (c .before .before .before .before .pre) (unchanged 16 _ _) (unchanged 64 _ _) (call-passed-over _ _ _ (ap (λ (k : ℕ). has k (c .before .before .before .before .args .j)) (sym (c .before .before .word .ensures)) ∙ sym (c .before .has .ensures) ∙ c .if1 .taken))
 
 set-at-requires : tie.Need-set-at-requires
 set-at-requires c κs = search needs

@@ -5,7 +5,7 @@ use borrow.Author.Tests.{lt-leb, le-leb}
 use Rattle.protocol.specs.Controllers.{phaseIn}
 use Rattle.bench_run.proofs.TableLaws.{unchanged}
 use Rattle.bench_run.proofs.ChangeLaws.{changed}
-use Rattle.bench_run.proofs.ArrivalRows.{vote-kept, vote-passed}
+use Rattle.bench_run.proofs.ArrivalRows.{vote-kept, vote-passed-over}
 use borrow.Author.Needs.{needs}
 use Rattle.bench_run.proofs.arrivals.vote_arrives.Statement.{statement}
 use Rattle.bench_run.proofs.arrivals.vote_arrives.Tie as tie
@@ -17,7 +17,7 @@ phase-in-requires : tie.Need-phase-in-requires
 phase-in-requires c κs = search needs
 
 returns : tie.Need-returns
-returns c = changed _ _ _ _ _ _ _ _ (c .before .before .before .pre) (unchanged 16 _ _) (unchanged 64 _ _) (vote-passed _ _ _ (ap (λ (k : ℕ). leb k 1) (sym (c .before .phase-in .ensures ∙ ap phaseIn (c .before .before .condition-at .ensures))) ∙ lt-leb _ _ (c .if1 .taken)))
+returns c = changed _ _ _ _ _ _ _ _ (c .before .before .before .pre) (unchanged 16 _ _) (unchanged 64 _ _) (vote-passed-over _ _ _ (ap (λ (k : ℕ). leb k 1) (sym (c .before .phase-in .ensures ∙ ap phaseIn (c .before .before .condition-at .ensures))) ∙ lt-leb _ _ (c .if1 .taken)))
 
 set-at-requires : tie.Need-set-at-requires
 set-at-requires c κs = search needs

@@ -40,7 +40,7 @@ use denote.Triple.Table.{entered, cited}
 use denote.Triple.Walked.{says, Stays, stay-none-slice, gave-slice, walkOf, goes-none-slice, goes-gave-slice, Walks, ends-at, walked, walk-meets}
 use denote.Exit.{yes}
 use denote.Triple.Clauses.{ensured, lasts}
-use Rattle.bench_run.specs.Runs.{Ran}
+use Rattle.bench_run.specs.Runs.{RunAsDefined}
 use Rattle.schedule_reader.specs.declared.Reader.{Reader}
 use Rattle.bench_run.specs.declared.RunResult.{RunResult}
 use Rattle.schedule_reader.proofs.Reader as T
@@ -112,7 +112,7 @@ module _ {M : Type 1} (𝓤 : URA M) (H : Heap 𝓤) (A : Atoms 𝓤) (W : Given
   vals = (v ∷ [], (w ∷ [], tt))
 
   abbrev Said : List ℕ → ℕ → RunResult → List ℕ → Type 0
-  Said t at r zs = Ran (drop at t) ys r zs
+  Said t at r zs = RunAsDefined (drop at t) ys r zs
 
   -- the struct's type as the callee has it, and as a local of a body has it
   abbrev B : RattleType
@@ -173,14 +173,14 @@ module _ {M : Type 1} (𝓤 : URA M) (H : Heap 𝓤) (A : Atoms 𝓤) (W : Given
       move ! (3 ∷ 0 ∷ []) $ fjoin ! $ move ! (3 ∷ []) $ split ! $ move ! (3 ∷ 1 ∷ []) $ join ! $ move ! (1 ∷ 0 ∷ []) $ join ! $
       use2 W (raw (Play 𝓤 H A mem run .pre (to-play r u))) (asked-play r u) $ frame ! $ done !
 
-  exits : (r : RunResult) (u : Val) (zs : List ℕ) → Ran (now s) ys r zs → length zs ≡ length ys → ent 𝓤 (⋆ 𝓤 H A (‵ (S.the-row .own r (u ∷ [])) ∷ (‵ (flft κ q) ⊛ ‵ (flft κ′ q′) ⊛ ‵ ftrue) ∷ ‵ Own ∷ ‵ (finally u8 γ zs) ∷ [])) (Post u)
+  exits : (r : RunResult) (u : Val) (zs : List ℕ) → RunAsDefined (now s) ys r zs → length zs ≡ length ys → ent 𝓤 (⋆ 𝓤 H A (‵ (S.the-row .own r (u ∷ [])) ∷ (‵ (flft κ q) ⊛ ‵ (flft κ′ q′) ⊛ ‵ ftrue) ∷ ‵ Own ∷ ‵ (finally u8 γ zs) ∷ [])) (Post u)
   exits r u zs e l =
       qed W (‵ (S.the-row .own r (u ∷ [])) ∷ (‵ (flft κ q) ⊛ ‵ (flft κ′ q′) ⊛ ‵ ftrue) ∷ ‵ Own ∷ ‵ (finally u8 γ zs) ∷ []) ∵
       suffices ! _ (ends-at 𝓤 H A whole-run.ended stayed (whole-run.clauses 𝓤 H A mem run) W ((κs, (q, (q′, tt)), tt, a, vals), tt) u r (tt, (zs, tt)) (tt, (l, tt))) $ says ! e $
       move ! (1 ∷ []) $ frame ! $ nothing ! $ move ! (3 ∷ 0 ∷ []) $ fjoin ! $ move ! (2 ∷ 0 ∷ []) $ fjoin ! $ frame ! $ done !
 
   -- what holds of the reader's slice and position holds of the schedule from its front
-  of-front : (d : Reader) → (d .src ≡ s) × (d .at ≡ front) → (r : RunResult) (zs : List ℕ) → Said (now (d .src)) (d .at) r zs → Ran (now s) ys r zs
+  of-front : (d : Reader) → (d .src ≡ s) × (d .at ≡ front) → (r : RunResult) (zs : List ℕ) → Said (now (d .src)) (d .at) r zs → RunAsDefined (now s) ys r zs
   of-front d e r zs p = subst (λ (t : RefT (List ℕ)). Said (now t) front r zs) (e .0) (subst (λ (n : ℕ). Said (now (d .src)) n r zs) (e .1) p)
 
   module _ (C : Calls 𝓤 H) (Λ : Loops 𝓤 H) (fm : FmC 𝓤 H (W .laws) C) (known-made : Triple 𝓤 (C #schedule-reader·reader-at) (Made 𝓤 H A mem run)) (known-play : Triple 𝓤 (C #bench-run·runs·run-reader) (Play 𝓤 H A mem run)) where

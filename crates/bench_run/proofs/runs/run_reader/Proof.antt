@@ -42,7 +42,7 @@ use denote.Triple.Table.{entered, cited}
 use denote.Triple.Walked.{says, Stays, stay-none, gave-slice, walkOf, goes-none, goes-gave-slice, Walks, ends-at, walked, walk-meets}
 use denote.Exit.{yes}
 use denote.Triple.Clauses.{ensured, lasts}
-use Rattle.bench_run.specs.Runs.{Ran}
+use Rattle.bench_run.specs.Runs.{RunAsDefined}
 use Rattle.schedule_reader.specs.declared.Reader.{Reader}
 use Rattle.bench_run.specs.declared.RunResult.{RunResult}
 use Rattle.schedule_reader.proofs.Reader as T
@@ -109,7 +109,7 @@ module _ {M : Type 1} (𝓤 : URA M) (H : Heap 𝓤) (A : Atoms 𝓤) (W : Given
   vals = (mach ∷ [], (w ∷ [], tt))
 
   abbrev Said : RunResult → List ℕ → Type 0
-  Said r zs = Ran (skip (d .at) (now (d .src))) ys r zs
+  Said r zs = RunAsDefined (skip (d .at) (now (d .src))) ys r zs
 
   abbrev Post : Val → SProp 𝓤
   Post = walkOf 𝓤 H A run-reader.ended stayed (run-reader.clauses 𝓤 H A mem run) .post ((κs, (q, (q′, tt)), tt, a, vals), tt)

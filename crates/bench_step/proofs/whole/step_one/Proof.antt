@@ -5,14 +5,14 @@ use Rattle.ground.specs.Limit.{limit}
 use Rattle.ground.specs.Lists.{put}
 use Rattle.protocol.specs.Events.{subject, source}
 use Rattle.bench_step.specs.Plays.{play}
-use Rattle.bench_step.proofs.Seen.{seen}
+use Rattle.bench_step.proofs.StationsRead.{stationRead}
 use Rattle.bench_step.proofs.StepLaws.{refuses, one-answer, one-first, one-past, one-within}
 use borrow.Author.Needs.{needs}
 use Rattle.bench_step.proofs.whole.step_one.Statement.{statement}
 use Rattle.bench_step.proofs.whole.step_one.Tie as tie
 
 -- the station is read as the laws say
-played : (c : tie.After-play) → c .play .result ≡ play (c .before .before .before .before .before .args .b .shared) (c .before .before .before .before .before .args .e) ((seen (c .before .before .before .before .before .args .b) (source (c .before .before .before .before .before .args .e))) .sent) (seen (c .before .before .before .before .before .args .b) (subject (c .before .before .before .before .before .args .e)))
+played : (c : tie.After-play) → c .play .result ≡ play (c .before .before .before .before .before .args .b .shared) (c .before .before .before .before .before .args .e) ((stationRead (c .before .before .before .before .before .args .b) (source (c .before .before .before .before .before .args .e))) .sent) (stationRead (c .before .before .before .before .before .args .b) (subject (c .before .before .before .before .before .args .e)))
 played c = rw (c .play .ensures, c .before .station-at2 .ensures, c .before .before .source .ensures, c .before .before .before .station-at .ensures, c .before .before .before .before .subject .ensures)
 
 sixteen : (s : tie.Start) → length (s .args .b .stations) ≡ limit
