@@ -1,5 +1,5 @@
 -- No output is longer than the program's buffer; and the output by the reply.
-use Prim.Native.Nat.{ℕ, _+_, _*_, _≤_, _<_}
+use Prim.Native.Nat.{ℕ, _*_, _≤_, _<_}
 use mathlib.Core.Path.{_≡_, refl, sym, _∙_, ap}
 use mathlib.Core.Bool.{true, not, _&&_}
 use mathlib.Core.List.{List, _++_}
@@ -51,13 +51,6 @@ all-fit s =
     by-cond (λ (l : List ℕ). length l ≤ longestOutput) (eqb (length s) 8) (outputFor (byte s 0) (byte s 1) (number2 s 2) (number4 s 4)) (refusal 1)
     (λ _. for-length (byte s 0) (byte s 1) (number2 s 2) (number4 s 4))
     (λ _. omega (arith, refusal-length 1))
-
--- a buffer of that length gets the whole output
-pub within-longest : (input out after : List ℕ) (r : ℕ) → length out ≡ longestOutput → r ≡ fittedLength (outputOf input) out → length after ≡ length out → r ≤ length after
-within-longest input out after r h e l =
-    let fits : length (outputOf input) ≤ longestOutput = all-fit input in
-    let w = fitted-whole (outputOf input) out (omega arith) in
-    omega (arith, w .0)
 
 -- the output by the reply: a refusal
 pub refused-output : (n f count start q : ℕ) → q ≡ number (refusalOf n f count start) → (q ≡ 0 → ⊥) → outputFor n f count start ≡ refusal q

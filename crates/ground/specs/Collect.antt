@@ -1,18 +1,16 @@
 -- Laws of `collect`, the set of those of 1..n that pass a test. It is exact as far as masks have bits.
 use Prim.Native.Nat.{ℕ, zero, suc, _^_, _≤_, _<_}
 use mathlib.Core.Path.{_≡_, refl, sym, _∙_}
-use mathlib.Core.Bool.{Bool, true, false, _&&_}
+use mathlib.Core.Bool.{Bool, false, _&&_}
 use native.Mathlib.Omega.{arith}
 use native.Mathlib.Decide.{decLe, ℕ-discrete}
 use lib.Pow.{pow-pos, pow-lt}
 use lib.Dec.{leb, ltb}
 use lib.Bits.{bitOr, or-lt}
-use borrow.Author.Tests.{lt-leb, ltb-true, le-leb, leb-true}
-use Rattle.ground.specs.Tests.{by-cond, and-l, and-r}
-use Rattle.ground.specs.Update.{fun-ext}
-use Rattle.ground.specs.Mask.{width, has, insert, noneAbove, collect}
+use borrow.Author.Tests.{lt-leb, ltb-true, le-leb}
+use Rattle.ground.specs.Tests.{by-cond}
+use Rattle.ground.specs.Mask.{width, has, insert, collect}
 use Rattle.ground.specs.MaskLaws.{has-none, insert-own, insert-other}
-use Rattle.ground.specs.Inclusion.{le-none-above}
 
 has-zero : (m : ℕ) → has m 0 ≡ false
 unfolding has
@@ -48,16 +46,6 @@ has-collect n p (suc k) w = elim (decLe (suc k) n) [
   | yes h ↦ rw (collect-at n p (suc k) (omega arith) (omega arith) h, le-leb 1 (suc k) (omega arith), le-leb (suc k) n h)
   | no h ↦ rw (collect-past n p (suc k) (omega arith), le-leb 1 (suc k) (omega arith), lt-leb (suc k) n (omega arith))
 ]
-
--- the same as functions of the number
-pub collect-is : (n : ℕ) (p : ℕ → Bool) → n ≤ width → has (collect n p) ≡ (λ k. leb 1 k && leb k n && p k)
-collect-is n p w = fun-ext (has (collect n p)) (λ k. leb 1 k && leb k n && p k) (λ k. has-collect n p k w)
-
--- it has no bit above n
-pub collect-none-above : (n : ℕ) (p : ℕ → Bool) → n ≤ width → noneAbove n (collect n p) ≡ true
-collect-none-above n p w =
-    le-none-above n (collect n p) (λ k e.
-    leb-true k n (and-r (leb 1 k) (leb k n) (and-l (leb 1 k && leb k n) (p k) (sym (has-collect n p k w) ∙ e))))
 
 -- a set with one more is a mask still
 pub insert-fits : (m i : ℕ) → m < 2 ^ width → insert m i < 2 ^ width

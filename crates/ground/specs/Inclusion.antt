@@ -1,5 +1,5 @@
 -- Laws of masks, for any n: sets with the same members are equal; which sets are within another, or within 1..n.
-use Prim.Native.Nat.{ℕ, zero, suc, _+_, _*_, _^_, _/_, _%_, _-_, _≤_, _<_}
+use Prim.Native.Nat.{ℕ, zero, suc, _+_, _*_, _^_, _/_, _%_, _≤_, _<_}
 use mathlib.Core.Path.{_≡_, refl, sym, _∙_, ap}
 use mathlib.Core.Bool.{Bool, true, false, _||_, true≢false, false≢true}
 use native.Mathlib.Omega.{arith}
@@ -7,13 +7,13 @@ use native.Mathlib.Decide.{decLe}
 use native.Mathlib.Nat.{div-eq-of-lt, div-lt-iff-lt-mul, mod-eq-of-lt, lt-of-lt-of-le, pow-suc, zero-add, suc-add}
 use lib.Pow.{pow-pos, pow-mono}
 use lib.Dec.{eqb}
-use lib.Bits.{bitOr, or-lt}
-use borrow.Author.Tests.{ltb-true, lt-ltb, eqb-false, eqb-true, eq-eqb}
-use mathlib.Core.Logic.{_⊎_, inl, inr}
+use lib.Bits.{bitOr}
+use borrow.Author.Tests.{lt-ltb, eqb-false, eqb-true, eq-eqb}
+use mathlib.Core.Logic.{inl, inr}
 use Rattle.ground.specs.Tests.{split, no-both, refuted, or-l}
 use Rattle.ground.specs.Quantify.{anyTo, all-at, any-at, any-of, Found}
-use Rattle.ground.specs.Mask.{has, insert, fullTo, noneAbove, within}
-use Rattle.ground.specs.MaskLaws.{low-suc, has-or, has-none, insert-only, full-is}
+use Rattle.ground.specs.Mask.{has, fullTo, noneAbove, within}
+use Rattle.ground.specs.MaskLaws.{low-suc, has-or, has-none, full-is}
 
 -- bits that no member has ---------------------------------------------------------
 
@@ -34,14 +34,6 @@ full-past w n m h l = elim (split (fullTo n m)) [
 pub none-above-past : (w n m : ℕ) → m < 2 ^ w → w ≤ n → noneAbove n m ≡ true
 unfolding noneAbove
 none-above-past w n m h l = lt-ltb m (2 ^ n) (lt-of-lt-of-le h (pow-mono {i = w} {j = n} l))
-
--- "No bit above n": every member is at most n
-pub none-above-le : (n m : ℕ) → noneAbove n m ≡ true → (k : ℕ) → has m k ≡ true → k ≤ n
-unfolding noneAbove
-none-above-le n m a k e = elim (decLe k n) [
-  | yes h ↦ h
-  | no h ↦ absurd (no-both (has m k) e (has-past n m k (ltb-true m (2 ^ n) a) (omega arith)))
-]
 
 -- without its highest bit a number is below the next power of 2
 drop-top : (n m : ℕ) → m < 2 ^ suc n → has m (suc n) ≡ false → m < 2 ^ n
@@ -139,22 +131,3 @@ within-has a b w k e = ap (λ (m : ℕ). has m k) (sym (eqb-true (bitOr a b) b w
 pub has-within : (a b : ℕ) → ((k : ℕ) → has a k ≡ true → has b k ≡ true) → within a b ≡ true
 unfolding within
 has-within a b h = eq-eqb (bitOr a b) b (same-set (bitOr a b) b (λ k. has-or a b k ∙ or-absorbs (has a k) (has b k) (h k)))
-
--- no bit above n ----------------------------------------------------------------------
-
--- a union has none if neither part has
-pub or-none-above : (n a b : ℕ) → noneAbove n a ≡ true → noneAbove n b ≡ true → noneAbove n (bitOr a b) ≡ true
-unfolding noneAbove
-or-none-above n a b p q = lt-ltb (bitOr a b) (2 ^ n) (or-lt n a b (ltb-true a (2 ^ n) p) (ltb-true b (2 ^ n) q))
-
--- a set within one that has none has none
-pub within-none-above : (n a b : ℕ) → within a b ≡ true → noneAbove n b ≡ true → noneAbove n a ≡ true
-within-none-above n a b w p = le-none-above n a (λ k e. none-above-le n b p k (within-has a b w k e))
-
--- to put one of 1..n in makes none
-pub insert-none-above : (n m i : ℕ) → i ≤ n → noneAbove n m ≡ true → noneAbove n (insert m i) ≡ true
-insert-none-above n m i h p = le-none-above n (insert m i) (λ k e. low k (insert-only m i k e))
-  where
-    low : (k : ℕ) → (k ≡ i) ⊎ (has m k ≡ true) → k ≤ n
-    low k (inl q) = omega arith
-    low k (inr q) = none-above-le n m p k q

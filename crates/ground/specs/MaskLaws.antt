@@ -105,10 +105,6 @@ unfolding has
 has-xor a b zero = refl
 has-xor a b (suc k) = rw (xor-shr a b k, low-xor (a / 2 ^ k) (b / 2 ^ k)) (xor-test (a / 2 ^ k % 2) (b / 2 ^ k % 2) (omega arith) (omega arith))
 
--- the same as functions of the number
-pub or-is : (a b : ℕ) → has (bitOr a b) ≡ (λ k. has a k || has b k)
-or-is a b = fun-ext (has (bitOr a b)) (λ k. has a k || has b k) (has-or a b)
-
 -- nobody is in 0
 pub has-none : (k : ℕ) → has 0 k ≡ false
 unfolding has

@@ -1,11 +1,11 @@
 -- "Every", "some" and "how many" of the controllers 1 to m, as tests and counts that compute.
 use Prim.Native.Nat.{ℕ, zero, suc, _+_, _≤_, _<_}
-use mathlib.Core.Path.{_≡_, refl, sym, _∙_}
+use mathlib.Core.Path.{_≡_, refl}
 use mathlib.Core.Bool.{Bool, true, false, not, _&&_, _||_, cond, true≢false, false≢true}
 use native.Mathlib.Omega.{arith}
 use native.Mathlib.Decide.{decLe, ℕ-discrete}
 use mathlib.Core.Logic.{inl, inr}
-use Rattle.ground.specs.Tests.{split, no-both, and-l, and-r, and-i, or-e, or-l, or-r, same-test}
+use Rattle.ground.specs.Tests.{split, and-l, and-r, and-i, or-e, or-l, or-r}
 
 -- every k of 1..m passes; some k of 1..m passes; how many do
 unfoldable pub allTo : ℕ → (ℕ → Bool) → Bool
@@ -63,41 +63,6 @@ not-all (suc m) p e = elim (split (p (suc m))) [
   | inl h ↦ let r : Found m (λ k. not (p k)) = not-all m p (rw h at e) in record { at = r .at; low = r .low; high = omega arith; holds = r .holds }
   | inr h ↦ record { at = suc m; low = omega arith; high = omega arith; holds = rw h }
 ]
-
--- some, where one more place passes
-pub any-new : (m : ℕ) (p q : ℕ → Bool) (j : ℕ) → 1 ≤ j → j ≤ m → p j ≡ false → ((i : ℕ) → (i ≡ j → ⊥) → q i ≡ p i) → anyTo m q ≡ (anyTo m p || q j)
-any-new m p q j a b e h = same-test (anyTo m q) (anyTo m p || q j) there back
-  where
-    there : anyTo m q ≡ true → (anyTo m p || q j) ≡ true
-    there t = let r : Found m q = any-at m q t in elim (ℕ-discrete (r .at) j) [
-      | yes z ↦ or-r (anyTo m p) (q j) (rw z at (r .holds))
-      | no z ↦ or-l (anyTo m p) (q j) (any-of m p (r .at) (r .low) (r .high) (sym (h (r .at) z) ∙ r .holds))
-    ]
-
-    old : (r : Found m p) → anyTo m q ≡ true
-    old r = any-of m q (r .at) (r .low) (r .high) (h (r .at) (λ z. no-both (p j) (rw z at (r .holds)) e) ∙ r .holds)
-
-    back : (anyTo m p || q j) ≡ true → anyTo m q ≡ true
-    back t = elim (or-e (anyTo m p) (q j) t) [
-      | inl z ↦ old (any-at m p z)
-      | inr z ↦ any-of m q j a b z
-    ]
-
-either-more : (p q t b c : Bool) → ((p || q) && t || (b || c)) ≡ (p && t || b || (q && t || c))
-either-more true q true b c = refl
-either-more true true false b c = refl
-either-more true false false b c = refl
-either-more false true true true c = refl
-either-more false true true false c = refl
-either-more false true false b c = refl
-either-more false false t b c = refl
-
--- some of those that pass one test or another
-pub any-either : (m : ℕ) (p q t : ℕ → Bool) → anyTo m (λ j. (p j || q j) && t j) ≡ (anyTo m (λ j. p j && t j) || anyTo m (λ j. q j && t j))
-unfolding anyTo
-any-either zero p q t = refl
-any-either (suc m) p q t =
-    rw (any-either m p q t) (either-more (p (suc m)) (q (suc m)) (t (suc m)) (anyTo m (λ j. p j && t j)) (anyTo m (λ j. q j && t j)))
 
 -- a set within f+1..m of at least m − f members has them all
 pub count-le : (m : ℕ) (p : ℕ → Bool) → countTo m p ≤ m

@@ -1,21 +1,20 @@
 -- How many of 1..n are in a set: laws of `countTo n (has m)`, for any n.
 use Prim.Native.Nat.{ℕ, zero, suc, _+_, _^_, _/_, _%_, _≤_, _<_}
 use mathlib.Core.Path.{_≡_, refl, sym, _∙_, ap}
-use mathlib.Core.Bool.{Bool, true, false, _||_, cond, false≢true, or-false}
+use mathlib.Core.Bool.{Bool, true, false, _||_, cond, or-false}
 use native.Mathlib.Omega.{arith}
 use native.Mathlib.Decide.{ℕ-discrete}
-use native.Mathlib.Nat.{mod-lt, mod-le, lt-of-le-of-lt}
+use native.Mathlib.Nat.{mod-lt}
 use lib.Pow.{pow-pos}
-use lib.Count.{ones, ones-cat, ones-le}
+use lib.Count.{ones, ones-cat}
 use lib.Dec.{eqb}
 use mathlib.Core.Logic.{inl, inr}
-use borrow.Author.Tests.{eqb-true, ne-eqb, eq-eqb}
-use Rattle.ground.specs.Tests.{split, same-test}
-use Rattle.ground.specs.Quantify.{allTo, all-at, all-of, countTo, count-le, count-all}
+use borrow.Author.Tests.{ne-eqb}
+use Rattle.ground.specs.Tests.{split}
+use Rattle.ground.specs.Quantify.{countTo, count-le}
 use Rattle.ground.specs.Update.{upd, upd-same, upd-other}
-use Rattle.ground.specs.Mask.{width, has, insert, fullTo, within}
-use Rattle.ground.specs.MaskLaws.{low-suc, insert-is, full-is}
-use Rattle.ground.specs.Inclusion.{within-has}
+use Rattle.ground.specs.Mask.{width, has, insert}
+use Rattle.ground.specs.MaskLaws.{low-suc, insert-is}
 
 -- counts ---------------------------------------------------------------------------
 
@@ -94,27 +93,6 @@ size-ones zero m = let e : m % 2 ^ 0 ≡ 0 = omega arith in rw e
 size-ones (suc n) m =
     rw (low-suc m n, ones-cat n (m / 2 ^ n % 2) (m % 2 ^ n) (mod-lt m (pow-pos n)), ones-bit (m / 2 ^ n % 2) (omega arith), ← size-ones n m)
 
--- and no more than a mask has bits
-pub size-fits : (n m : ℕ) → m < 2 ^ width → countTo n (has m) ≤ width
-size-fits n m h = rw size-ones (ones-le width (m % 2 ^ n) (lt-of-le-of-lt (mod-le m (2 ^ n)) h))
-
 -- a new member makes the set larger by one
 pub insert-size : (n m i : ℕ) → 1 ≤ i → i ≤ n → i ≤ width → has m i ≡ false → countTo n (has (insert m i)) ≡ suc (countTo n (has m))
 insert-size n m i a b w e = ap (countTo n) (insert-is m i a w) ∙ count-new n (has m) i a b e
-
--- a set within another is no larger
-pub within-size : (n a b : ℕ) → within a b ≡ true → countTo n (has a) ≤ countTo n (has b)
-within-size n a b w = count-mono n (has a) (has b) (within-has a b w)
-
-has-pos : (m k : ℕ) → has m k ≡ true → 0 < k
-unfolding has
-has-pos m zero e = absurd (false≢true e)
-has-pos m (suc k) e = omega arith
-
--- all of 1..n are in the set exactly if n of them are
-pub full-size : (n m : ℕ) → fullTo n m ≡ eqb (countTo n (has m)) n
-full-size n m =
-    rw full-is (same-test (allTo n (has m)) (eqb (countTo n (has m)) n)
-    (λ e. eq-eqb (countTo n (has m)) n (all-count n (has m) (all-at n (has m) e)))
-    (λ e. let q : countTo n (has m) ≡ n = eqb-true (countTo n (has m)) n e in
-    all-of n (has m) (λ k a b. count-all n 0 (has m) (has-pos m) (omega arith) k a b)))

@@ -188,9 +188,6 @@ noting (Standby x) o = Standby (orElse x o)
 abbrev pub movesIn : Condition → Outcome → Bool
 movesIn k o = isRunning k && isNone (outcomeIn k) && isMove o
 
-abbrev pub moves : Controller → Outcome → Bool
-moves c o = movesIn (c .condition) o
-
 abbrev pub landing : Condition → Outcome → Gate → ℕ
 landing k o g = cond (movesIn k o) (g .target) (g .position)
 

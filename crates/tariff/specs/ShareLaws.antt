@@ -1,5 +1,5 @@
 -- What is worked out is the smallest number of pence that is at least the exact share; and the two shares make up the charge.
-use Prim.Native.Nat.{ℕ, zero, suc, _+_, _*_, _/_, _-_, _≤_, _<_}
+use Prim.Native.Nat.{ℕ, suc, _+_, _*_, _-_, _≤_}
 use mathlib.Core.Path.{_≡_}
 use native.Mathlib.Nat.{lt-div-mul-add, div-lt-iff-lt-mul, suc-mul}
 use native.Mathlib.Omega.{arith}
@@ -13,12 +13,6 @@ module _ (num den amount : ℕ) (d : 1 ≤ den) where
 -- what equals the worked out number is the smallest
 pub is-smallest : {num den amount pence : ℕ} → 1 ≤ den → pence ≡ roundedUp num den amount → SmallestAtLeast num den amount pence
 is-smallest {num} {den} {amount} {pence} d e = rw e (rounded-up num den amount d)
-
-pub half-up : (c : ℕ) → SmallestAtLeast 1 2 c (halfUp c)
-half-up c = rounded-up 1 2 c (omega arith)
-
-pub three-fifths-up : (c : ℕ) → SmallestAtLeast 3 5 c (upperShare c)
-three-fifths-up c = rounded-up 3 5 c (omega arith)
 
 -- no share is above the amount
 pub half-most : (c : ℕ) → halfUp c ≤ c

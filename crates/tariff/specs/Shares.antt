@@ -6,8 +6,7 @@ pub record SmallestAtLeast (num den amount pence : ℕ) : Type 0 where
   pub enough : num * amount ≤ pence * den
   pub smallest : (p : ℕ) → num * amount ≤ p * den → pence ≤ p
 
--- the same as it is worked out: that it is the smallest at least the exact share is `half-up` and `three-fifths-up`, and `rounded-up` for any
--- fraction (ShareLaws)
+-- the same as it is worked out: that it is the smallest at least the exact share is `rounded-up` (ShareLaws), for any fraction
 unfoldable pub roundedUp : ℕ → ℕ → ℕ → ℕ
 roundedUp num den amount = (num * amount + (den - 1)) / den
 

@@ -178,9 +178,6 @@ module _ (b : Bench) (a : Sound b) (h : Ranged b) (i : ℕ) where
   abbrev f : ℕ
   f = b .shared .f
 
-  abbrev L : ℕ → Sent
-  L k = sentBy b k
-
   abbrev l : Sent
   l = sentBy b i
 

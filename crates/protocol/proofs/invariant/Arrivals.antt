@@ -41,7 +41,7 @@ use Rattle.protocol.proofs.view.RuleCases.{vote-cases, ack-cases, helpe
 use Rattle.protocol.proofs.view.View.{View, savedOrder, savedOutcome}
 use Rattle.protocol.proofs.view.Performed.{identityV}
 use Rattle.protocol.proofs.invariant.Words.{none-word}
-use Rattle.protocol.proofs.invariant.Invariant.{votedBy, willBy, ackOn, ackedBy, helpOn, frozenBy, Truthful, SentSound, Grown, Grows, OutcomeGrounds, Own, HeldAck, HeldSound, Inv}
+use Rattle.protocol.proofs.invariant.Invariant.{votedBy, ackOn, ackedBy, helpOn, frozenBy, Truthful, SentSound, Grown, Grows, OutcomeGrounds, Own, HeldAck, HeldSound, Inv}
 use Rattle.protocol.proofs.invariant.Growth.{sent-mono, ctl-mono}
 use Rattle.protocol.proofs.invariant.TrueVotes.{empty-ok, vote-ok, joined-is, joined-ok}
 use Rattle.protocol.proofs.invariant.Commit.{Fits, grows-upd, becomes-fits, passed-over-fits}
@@ -290,13 +290,6 @@ module _ (n f : ℕ) (small : n ≤ limit) (b : View) (inv : Inv n f b) (i : ℕ
 
     own-voted : votedBy i lv ≡ true
     own-voted = single-knows i w i lo (omega arith) ∙ eqb-same i
-
-    and-yes : (x y : Bool) → y ≡ true → (x && y) ≡ x
-    and-yes true y e = e
-    and-yes false y e = refl
-
-    pub own-will : willBy i lv ≡ w
-    own-will = single-wills i w i lo (omega arith) ∙ and-yes w (eqb i i) (eqb-same i)
 
     vote-grown : Grown i l lv
     vote-grown = record { voted = λ e. own-voted; will = λ e. absurd (no-both (votedBy i l) e (inv .owns i .phased .fresh0 r st)); acked = λ e. e; ack = λ e. refl; helped = λ e. e; help = λ e. refl; calls = λ k e. e }
