@@ -51,7 +51,7 @@ pub fn is_backup(f: u8, k: u8) -> bool
 }
 
 // Is k the controller f + 1? That number need not fit a u8.
-pub fn is_second_backup(f: u8, k: u8) -> bool
+pub(crate) fn is_second_backup(f: u8, k: u8) -> bool
     ensures { λ r. ⌜ r ≡ isSecondBackup f k ⌝ }
 {
     k as u16 == f as u16 + 1

@@ -1,9 +1,9 @@
 // A line of output, made byte by byte. The longest has 70 bytes; what does not fit is left out.
 ghost use Prim.Native.Nat.{_≤_};
 
-pub struct Line {
-    pub text: [u8; 80],
-    pub used: usize,
+pub(crate) struct Line {
+    pub(crate) text: [u8; 80],
+    pub(crate) used: usize,
 }
 
 pub(crate) fn begin(first: u8) -> Line {

@@ -1,6 +1,5 @@
 // Vote sets (document 01: sheets).
 ghost use mathlib.Core.Path.{_≡_};
-ghost use Rattle.ground.specs.Limit.{limit};
 ghost use Rattle.votes.specs.VoteSets.{empty, single, complete, unanimous};
 ghost use Rattle.votes.specs.Joining.{contradicts, join, joinAll, agreedOr};
 ghost use Rattle.votes.specs.Contradictions.{Contradictions};
@@ -114,7 +113,7 @@ pub fn unanimous(s: VoteSet, n: u8) -> bool
 }
 
 // The join of the vote sets of those senders of 1..m that are in a set, or that two of them contradict each other. Only as many as the limit have a vote set.
-pub fn join_all(m: u8, from: u32, sets: [VoteSet; LIMIT]) -> Joined
+pub(crate) fn join_all(m: u8, from: u32, sets: [VoteSet; LIMIT]) -> Joined
     ensures { λ r. ⌜ r ≡ joinAll m from sets ⌝ }
 {
     let mut joined = empty_set();
