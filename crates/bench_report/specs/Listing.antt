@@ -7,8 +7,6 @@ use lib.ListN.{replicate}
 use Rattle.ground.specs.Limit.{limit}
 use Rattle.text.specs.Text.{ascii, digits, decimal, signed, lines}
 use Rattle.model.specs.declared.Outcome.the-variants.{None, Stay, Move}
-use Rattle.bench_report.specs.declared.Row.{Row}
-use Rattle.bench_report.specs.declared.Summary.{Summary}
 use Rattle.bench_report.specs.Lines.{blankRow, reportOf}
 
 -- a text given by its lines

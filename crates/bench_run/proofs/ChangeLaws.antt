@@ -14,7 +14,7 @@ use Rattle.ground.specs.Update.{upd, upd-same, upd-other, fun-ext}
 use Rattle.protocol.specs.declared.Station.{Station}
 use Rattle.protocol.specs.declared.Shared.{Shared}
 use Rattle.protocol.specs.declared.Effect.{Effect}
-use Rattle.bench_run.specs.Tables.{tabulate, rows, byteRows, wordRows, stationFrom, stationsOf}
+use Rattle.bench_run.specs.Tables.{tabulate, byteRows, wordRows, stationFrom, stationsOf}
 use Rattle.bench_run.specs.Changes.{At, stationsIn, stationIn, Sized, Changed, Left}
 
 -- a list by its indices, with one element changed; one of its elements

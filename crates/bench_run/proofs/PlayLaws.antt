@@ -6,7 +6,6 @@ use mathlib.Core.List.{List, []}
 use mathlib.Core.Logic.{inl, inr}
 use native.Mathlib.Omega.{arith}
 use lib.Dec.{eqb, leb}
-use lib.ListN.{set}
 use Rattle.ground.specs.Limit.{limit}
 use Rattle.ground.specs.Tests.{split}
 use Rattle.records.specs.Codes.{flagOf}

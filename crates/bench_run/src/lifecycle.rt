@@ -55,7 +55,6 @@ ghost use Rattle.ground.specs.Limit.{limit};
 ghost use Rattle.ground.specs.Update.{upd};
 ghost use Rattle.records.specs.Codes.{outcomeOf};
 ghost use Rattle.model.specs.declared.Outcome.the-variants.{None};
-ghost use Rattle.protocol.specs.declared.Condition.the-variants.{Stopped};
 ghost use Rattle.protocol.specs.Controllers.{isPresent, isStopped, cleared};
 ghost use Rattle.protocol.specs.Calls.{awaitsDecision, decide, stop, save};
 ghost use Rattle.protocol.specs.Benches.{identity};

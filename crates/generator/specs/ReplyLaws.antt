@@ -2,15 +2,14 @@
 use Prim.Native.Nat.{ℕ, _*_, _≤_, _<_}
 use mathlib.Core.Path.{_≡_, refl, sym, _∙_}
 use mathlib.Core.Bool.{true, _&&_}
-use mathlib.Core.List.{List, [], _∷_, _++_}
+use mathlib.Core.List.{List}
 use native.Mathlib.Omega.{arith}
 use lib.Dec.{leb, ltb}
 use lib.ListN.{length}
 use borrow.Author.Tests.{eq-eqb, ne-eqb, leb-true}
-use mathlib.Core.Logic.{inl, inr}
-use Rattle.ground.specs.Tests.{split, and-l}
+use Rattle.ground.specs.Tests.{and-l}
 use Rattle.ground.specs.Limit.{limit}
-use Rattle.model.specs.Questions.{accepted, refused, number, Question, unless, firstNo}
+use Rattle.model.specs.Questions.{accepted, refused, number, unless, firstNo}
 use Rattle.model.specs.QuestionLaws.{all-yes, reply-accepted, reply-refused, first-accepted, first-refused}
 use Rattle.model.specs.Ranges.{sizesInRange}
 use Rattle.event_record.specs.Events.{eventLength}

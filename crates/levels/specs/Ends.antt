@@ -1,7 +1,7 @@
 -- The answer from the ends of the ranges alone. That it is the right one is `ends-decide`.
-use mathlib.Core.Bool.{cond, _&&_, _||_}
+use mathlib.Core.Bool.{cond, _||_}
 use lib.IntN.{ℤ}
-use lib.Signed.{leZ, ltZ}
+use lib.Signed.{ltZ}
 use Rattle.model.specs.Questions.{Reply, accepted, refused, firstNo}
 use Rattle.levels.specs.declared.Range.{Range}
 use Rattle.levels.specs.declared.Willingness.{Willingness}

@@ -1,8 +1,7 @@
 -- The ends of the ranges decide: the answer that they give is right, and no other is.
-use Prim.Native.Nat.{_+_, _≤_}
 use mathlib.Core.Path.{_≡_, refl, sym, _∙_, subst}
 use mathlib.Core.Bool.{Bool, true, false, false≢true, cond, _&&_, _||_}
-use lib.Signed.{leZ, ltZ}
+use lib.Signed.{ltZ}
 use mathlib.Core.Logic.{inl, inr}
 use Rattle.ground.specs.Tests.{no-both, refuted, and-l, and-r, or-e, or-l, or-r, by-cond}
 use Rattle.model.specs.Questions.{Reply, accepted, refused, firstNo}

@@ -8,7 +8,7 @@ use Rattle.model.specs.Positions.{millimetres}
 use Rattle.levels.specs.declared.Range.{Range}
 use Rattle.levels.specs.declared.heights.Heights.{Heights}
 use Rattle.levels.specs.declared.Willingness.{Willingness}
-use Rattle.levels.specs.declared.Willingness.the-variants.{Willing, CertainlyUnwilling, Unsure, Refused}
+use Rattle.levels.specs.declared.Willingness.the-variants.{Willing, CertainlyUnwilling, Unsure}
 use Rattle.levels.specs.Judged.{isLevel}
 
 -- the height of a level: it tells whether the level is in range, and if it is, the level is that height − 100,000

@@ -1,10 +1,7 @@
 -- What the ends of two ranges say of every pair of levels within them.
-use Prim.Native.Nat.{_+_, _≤_, _<_}
-use mathlib.Core.Path.{_≡_}
-use mathlib.Core.Bool.{true, false}
 use native.Mathlib.Omega.{arith}
 use lib.IntN.{ℤ}
-use lib.Signed.{leZ, ltZ, _≤ℤ_}
+use lib.Signed.{leZ, ltZ}
 use mathlib.Core.Logic.{inl, inr}
 use Rattle.ground.specs.Tests.{split}
 use Rattle.levels.specs.declared.Range.{Range}

@@ -3,7 +3,6 @@ use crate::Range;
 use std::num::wrapping_add_u32;
 ghost use mathlib.Core.Path.{_≡_};
 ghost use mathlib.Core.Bool.{_&&_};
-ghost use lib.Dec.{leb};
 ghost use Rattle.levels.specs.Heights.{Raised, RaisedRange, bothListed};
 
 // What is added to a level, and the height of the highest.

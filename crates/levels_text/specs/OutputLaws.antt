@@ -1,11 +1,10 @@
 -- The words are those of the right answer, and the program's buffer holds them.
-use Prim.Native.Nat.{ℕ, _+_, _≤_}
-use mathlib.Core.Path.{_≡_, refl, sym, _∙_, ap}
-use mathlib.Core.List.{List, _++_}
+use Prim.Native.Nat.{ℕ, _≤_}
+use mathlib.Core.Path.{_≡_, ap}
+use mathlib.Core.List.{List}
 use native.Mathlib.Omega.{arith}
 use borrow.Author.Tests.{eq-eqb}
 use lib.ListN.{length}
-use Rattle.text.specs.Text.{ascii, refusal}
 use Rattle.text.specs.Lengths.{refusal-length}
 use Rattle.levels.specs.declared.Willingness.{Willingness}
 use Rattle.levels.specs.declared.Willingness.the-variants.{Willing, CertainlyUnwilling, Unsure, Refused}

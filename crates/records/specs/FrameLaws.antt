@@ -1,8 +1,8 @@
 -- Reading and writing by frames is reading and writing by the description: what each way out of a reader returns, and what a writer leaves.
 use Prim.Native.Nat.{ℕ}
 use mathlib.Core.Path.{_≡_, refl, sym, _∙_, ap}
-use mathlib.Core.Bool.{Bool, true, false}
-use mathlib.Core.List.{List, [], _∷_, _++_}
+use mathlib.Core.Bool.{true, false}
+use mathlib.Core.List.{List, _∷_, _++_}
 use mathlib.Core.Logic.{_⊎_, inl, inr}
 use borrow.Author.Tests.{eqb-true, eqb-false}
 use lib.Dec.{eqb}
@@ -10,7 +10,6 @@ use lib.ListN.{length}
 use Rattle.ground.specs.Tests.{split}
 use Rattle.model.specs.Questions.{Reply, accepted, refused, number, Question, ask, unless, firstNo}
 use Rattle.model.specs.QuestionLaws.{all-yes, first-accepted, first-refused, numbered, reply-accepted, reply-refused}
-use Rattle.records.specs.Bytes.{number2}
 use Rattle.records.specs.Codec.{Mark, marked, markQuestion, Codec, recordLength, fieldsOn, valueOn, bytesOf, readQuestions, returned, reads, writeReply, written, writes}
 use Rattle.records.specs.Frames.{frameQuestions, writeNumber, bufferAfter}
 

@@ -1,5 +1,5 @@
 -- Laws of writers: nothing written, one byte, one text after another, lines; and a text that fits its buffer or does not.
-use Prim.Native.Nat.{ℕ, suc, _+_, _-_, _^_, _≤_, _<_, min}
+use Prim.Native.Nat.{ℕ, suc, _+_, _≤_, _<_, min}
 use mathlib.Core.Bool.{true, false}
 use mathlib.Core.List.{List, [], _∷_, _++_}
 use mathlib.Core.Logic.{_⊎_, inl, inr}
@@ -9,7 +9,7 @@ use native.Mathlib.Numerals.{add-one}
 use native.Mathlib.Omega.{arith}
 use borrow.Author.Tests.{le-leb, lt-leb, leb-true, leb-false}
 use lib.Dec.{leb}
-use lib.ListN.{length, set, take, drop, length-append, length-set, length-drop, replicate, length-replicate}
+use lib.ListN.{length, set, take, drop, length-append, length-drop, replicate, length-replicate}
 use lib.Seq.{sets, sets-eq, set-out, length-sets, length-take-le, take-append-seam}
 use Rattle.ground.specs.Tests.{by-cond, split}
 use Rattle.text.specs.Text.{lines}

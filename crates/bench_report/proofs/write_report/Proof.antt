@@ -1,5 +1,4 @@
 -- `bench_report::write_report` meets its contract, at each of its returns.
-use native.Mathlib.Omega.{arith}
 use native.Mathlib.Nat.{le-trans}
 use borrow.Author.Needs.{needs}
 use Rattle.bench_report.specs.Room.{report-length}

@@ -1,6 +1,6 @@
 -- The clean order as the statement has it gives the stepwise form that the proof uses: through the log, "before the order's first accepted bell" and
 -- "before the first of its second bells" become: at each timeout the votes are in, and at each second timeout the acknowledgements are in.
-use Prim.Native.Nat.{ℕ, suc, _+_}
+use Prim.Native.Nat.{ℕ, suc}
 use mathlib.Core.Path.{_≡_, refl, sym, _∙_, ap, subst}
 use mathlib.Core.List.{List, [], _∷_, _++_}
 use native.Mathlib.Decide.{decLe, ℕ-discrete}

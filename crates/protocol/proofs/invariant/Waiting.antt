@@ -12,7 +12,6 @@ use Rattle.ground.specs.Mask.{has}
 use Rattle.ground.specs.Update.{upd}
 use Rattle.votes.specs.VoteSets.{knows, wills, union, unionAll, unanimous}
 use Rattle.votes.specs.Joining.{joinNext, unanimousIn, agreedOr}
-use Rattle.votes.specs.declared.VoteSet.{VoteSet}
 use Rattle.votes.specs.declared.Joined.{Joined}
 use Rattle.votes.specs.declared.Joined.the-variants.{Agreed}
 use Rattle.votes.specs.VoteLaws.{all-unanimous}

@@ -1,5 +1,5 @@
 -- `bench_report::lines::put_controllers` meets its contract. The invariant: the lines of the first i controllers are written.
-use Prim.Native.Nat.{suc, _≤_, _*_, _-_}
+use Prim.Native.Nat.{suc, _≤_, _-_}
 use native.Mathlib.Numerals.{add-one}
 use native.Mathlib.Omega.{arith}
 use lib.ListN.{getD}

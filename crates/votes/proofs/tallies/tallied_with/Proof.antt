@@ -1,10 +1,6 @@
 use borrow.Author.Needs.{needs}
 use Rattle.votes.proofs.tallies.tallied_with.Statement.{statement}
 use Rattle.votes.proofs.tallies.tallied_with.Tie as tie
-use Rattle.votes.proofs.tallies.tallied_with.Reads as reads
-use Rattle.votes.proofs.tallies.tallied_with.Lts as lts
-use Rattle.votes.proofs.agreed_or.Reads as agreed-or-reads
-use Rattle.votes.proofs.join.Reads as join-reads
 
 -- src/tallies.rt:61:26
 enum-known-t : tie.Need-enum-known-t
