@@ -10,18 +10,19 @@ use lib.Seq.{take-at}
 use Rattle.ground.specs.Tests.{by-cond}
 use Rattle.text.specs.Writing.{fittedLength}
 use Rattle.text.specs.WritingLaws.{fitted-whole}
+use Rattle.model.specs.declared.Event.{Event}
 use Rattle.protocol.specs.Benches.{newBench}
 use Rattle.protocol.specs.Steps.{run}
+use Rattle.protocol.proofs.claim.Reach.{controllers-limit}
 use Rattle.bench_run.specs.Schedule.{count, events}
 use Rattle.bench_run.specs.Runs.{answers, hasRoom, runOf, answered}
 use Rattle.bench_run.proofs.Records.{length-answers}
 use Rattle.bench_report.specs.declared.Summary.{Summary}
-use Rattle.bench_report.specs.Limits.{longestSchedule, mostAnswers, isTooLong, longestOutput}
+use Rattle.bench_report.specs.Limits.{longestSchedule, mostAnswers, isTooLong, longestReport, longestOutput}
 use Rattle.bench_report.specs.Lines.{reportOf}
 use Rattle.bench_report.specs.Report.{tooLong, reported}
-use Rattle.bench_report.specs.Room.{report-some}
+use Rattle.bench_report.specs.Room.{report-length, report-some}
 use Rattle.bench_output.specs.Summary.{summaryOf}
-use Rattle.bench_output.specs.Room.{report-limit}
 use Rattle.bench_output.specs.Output.{outputOf}
 use Rattle.bench_output.specs.AlwaysPrints.{AlwaysPrints}
 
@@ -67,7 +68,13 @@ pub is-too-long : (s : List ℕ) → isTooLong (length s) ≡ true → outputOf 
 unfolding outputOf
 is-too-long s h = rw h
 
--- how long they are
+-- how long they are: no list of events leaves a bench with more controllers than a lock may have
+report-limit : (answers : List ℕ) (es : List Event) → length answers ≤ mostAnswers → length (reportOf answers (summaryOf (run newBench es))) ≤ longestOutput
+unfolding summaryOf
+report-limit answers es h =
+    let r : length (reportOf answers (summaryOf (run newBench es))) ≤ longestReport (length answers) ((run newBench es) .shared .n) = report-length answers (summaryOf (run newBench es)) in
+    omega (arith, controllers-limit es)
+
 longest : (s : List ℕ) → length (outputOf s) ≤ longestOutput
 unfolding outputOf
 longest s =

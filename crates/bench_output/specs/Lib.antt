@@ -1,6 +1,5 @@
--- what the report shows of a bench, and how long the report can be
+-- what the report shows of a bench
 pub mod Summary
-pub mod Room
 -- what is printed, and that it always is
 pub mod Output
 pub mod AlwaysPrints

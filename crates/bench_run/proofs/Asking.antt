@@ -5,11 +5,11 @@ use mathlib.Core.Bool.{Bool, true, false, not, _&&_, false≢true}
 use mathlib.Core.List.{List, _∷_}
 use mathlib.Core.Logic.{inl, inr}
 use native.Mathlib.Omega.{arith}
-use lib.Dec.{eqb, leb}
-use borrow.Author.Tests.{leb-true, le-leb}
+use lib.Dec.{eqb}
 use Rattle.ground.specs.Limit.{limit}
-use Rattle.ground.specs.Tests.{no-both, refuted, split, and-l, and-r, and-i}
+use Rattle.ground.specs.Tests.{no-both, refuted, split, and-l, and-r}
 use Rattle.model.specs.QuestionLaws.{AllYes}
+use Rattle.model.specs.RangeLaws.{numbered, is-numbered}
 use Rattle.model.specs.Ranges.{isController, differentControllers}
 use Rattle.model.specs.declared.Event.{Event}
 use Rattle.model.specs.declared.Event.the-variants.{Lock, Order, Cast, Deliver, Timeout, Decide, Stop, Save, Restore}
@@ -20,17 +20,13 @@ use Rattle.protocol.specs.Benches.{station, sentBy}
 use Rattle.protocol.specs.Events.{concernsOne, subject, source}
 use Rattle.protocol.specs.Questions.{refused, Question, ask, unless, firstNo, questionsOf, factsOf}
 
--- what the test of a number tells
-pub record Numbered (k : ℕ) : Type 0 where
+-- a controller's number has a seat
+pub record Seated (k : ℕ) : Type 0 where
   pub low : 1 ≤ k
   pub high : k ≤ limit
 
-numbered : (n k : ℕ) → n ≤ limit → isController n k ≡ true → Numbered k
-unfolding isController
-numbered n k h e =
-    let l : 1 ≤ k = leb-true 1 k (and-l (leb 1 k) (leb k n) e) in
-    let r : k ≤ n = leb-true k n (and-r (leb 1 k) (leb k n) e) in
-    record { low = l; high = omega arith }
+has-seat : (n k : ℕ) → n ≤ limit → isController n k ≡ true → Seated k
+has-seat n k h e = let r = numbered n k e in record { low = r .low; high = omega (arith, r .high) }
 
 -- refused by 5 or by 7, whatever is asked after
 far : (l c : Bool) (rest : List Question) → c ≡ false → firstNo (ask 5 l ∷ ask 7 c ∷ rest) ≡ unless 5 l (refused 7)
@@ -42,10 +38,9 @@ alike l c these those e = far l c these e ∙ sym (far l c those e)
 
 module _ (n : ℕ) (few : n ≤ limit) where
   no-seat : (i : ℕ) → isController limit i ≡ false → isController n i ≡ false
-  unfolding isController
   no-seat i h = refuted (isController n i) (λ e.
-      let k = numbered n i few e in
-      no-both (isController limit i) (and-i (leb 1 i) (leb i limit) (le-leb 1 i (k .low)) (le-leb i limit (k .high))) h)
+      let k = has-seat n i few e in
+      no-both (isController limit i) (is-numbered limit i (k .low) (k .high)) h)
 
   no-sender : (i j : ℕ) → isController limit i ≡ false → differentControllers n i j ≡ false
   no-sender i j h = rw (no-seat i h)
@@ -61,7 +56,7 @@ Seat b i s = 1 ≤ i → i ≤ limit → s ≡ station b i
 module _ (b : Bench) (few : b .shared .n ≤ limit) (own other : Station) (may : Bool) where
   -- of an event of one controller, where subject and source are one
   seated : (i : ℕ) → Seat b i own → Seat b i other → isController limit i ≡ true → (own ≡ station b i) × (other ≡ station b i)
-  seated i o p y = let k = numbered limit i (omega arith) y in (o (k .low) (k .high), p (k .low) (k .high))
+  seated i o p y = let k = numbered limit i y in (o (k .low) (k .high), p (k .low) (k .high))
 
   pub same-questions : (e : Event) → Seat b (subject e) own → Seat b (source e) other
       → firstNo (questionsOf (factsOf (b .shared) e own (other .sent) may true) e) ≡ firstNo (questionsOf (factsOf (b .shared) e (station b (subject e)) (sentBy b (source e)) may true) e)
@@ -74,8 +69,8 @@ module _ (b : Bench) (few : b .shared .n ≤ limit) (own other : Station) (may :
   same-questions (Deliver i j k) o p = elim (split (isController limit i)) [
     | inl x ↦ elim (split (isController limit j)) [
       | inl y ↦
-          let s = numbered limit i (omega arith) x in
-          let r = numbered limit j (omega arith) y in
+          let s = numbered limit i x in
+          let r = numbered limit j y in
           rw (o (r .low) (r .high), p (s .low) (s .high))
       | inr n ↦ alike _ _ _ _ (no-receiver (b .shared .n) few i j n)
     ]
@@ -104,21 +99,21 @@ module _ (b : Bench) (few : b .shared .n ≤ limit) (own other : Station) (may :
 
 -- once all are answered "yes", subject and source have stations
 pub record Stationed (e : Event) : Type 0 where
-  pub of-subject : Numbered (subject e)
-  pub of-source : Numbered (source e)
+  pub of-subject : Seated (subject e)
+  pub of-source : Seated (source e)
 
 pub stationed : (v : Facts) (e : Event) → v .shared .n ≤ limit → concernsOne e ≡ true → AllYes (questionsOf v e) → Stationed e
 stationed v (Lock n f) few o y = absurd (false≢true o)
 stationed v (Order k) few o y = absurd (false≢true o)
-stationed v (Cast i w t) few o y = let k = numbered (v .shared .n) i few (y .1 .0) in record { of-subject = k; of-source = k }
+stationed v (Cast i w t) few o y = let k = has-seat (v .shared .n) i few (y .1 .0) in record { of-subject = k; of-source = k }
 stationed v (Deliver i j k) few o y =
     let both = and-l (isController (v .shared .n) i && isController (v .shared .n) j) (not (eqb i j)) (y .1 .0) in
     record {
-      of-subject = numbered (v .shared .n) j few (and-r (isController (v .shared .n) i) (isController (v .shared .n) j) both);
-      of-source = numbered (v .shared .n) i few (and-l (isController (v .shared .n) i) (isController (v .shared .n) j) both);
+      of-subject = has-seat (v .shared .n) j few (and-r (isController (v .shared .n) i) (isController (v .shared .n) j) both);
+      of-source = has-seat (v .shared .n) i few (and-l (isController (v .shared .n) i) (isController (v .shared .n) j) both);
     }
-stationed v (Timeout i) few o y = let k = numbered (v .shared .n) i few (y .1 .0) in record { of-subject = k; of-source = k }
-stationed v (Decide i w) few o y = let k = numbered (v .shared .n) i few (y .1 .0) in record { of-subject = k; of-source = k }
-stationed v (Stop i) few o y = let k = numbered (v .shared .n) i few (y .1 .0) in record { of-subject = k; of-source = k }
-stationed v (Save i) few o y = let k = numbered (v .shared .n) i few (y .1 .0) in record { of-subject = k; of-source = k }
-stationed v (Restore i) few o y = let k = numbered (v .shared .n) i few (y .1 .0) in record { of-subject = k; of-source = k }
+stationed v (Timeout i) few o y = let k = has-seat (v .shared .n) i few (y .1 .0) in record { of-subject = k; of-source = k }
+stationed v (Decide i w) few o y = let k = has-seat (v .shared .n) i few (y .1 .0) in record { of-subject = k; of-source = k }
+stationed v (Stop i) few o y = let k = has-seat (v .shared .n) i few (y .1 .0) in record { of-subject = k; of-source = k }
+stationed v (Save i) few o y = let k = has-seat (v .shared .n) i few (y .1 .0) in record { of-subject = k; of-source = k }
+stationed v (Restore i) few o y = let k = has-seat (v .shared .n) i few (y .1 .0) in record { of-subject = k; of-source = k }

@@ -1,18 +1,18 @@
 -- On every bench that a list of events leads to, a station that is no controller's of the lock has just begun; a new order leaves it so.
 use Prim.Native.Nat.{ℕ, zero, suc, _-_, _≤_}
 use mathlib.Core.Path.{_≡_, refl, sym, ap, subst, _∙_}
-use mathlib.Core.Bool.{Bool, true, false, not, _&&_, false≢true}
+use mathlib.Core.Bool.{Bool, true, false, not, _&&_}
 use mathlib.Core.List.{List, [], _∷_, map}
 use native.Mathlib.Omega.{arith}
-use lib.Dec.{eqb, leb}
+use lib.Dec.{eqb}
 use lib.ListN.{getD, replicate, List·getD-map}
 use lib.Seq.{getD-set-other}
-use borrow.Author.Tests.{leb-true}
 use Rattle.ground.specs.Limit.{limit}
 use Rattle.ground.specs.Tests.{by-cond, and-l, and-r}
 use Rattle.ground.specs.Lists.{put}
 use Rattle.votes.specs.VoteSets.{empty}
-use Rattle.model.specs.QuestionLaws.{AllYes, all-yes}
+use Rattle.model.specs.RangeLaws.{numbered}
+use Rattle.model.specs.QuestionLaws.{is-accepted, AllYes, all-yes}
 use Rattle.model.specs.Ranges.{isController}
 use Rattle.model.specs.declared.Event.{Event}
 use Rattle.model.specs.declared.Event.the-variants.{Lock, Order, Cast, Deliver, Timeout, Decide, Stop, Save, Restore}
@@ -23,7 +23,7 @@ use Rattle.protocol.specs.Controllers.{cleared}
 use Rattle.protocol.specs.Calls.{renew}
 use Rattle.protocol.specs.Benches.{fresh, freshStation, benchOf, newBench, station, sentBy}
 use Rattle.protocol.specs.Events.{subject, source}
-use Rattle.protocol.specs.Questions.{Reply, accepted, refused, isAccepted, questions, reply}
+use Rattle.protocol.specs.Questions.{accepted, isAccepted, questions, reply}
 use Rattle.protocol.specs.Steps.{renewed, orderOpened, proposedTo, decidedAs, answering, effectOf, effect, performOne, perform, step, run}
 use Rattle.bench_run.specs.Changes.{mapFirst}
 use Rattle.bench_run.proofs.Firsts.{first-enough}
@@ -54,12 +54,11 @@ abbrev effectAt : Bench → Event → Effect
 effectAt b e = effect (b .shared) e (sentBy b (source e)) (station b (subject e))
 
 one-idle : (b : Bench) (e : Event) → isController (b .shared .n) (subject e) ≡ true → (effectAt b e) .shared .n ≡ b .shared .n → Idle b → Idle (performOne b e)
-unfolding put isController
+unfolding put
 one-idle b e y q h k p =
-    let l : 1 ≤ subject e = leb-true 1 (subject e) (and-l (leb 1 (subject e)) (leb (subject e) (b .shared .n)) y) in
-    let r : subject e ≤ b .shared .n = leb-true (subject e) (b .shared .n) (and-r (leb 1 (subject e)) (leb (subject e) (b .shared .n)) y) in
+    let s = numbered (b .shared .n) (subject e) y in
     let at : b .shared .n ≤ k = subst (λ (n : ℕ). n ≤ k) q p in
-    getD-set-other (b .stations) (subject e - 1) k ((effectAt b e) .station) begun (λ x. omega (arith, l, r, at, x)) ∙ h k at
+    getD-set-other (b .stations) (subject e - 1) k ((effectAt b e) .station) begun (λ x. omega (arith, s .low, s .high, at, x)) ∙ h k at
 
 perform-idle : (b : Bench) (e : Event) → AllYes (questions b e) → Idle b → Idle (perform b e)
 unfolding perform orderOpened effectOf answering proposedTo decidedAs
@@ -74,10 +73,6 @@ perform-idle b (Decide i w) y h = one-idle b (Decide i w) (y .1 .0) refl h
 perform-idle b (Stop i) y h = one-idle b (Stop i) (y .1 .0) refl h
 perform-idle b (Save i) y h = one-idle b (Save i) (y .1 .0) refl h
 perform-idle b (Restore i) y h = one-idle b (Restore i) (y .1 .0) refl h
-
-is-accepted : (r : Reply) → isAccepted r ≡ true → r ≡ accepted
-is-accepted accepted e = refl
-is-accepted (refused q) e = absurd (false≢true e)
 
 step-idle : (b : Bench) (e : Event) → Idle b → Idle (step b e)
 unfolding step reply

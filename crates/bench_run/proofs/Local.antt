@@ -4,12 +4,11 @@ use mathlib.Core.Path.{_≡_, refl, sym, ap, subst, _∙_}
 use mathlib.Core.Bool.{true, false, _&&_, false≢true, true≢false}
 use mathlib.Core.List.{List, [], map}
 use mathlib.Core.Logic.{inl, inr}
-use native.Mathlib.Omega.{arith}
-use lib.Dec.{leb, ltb}
+use lib.Dec.{leb}
 use lib.ListN.{getD, set}
-use borrow.Author.Tests.{leb-true, not-true}
+use borrow.Author.Tests.{not-true}
 use Rattle.ground.specs.Limit.{limit}
-use Rattle.ground.specs.Tests.{and-l, and-r, and-i}
+use Rattle.ground.specs.Tests.{and-i}
 use Rattle.ground.specs.Lists.{put, nth-at}
 use Rattle.model.specs.QuestionLaws.{AllYes, all-yes, reply-accepted}
 use Rattle.model.specs.Ranges.{sizesInRange, isController}
@@ -25,7 +24,7 @@ use Rattle.protocol.specs.Events.{concernsOne, subject as subjectOf, source as 
 use Rattle.protocol.specs.Questions.{number, reply, firstNo, questionsOf, mayOpen, factsOf}
 use Rattle.protocol.specs.Steps.{renewed, orderOpened, perform, step, run}
 use Rattle.protocol.specs.NoContradiction.{untestedReply, untestedPerform}
-use Rattle.protocol.proofs.claim.Reach.{Reached, reached}
+use Rattle.protocol.proofs.claim.Reach.{Reached, reached, controllers-limit}
 use Rattle.bench_state.proofs.Replies.{all-numbered, step-refused}
 use Rattle.bench_run.proofs.Untested.{untestedEffect, same-reply, accepted-step, performs}
 use Rattle.bench_run.proofs.Asking.{Seat, same-questions, stationed}
@@ -45,13 +44,7 @@ module _ (b : Bench) (es : List Event) (here : b ≡ run newBench es) where
   reached-here = subst Reached (sym here) (reached es)
 
   pub few : b .shared .n ≤ limit
-  few = elim reached-here [
-    | inl z ↦ subst (λ (x : Bench). x .shared .n ≤ limit) (sym z) (unfold benchOf in omega arith)
-    | inr a ↦ small (b .shared .n) (b .shared .f) (a .sized)
-  ]
-    where
-      small : (n f : ℕ) → sizesInRange n f ≡ true → n ≤ limit
-      small n f e = unfold sizesInRange in leb-true n limit (and-r (leb 2 n) (leb n limit) (and-l (leb 2 n && leb n limit) (leb 1 f) (and-l (leb 2 n && leb n limit && leb 1 f) (ltb f n) e)))
+  few = subst (λ (x : Bench). x .shared .n ≤ limit) (sym here) (controllers-limit es)
 
   unlocked-new : b .shared .locked ≡ false → b ≡ newBench
   unlocked-new u = elim reached-here [

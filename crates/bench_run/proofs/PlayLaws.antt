@@ -41,7 +41,7 @@ use Rattle.bench_run.proofs.Asking.{Stationed, stationed}
 use Rattle.bench_run.proofs.Local.{benchWith, seat-of, Asked, replied, untouched, yes-to-all, done, few, order-opened, lock-set}
 
 -- the place of a number, as the code finds it
-abbrev pub PlaceOf : ℕ → ℕ → Type 0
+abbrev PlaceOf : ℕ → ℕ → Type 0
 PlaceOf i at = (at < limit) × (1 ≤ i → i ≤ limit → at ≡ i - 1)
 
 -- what is known once the questions of an event of one controller are all answered "yes"
@@ -140,7 +140,7 @@ vote-leaves m s v = elim (split (leb (phase (s .controller)) 1)) [
   | inr n ↦ rw (n, shared-stays m (s .controller .condition))
 ]
 
-pub help-leaves : (m : Shared) (s : Station) (j : ℕ) → record { shared = m; station = stationAfter s (helpArrives j (s .controller)) } ≡ answering m s (helpArrives j (s .controller))
+help-leaves : (m : Shared) (s : Station) (j : ℕ) → record { shared = m; station = stationAfter s (helpArrives j (s .controller)) } ≡ answering m s (helpArrives j (s .controller))
 unfolding answering stationAfter sentAfter helpArrives keepsCall answersCall becomes passedOver addCaller
 help-leaves m s j = elim (split (hasCalled (s .controller) j)) [
   | inl y ↦ rw (y, shared-stays m (s .controller .condition))

@@ -54,7 +54,7 @@ more-answered s out k a b r h e p q =
 
 -- where a run stands after k of all its records: within them, with room for their answers
 pub record Within (s out₀ : List ℕ) (all k : ℕ) (out : List ℕ) : Type 0 where
-  pub upto : k ≤ all
+  upto : k ≤ all
   pub whole : all ≡ count s
   pub room : all ≤ length out₀
   pub long : length out ≡ length out₀

@@ -15,7 +15,7 @@ use Rattle.bench_run.specs.Tables.{rows}
 use Rattle.bench_run.specs.Changes.{At}
 
 -- two places of a table are the same only in one row
-abbrev pub OneRow : ℕ → Type 0
+abbrev OneRow : ℕ → Type 0
 OneRow width = (i k j c : ℕ) → j < width → c < width → i * width + j ≡ k * width + c → i ≡ k
 
 pub one-row-16 : OneRow 16
@@ -39,7 +39,7 @@ module _ (width : ℕ) (one : OneRow width) (l : List ℕ) (at c v : ℕ) (room 
     | inr z ↦ rw z
   ]
 
-  pub stored : rows width (set l (at * width + c) v) ≡ upd (rows width l) at (upd (rows width l at) c v)
+  stored : rows width (set l (at * width + c) v) ≡ upd (rows width l) at (upd (rows width l at) c v)
   stored = fun-ext _ _ (λ i. elim (split (eqb i at)) [
     | inl e ↦ rw (eqb-true i at e, upd-same (rows width l) at (upd (rows width l at) c v)) (fun-ext _ _ same-row)
     | inr n ↦ rw (upd-other (rows width l) at (upd (rows width l at) c v) i n) (fun-ext _ _ (other-row i n))

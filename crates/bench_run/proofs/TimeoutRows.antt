@@ -150,7 +150,7 @@ unfolding stationFrom controllerFrom concluding
 concluding-help b w i o d m e h = rw (e, h)
 
 -- an answer's word put and its station; the counts follow
-abbrev pub putting : Shared → Station → Answer → Effect
+abbrev putting : Shared → Station → Answer → Effect
 putting m s a = record { shared = proposedTo m (a .proposal); station = stationAfter s a }
 
 pub put-counted : (b w b′ w′ : List ℕ) (at : ℕ) (m next r : Shared) (a : Answer) (before after : Condition) → at < limit → Left b w b′ w′ at (putting m (stationIn b w at) a) next

@@ -52,7 +52,7 @@ unfolding verdict answersJoin controllerFrom
 helped-word b w n h = rw h
 
 -- it has put a word
-pub proposal-put : (b w : ℕ → ℕ) (o : Outcome) → stationFrom (upd (upd b 5 0) 6 (outcomeNumber o)) w ≡ withController (stationFrom b w) (propose (controllerFrom b w) o)
+proposal-put : (b w : ℕ → ℕ) (o : Outcome) → stationFrom (upd (upd b 5 0) 6 (outcomeNumber o)) w ≡ withController (stationFrom b w) (propose (controllerFrom b w) o)
 unfolding stationFrom controllerFrom upd propose
 proposal-put b w o = rw (outcome-of-number o)
 

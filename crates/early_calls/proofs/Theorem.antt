@@ -9,6 +9,7 @@ use borrow.Author.Tests.{leb-true}
 use Rattle.ground.specs.Tests.{split, by-cond, and-l, and-r, and-i, or-e, no-both}
 use Rattle.ground.specs.Mask.{has}
 use Rattle.model.specs.Ranges.{isController}
+use Rattle.model.specs.RangeLaws.{ranges}
 use Rattle.model.specs.QuestionLaws.{all-yes}
 use Rattle.model.specs.declared.Kind.the-variants.{Vote, Ack, Help, Helped}
 use Rattle.model.specs.declared.Event.{Event}
@@ -28,7 +29,7 @@ use Rattle.protocol.specs.Reach.{messageAt}
 use Rattle.protocol.specs.Claim.{after}
 use Rattle.protocol.proofs.view.View.{View, accepts, ask-l, ask-r}
 use Rattle.protocol.proofs.view.Performed.{stepV}
-use Rattle.protocol.proofs.view.Simulation.{view, Sound, Runs, ranges, Steps, reply-untested, reply-sim, step-steps, step-sim}
+use Rattle.protocol.proofs.view.Simulation.{view, Sound, Runs, Steps, reply-untested, reply-sim, step-steps, step-sim}
 use Rattle.protocol.proofs.claim.Start.{unlocked, idle, freshes, lock-sound}
 use Rattle.protocol.proofs.claim.Reach.{Reached, JustLocked, new-step, reached}
 use Rattle.protocol.proofs.claim.Reached.{reach}

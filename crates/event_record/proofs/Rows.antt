@@ -17,7 +17,7 @@ unfolding rowFor rows
 at-row x k e l v = rw e (l, v)
 
 -- what a match knows after the arms 0 to m - 1
-abbrev pub NoneOf : ℕ → ℕ → Type 0
+abbrev NoneOf : ℕ → ℕ → Type 0
 NoneOf zero k = Unit
 NoneOf (suc m) k = NoneOf m k × (k ≡ m → ⊥)
 

@@ -48,7 +48,7 @@ has-collect n p (suc k) w = elim (decLe (suc k) n) [
 ]
 
 -- a set with one more is a mask still
-pub insert-fits : (m i : ℕ) → m < 2 ^ width → insert m i < 2 ^ width
+insert-fits : (m i : ℕ) → m < 2 ^ width → insert m i < 2 ^ width
 unfolding insert
 insert-fits m zero h = h
 insert-fits m (suc i) h =

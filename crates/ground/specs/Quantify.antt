@@ -73,7 +73,7 @@ count-le (suc m) p = let h : countTo m p ≤ m = count-le m p in elim (split (p 
   | inr e ↦ rw e (omega arith)
 ]
 
-pub count-low : (m f : ℕ) (p : ℕ → Bool) → ((k : ℕ) → p k ≡ true → f < k) → m ≤ f → countTo m p ≡ 0
+count-low : (m f : ℕ) (p : ℕ → Bool) → ((k : ℕ) → p k ≡ true → f < k) → m ≤ f → countTo m p ≡ 0
 unfolding countTo
 count-low zero f p h l = refl
 count-low (suc m) f p h l = let z : countTo m p ≡ 0 = count-low m f p h (omega arith) in elim (split (p (suc m))) [
@@ -82,7 +82,7 @@ count-low (suc m) f p h l = let z : countTo m p ≡ 0 = count-low m f p h (omega
 ]
 
 -- at most m - f members
-pub count-high : (m f : ℕ) (p : ℕ → Bool) → ((k : ℕ) → p k ≡ true → f < k) → f ≤ m → countTo m p + f ≤ m
+count-high : (m f : ℕ) (p : ℕ → Bool) → ((k : ℕ) → p k ≡ true → f < k) → f ≤ m → countTo m p + f ≤ m
 unfolding countTo
 count-high zero f p h l = omega arith
 count-high (suc m) f p h l = elim (decLe f m) [

@@ -16,7 +16,7 @@ use Rattle.ground.specs.Inclusion.{has-past, same-set}
 use Rattle.ground.specs.Collect.{collect-past, collect-at, collect-fits}
 
 -- masks with the same members are equal
-pub same-mask : (a b : ℕ) → a < 2 ^ width → b < 2 ^ width → ((k : ℕ) → 1 ≤ k → k ≤ width → has a k ≡ has b k) → a ≡ b
+same-mask : (a b : ℕ) → a < 2 ^ width → b < 2 ^ width → ((k : ℕ) → 1 ≤ k → k ≤ width → has a k ≡ has b k) → a ≡ b
 same-mask a b p q h = same-set a b each
   where
     each : (k : ℕ) → has a k ≡ has b k
@@ -27,7 +27,7 @@ same-mask a b p q h = same-set a b each
     ]
 
 -- who is in the set of those of 1..n that pass, for any n
-pub collect-low : (n : ℕ) (p : ℕ → Bool) (k : ℕ) → 1 ≤ k → k ≤ width → has (collect n p) k ≡ (leb k n && p k)
+collect-low : (n : ℕ) (p : ℕ → Bool) (k : ℕ) → 1 ≤ k → k ≤ width → has (collect n p) k ≡ (leb k n && p k)
 collect-low n p k a w = elim (decLe k n) [
   | yes h ↦ rw (collect-at n p k w a h, le-leb k n h)
   | no h ↦ rw (collect-past n p k (omega arith), lt-leb k n (omega arith))
@@ -57,7 +57,7 @@ unfolding upTo
 has-up-to n k a w = collect-low n (λ k. true) k a w ∙ and-true (leb k n)
 
 -- it is a mask
-pub up-to-fits : (n : ℕ) → upTo n < 2 ^ width
+up-to-fits : (n : ℕ) → upTo n < 2 ^ width
 unfolding upTo
 up-to-fits n = collect-fits n (λ k. true)
 

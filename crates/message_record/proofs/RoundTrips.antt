@@ -4,8 +4,8 @@ use mathlib.Core.Path.{_≡_, refl, sym, _∙_}
 use mathlib.Core.Bool.{true, _&&_}
 use mathlib.Core.List.{List, [], _∷_}
 use native.Mathlib.Omega.{arith}
-use borrow.Author.Tests.{ltb-true, eqb-true, leb-true}
-use lib.Dec.{leb, ltb}
+use borrow.Author.Tests.{ltb-true, eqb-true}
+use lib.Dec.{ltb}
 use lib.ListN.{getD, length}
 use lib.Pow.{pow-mono}
 use Rattle.ground.specs.Limit.{limit}
@@ -13,6 +13,7 @@ use Rattle.ground.specs.Mask.{noneAbove}
 use Rattle.ground.specs.Tests.{and-l, and-r, and-i}
 use Rattle.model.specs.Numbers.{kindNumber}
 use Rattle.model.specs.QuestionLaws.{AllYes}
+use Rattle.model.specs.RangeLaws.{ranges}
 use Rattle.model.specs.Ranges.{sizesInRange}
 use Rattle.model.specs.declared.Message.{Message}
 use Rattle.records.specs.ByteLaws.{spread}
@@ -23,11 +24,6 @@ use Rattle.records.specs.Promises.{In32Bits, Promises}
 use Rattle.message_record.specs.Messages.{bitsInRange, willingKnown, knowsForKind, suits, aboutMessage, messages}
 
 -- a set with no bit above n, which is at most 16, fits two bytes
-limited : (n f : ℕ) → sizesInRange n f ≡ true → n ≤ limit
-unfolding sizesInRange
-limited n f t =
-    leb-true n limit (and-r (leb 2 n) (leb n limit) (and-l (leb 2 n && leb n limit) (leb 1 f) (and-l (leb 2 n && leb n limit && leb 1 f) (ltb f n) t)))
-
 two-bytes : (n k : ℕ) → n ≤ limit → noneAbove n k ≡ true → k < 65536
 unfolding noneAbove
 two-bytes n k h t = let below : k < 2 ^ n = ltb-true k (2 ^ n) t in let most : 2 ^ n ≤ 2 ^ 16 = pow-mono {i = n} {j = 16} h in omega arith
@@ -35,7 +31,7 @@ two-bytes n k h t = let below : k < 2 ^ n = ltb-true k (2 ^ n) t in let most : 2
 both-fit : (m : Message) → sizesInRange (m .n) (m .f) ≡ true → suits m ≡ true → (m .votes .known < 65536) × (m .votes .willing < 65536)
 unfolding suits bitsInRange
 both-fit m z t =
-    let h : m .n ≤ limit = limited (m .n) (m .f) z in
+    let h : m .n ≤ limit = ranges (m .n) (m .f) z .small in
     let known : ℕ = m .votes .known in
     let willing : ℕ = m .votes .willing in
     let bits : bitsInRange m ≡ true =

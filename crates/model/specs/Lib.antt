@@ -1,4 +1,5 @@
 pub mod Ranges
+pub mod RangeLaws
 pub mod Positions
 pub mod PositionLaws
 pub mod Routes

@@ -1,13 +1,17 @@
 -- Laws of questions: accepted is "yes" to each, and the number tells the reply.
 use Prim.Native.Nat.{ℕ, zero, suc}
 use mathlib.Core.Path.{_≡_, refl, sym, _∙_, ap}
-use mathlib.Core.Bool.{Bool, true, _&&_}
+use mathlib.Core.Bool.{Bool, true, _&&_, false≢true}
 use mathlib.Core.List.{List, [], _∷_, _++_}
 use native.Mathlib.Omega.{arith}
 use lib.Dec.{ltb}
 use mathlib.Core.Logic.{inl, inr}
 use Rattle.ground.specs.Tests.{split, and-l, and-r}
-use Rattle.model.specs.Questions.{Reply, accepted, refused, number, Question, unless, firstNo}
+use Rattle.model.specs.Questions.{Reply, accepted, refused, number, isAccepted, Question, unless, firstNo}
+
+pub is-accepted : (r : Reply) → isAccepted r ≡ true → r ≡ accepted
+is-accepted accepted e = refl
+is-accepted (refused q) e = absurd (false≢true e)
 
 -- each question is answered "yes"
 abbrev pub AllYes : List Question → Type 0

@@ -42,7 +42,7 @@ of-four a b c d p q r s =
     ap (λ (l : List ℕ). l ++ bytes2 (x * 65536 + y)) front ∙ ap (λ (l : List ℕ). (a ∷ b ∷ []) ++ l) back
 
 -- the elements of a list, from a place on
-abbrev pub places : ℕ → ℕ → List ℕ → List ℕ
+abbrev places : ℕ → ℕ → List ℕ → List ℕ
 places zero i s = []
 places (suc n) i s = byte s i ∷ places n (suc i) s
 

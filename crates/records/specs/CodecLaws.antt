@@ -102,7 +102,7 @@ count-of-numbers [] s at = refl
 count-of-numbers (w ∷ ws) s at = let e : length (numbersAt ws s (at + size w)) ≡ length ws = count-of-numbers ws s (at + size w) in omega arith
 
 -- the mark
-abbrev pub MarkFits : Mark → Type 0
+abbrev MarkFits : Mark → Type 0
 MarkFits (marked m) = m < 65536
 MarkFits unmarked = Unit
 

@@ -49,7 +49,7 @@ union-wills = on-union willing-half
 -- complete and unanimous ---------------------------------------------------------------
 
 -- "full when all n are known": exactly if each of 1..n is
-pub complete-is : (n : ℕ) (s : VoteSet) → complete n s ≡ allTo n (knows s)
+complete-is : (n : ℕ) (s : VoteSet) → complete n s ≡ allTo n (knows s)
 unfolding complete
 complete-is n s = full-is n (s .known)
 

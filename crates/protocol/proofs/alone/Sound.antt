@@ -6,7 +6,7 @@ use native.Mathlib.Omega.{arith}
 use lib.ListN.{length, replicate, length-replicate}
 use lib.Dec.{eqb}
 use mathlib.Core.Logic.{inl, inr}
-use borrow.Author.Tests.{leb-true, eqb-true, eq-eqb}
+use borrow.Author.Tests.{eqb-true, eq-eqb}
 use Rattle.ground.specs.Limit.{limit}
 use Rattle.ground.specs.Tests.{split, no-both, and-l, and-r}
 use Rattle.ground.specs.Quantify.{countTo}
@@ -17,7 +17,7 @@ use Rattle.ground.specs.Lists.{nth, put, nth-put-at, length-put}
 use Rattle.ground.specs.Update.{upd, upd-same, upd-other}
 use Rattle.votes.specs.VoteSets.{empty, knows}
 use Rattle.votes.specs.declared.VoteSet.{VoteSet}
-use Rattle.model.specs.Ranges.{isController}
+use Rattle.model.specs.RangeLaws.{numbered}
 use Rattle.model.specs.declared.Outcome.{Outcome}
 use Rattle.protocol.specs.declared.Identity.{Identity}
 use Rattle.protocol.specs.declared.Acks.{Acks}
@@ -188,5 +188,5 @@ pub counted-leaves : (n f i : ℕ) (a : Answer) → Leaves n i a → Leaves n i 
 counted-leaves n f i a o = sufficient-cases (Leaves n i) n f a (λ q. unfold proposing in record { sound = put-sound n i (a .controller) _ (o .sound) }) (λ q. o)
 
 pub place-of : (me : Identity) → validIdentity me ≡ true → (1 ≤ me .id) × (me .id ≤ me .n)
-unfolding validIdentity isController
-place-of me e = (leb-true _ _ (search (and-l, and-r) depth 8), leb-true _ _ (search (and-l, and-r) depth 8))
+unfolding validIdentity
+place-of me e = let r = numbered (me .n) (me .id) (search (and-l, and-r)) in (r .low, r .high)

@@ -146,7 +146,7 @@ module _ (G H : ℕ → Type 0) (g0 : G 0) (n f : ℕ) (small : n ≤ limit) (v 
     kept-to zero = refl
     kept-to (suc m) = rw (kept-to m) (rw (kept-one (suc m)))
 
-    pub nothing-dropped : dropContradicting n (single i w) c ≡ c
+    nothing-dropped : dropContradicting n (single i w) c ≡ c
     unfolding dropContradicting
     nothing-dropped = ap (λ (a : Acks). record { condition = c .condition; votes = c .votes; acks = a; helped = c .helped; help = c .help; proposal = c .proposal; gate = c .gate }) (kept-to n)
 

@@ -1,11 +1,12 @@
 -- The statement's moments and the log of an order: an event stands in the log at its place exactly when it was accepted in the order of that moment.
 use Prim.Native.Nat.{ℕ}
 use mathlib.Core.Path.{_≡_, refl, sym, _∙_, ap, subst}
-use mathlib.Core.Bool.{Bool, true, false, not, _||_, cond, true≢false, false≢true}
+use mathlib.Core.Bool.{Bool, true, false, not, _||_, cond, true≢false}
 use mathlib.Core.List.{List, [], _∷_, _++_}
 use native.Mathlib.Omega.{arith}
 use mathlib.Core.Logic.{_⊎_, inl, inr}
 use Rattle.ground.specs.Tests.{no-both, split, by-cond}
+use Rattle.model.specs.QuestionLaws.{is-accepted}
 use Rattle.model.specs.Ranges.{sizesInRange}
 use Rattle.model.specs.declared.Event.{Event}
 use Rattle.model.specs.declared.Event.the-variants.{Lock, Order, Cast, Deliver, Timeout, Decide, Stop, Save, Restore}
@@ -16,10 +17,6 @@ use Rattle.protocol.specs.Steps.{orderOpened, proposedTo, decidedAs, ans
 use Rattle.protocol.specs.Claim.{after, opensOrder, opensAny, InOrder}
 use Rattle.protocol.proofs.view.View.{ask-l}
 use Rattle.protocol.proofs.clean.Log.{In, entered}
-
-pub is-accepted : (r : Reply) → isAccepted r ≡ true → r ≡ accepted
-is-accepted accepted e = refl
-is-accepted (refused q) e = absurd (false≢true e)
 
 pub accepted-is : (r : Reply) → r ≡ accepted → isAccepted r ≡ true
 accepted-is r e = rw e
@@ -87,12 +84,12 @@ pub record Split (e : Event) (log : List Event) : Type 0 where
   pub later : List Event
   pub parts : log ≡ later ++ (e ∷ earlier)
 
-pub in-split : (e : Event) (log : List Event) → In e log → Split e log
+in-split : (e : Event) (log : List Event) → In e log → Split e log
 in-split e [] m = absurd m
 in-split e (x ∷ log) (inl q) = record { earlier = log; later = []; parts = ap (λ (z : Event). z ∷ log) (sym q) }
 in-split e (x ∷ log) (inr m) = let s : Split e log = in-split e log m in record { earlier = s .earlier; later = x ∷ s .later; parts = ap (λ (l : List Event). x ∷ l) (s .parts) }
 
-pub split-in : (e : Event) (later earlier : List Event) → In e (later ++ (e ∷ earlier))
+split-in : (e : Event) (later earlier : List Event) → In e (later ++ (e ∷ earlier))
 split-in e [] earlier = inl refl
 split-in e (y ∷ later) earlier = inr (split-in e later earlier)
 
@@ -111,7 +108,7 @@ Enters (Restore i) = Unit {0}
 
 -- an event either begins the log anew or enters it, and what enters it opens no order
 pub record Entry (b : Bench) (e : Event) : Type 0 where
-  pub enters : Enters e
+  enters : Enters e
   pub adds : (log : List Event) → entered e log ≡ (e ∷ log)
   pub opens : opensOrder b e ≡ false
 
@@ -226,7 +223,7 @@ in-order es e m = let s : Split e (logAt es) = in-split e (logAt es) m in placed
 -- from the list to the log -----------------------------------------------------------
 
 -- an event that enters the log is asked for a lock, a bench keeps its lock, and then refuses another
-pub has-lock : (b : Bench) (e : Event) → Enters e → reply b e ≡ accepted → b .shared .locked ≡ true
+has-lock : (b : Bench) (e : Event) → Enters e → reply b e ≡ accepted → b .shared .locked ≡ true
 unfolding reply firstNo
 has-lock b (Lock a c) t q = absurd t
 has-lock b (Order o) t q = absurd t

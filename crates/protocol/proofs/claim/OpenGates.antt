@@ -16,6 +16,7 @@ use Rattle.ground.specs.Sizes.{count-new, count-none, none-count, all-count}
 use Rattle.ground.specs.Update.{upd, upd-same, fun-ext}
 use Rattle.votes.specs.VoteSets.{empty}
 use Rattle.model.specs.Ranges.{sizesInRange}
+use Rattle.model.specs.RangeLaws.{ranges}
 use Rattle.model.specs.declared.Event.{Event}
 use Rattle.model.specs.declared.Event.the-variants.{Lock, Order, Cast, Deliver, Timeout, Decide, Stop, Save, Restore}
 use Rattle.protocol.specs.declared.Condition.{Condition}
@@ -34,7 +35,7 @@ use Rattle.protocol.specs.Claim.{after}
 use Rattle.protocol.specs.OpenCount.{isOpen, fullCount, hasEnded, OpenCount}
 use Rattle.protocol.proofs.view.View.{View, openedV, accepts, part}
 use Rattle.protocol.proofs.view.Performed.{upd-id, commitV, chosen, savedV, performV, place, stepV, runV}
-use Rattle.protocol.proofs.view.Simulation.{view, ranges, Runs, run-sim}
+use Rattle.protocol.proofs.view.Simulation.{view, Runs, run-sim}
 use Rattle.protocol.proofs.claim.Start.{start, all-of-copies, lock-sound}
 
 -- counts ---------------------------------------------------------------------------

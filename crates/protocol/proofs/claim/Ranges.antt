@@ -305,7 +305,7 @@ module _ (G H : ℕ → Type 0) (g0 : G 0) where
       pub order-in : H (p .order)
       pub position : G (p .position)
 
-    abbrev pub SavedOk : ℕ → Saved → Type 0
+    abbrev SavedOk : ℕ → Saved → Type 0
     SavedOk k s = (p : Checkpoint) → s ≡ Newest p → SavedIn k p
 
     pub record AllIn (v : View) : Type 0 where
@@ -373,7 +373,7 @@ module _ (G H : ℕ → Type 0) (g0 : G 0) where
     callers-in : (v : View) → Inv n f v → (i : ℕ) → AllIn v → CallersIn i (v .ctl i)
     callers-in v inv i h j e = let t : (1 ≤ v .order) × (j ≤ n) × (i ≤ n) × (route f Help j i ≡ true) = h .lines j .to Help i (inv .ctls i .calls-ok j e) in (t .1, t .3)
 
-    pub perform-in : n ≤ limit → (v : View) (e : Event) → Inv n f v → accepts n f v e ≡ true → Given e → AllIn v → AllIn (performV n f v e)
+    perform-in : n ≤ limit → (v : View) (e : Event) → Inv n f v → accepts n f v e ≡ true → Given e → AllIn v → AllIn (performV n f v e)
     unfolding performV accepts firstNo isController
     perform-in s v (Lock a c) inv q g h = h
     perform-in s v (Order o) inv q g h = opened-in v o g h

@@ -1,11 +1,14 @@
 -- Every bench that a list of events leads to from a new one is new, or has its lock and keeps the invariant. Theorems over every list go by this.
-use Prim.Native.Nat.{ℕ}
+use Prim.Native.Nat.{ℕ, _≤_}
 use mathlib.Core.Path.{_≡_, refl, sym, subst}
 use mathlib.Core.Bool.{true}
 use mathlib.Core.List.{List, [], _∷_}
 use mathlib.Core.Logic.{_⊎_, inl, inr}
+use native.Mathlib.Omega.{arith}
+use Rattle.ground.specs.Limit.{limit}
 use Rattle.ground.specs.Tests.{split}
 use Rattle.model.specs.Ranges.{sizesInRange}
+use Rattle.model.specs.RangeLaws.{ranges}
 use Rattle.model.specs.declared.Event.{Event}
 use Rattle.model.specs.declared.Event.the-variants.{Lock, Order, Cast, Deliver, Timeout, Decide, Stop, Save, Restore}
 use Rattle.protocol.specs.declared.Bench.{Bench}
@@ -53,10 +56,18 @@ pub step-reached : (b : Bench) (e : Event) → Reached b → Reached (step b e)
 step-reached b e (inl z) = subst (λ (x : Bench). Reached (step x e)) (sym z) (new-reached e)
 step-reached b e (inr ok) = inr (step-steps b ok e .sound)
 
-pub run-reached : (es : List Event) (b : Bench) → Reached b → Reached (run b es)
+run-reached : (es : List Event) (b : Bench) → Reached b → Reached (run b es)
 unfolding run
 run-reached [] b r = r
 run-reached (e ∷ es) b r = run-reached es (step b e) (step-reached b e r)
 
 pub reached : (es : List Event) → Reached (after es)
 reached es = run-reached es newBench (inl refl)
+
+-- so it has no more controllers than a lock may have
+reached-limit : (b : Bench) → Reached b → b .shared .n ≤ limit
+reached-limit b (inl z) = subst (λ (x : Bench). x .shared .n ≤ limit) (sym z) (unfold benchOf in omega arith)
+reached-limit b (inr a) = ranges (b .shared .n) (b .shared .f) (a .sized) .small
+
+pub controllers-limit : (es : List Event) → (run newBench es) .shared .n ≤ limit
+controllers-limit es = reached-limit (run newBench es) (reached es)

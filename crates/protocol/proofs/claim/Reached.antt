@@ -19,6 +19,7 @@ use Rattle.votes.specs.Contradictions.{WellFormed}
 use Rattle.votes.specs.declared.VoteSet.{VoteSet}
 use Rattle.model.specs.QuestionLaws.{yes-all}
 use Rattle.model.specs.Ranges.{isController, positionInRange}
+use Rattle.model.specs.RangeLaws.{ranges, is-numbered}
 use Rattle.model.specs.Routes.{route, voteRoute, ackRoute, helpRoute}
 use Rattle.model.specs.declared.Kind.{Kind}
 use Rattle.model.specs.declared.Kind.the-variants.{Vote, Ack, Help, Helped}
@@ -41,7 +42,7 @@ use Rattle.protocol.specs.Display.{WasSent}
 use Rattle.protocol.specs.Reach.{HeldWithin, messageAt, IsSaved, AsRead, AllRead, Reach}
 use Rattle.protocol.proofs.view.View.{View, accepts, ask-l, ask-r}
 use Rattle.protocol.proofs.view.Performed.{stepV}
-use Rattle.protocol.proofs.view.Simulation.{view, Sound, ranges, Any, Steps, step-steps, step-sim}
+use Rattle.protocol.proofs.view.Simulation.{view, Sound, Any, Steps, step-steps, step-sim}
 use Rattle.protocol.proofs.invariant.Invariant.{HeldAck}
 use Rattle.protocol.proofs.invariant.Decisions.{Blank}
 use Rattle.protocol.proofs.claim.Start.{never-saved, fresh-in, freshes}
@@ -166,10 +167,6 @@ some-number : (m k : ℕ) → has m k ≡ true → 1 ≤ k
 some-number m zero e = absurd (false≢true (unfold has in e))
 some-number m (suc k) e = omega arith
 
-members : (n k : ℕ) → 1 ≤ k → k ≤ n → isController n k ≡ true
-unfolding isController
-members n k lo hi = and-i (leb 1 k) (leb k n) (le-leb 1 k lo) (le-leb k n hi)
-
 -- what the questions about a message need, of the sender i with what it has sent
 module _ (b : Bench) (a : Sound b) (h : Ranged b) (i : ℕ) where
   abbrev n : ℕ
@@ -213,7 +210,7 @@ module _ (b : Bench) (a : Sound b) (h : Ranged b) (i : ℕ) where
       yes-all (aboutMessage (messageAt b kind i j)) (
         a .sized,
         (
-          and-i (isController n i && isController n j) (not (eqb i j)) (and-i (isController n i) (isController n j) (members n i lo (t .1)) (members n j (some-number _ j e) (t .2))) (differs kind j (t .3)),
+          and-i (isController n i && isController n j) (not (eqb i j)) (and-i (isController n i) (isController n j) (is-numbered n i lo (t .1)) (is-numbered n j (some-number _ j e) (t .2))) (differs kind j (t .3)),
           (le-leb 1 _ (t .0), (fits kind j lo (t .1) e, (t .3, tt))),
         ),
       )

@@ -14,6 +14,7 @@ use Rattle.votes.specs.VoteSets.{empty}
 use Rattle.votes.specs.declared.VoteSet.{VoteSet}
 use Rattle.ground.specs.Limit.{limit}
 use Rattle.model.specs.Ranges.{sizesInRange}
+use Rattle.model.specs.RangeLaws.{ranges}
 use Rattle.model.specs.declared.Outcome.the-variants.{None}
 use Rattle.model.specs.declared.Event.{Event}
 use Rattle.model.specs.declared.Event.the-variants.{Lock, Order, Cast, Deliver, Timeout, Decide, Stop, Save, Restore}
@@ -31,7 +32,7 @@ use Rattle.protocol.proofs.invariant.Invariant.{votedBy, ackedBy, Inv}
 use Rattle.protocol.proofs.invariant.Decisions.{Blank, blank-inv}
 use Rattle.protocol.proofs.clean.Log.{entered}
 use Rattle.protocol.proofs.clean.Parts.{Good, blank-good}
-use Rattle.protocol.proofs.view.Simulation.{view, ranges, Any, Sound}
+use Rattle.protocol.proofs.view.Simulation.{view, Any, Sound}
 use Rattle.protocol.proofs.claim.Ranges.{InRange, SentIn, AllIn, unsent-in}
 use Rattle.protocol.proofs.claim.Moments.{push, logOf}
 
@@ -93,7 +94,7 @@ lock-step a c es h = elim (split (sizesInRange a c)) [
     passedOver a c q = unfold step reply firstNo unless in rw q
 
 -- before the lock every other event is refused
-abbrev pub NotLock : Event → Type 0
+abbrev NotLock : Event → Type 0
 NotLock (Lock a c) = ⊥
 NotLock (Order o) = Unit {0}
 NotLock (Cast i w t) = Unit {0}

@@ -6,7 +6,7 @@ use mathlib.Core.List.{List}
 use native.Mathlib.Omega.{arith}
 use lib.Dec.{eqb, leb}
 use mathlib.Core.Logic.{inl, inr}
-use borrow.Author.Tests.{leb-true, eqb-true, eqb-false, ne-eqb, not-true}
+use borrow.Author.Tests.{eqb-true, eqb-false, ne-eqb, not-true}
 use Rattle.ground.specs.Limit.{limit}
 use Rattle.ground.specs.Tests.{split, no-both, refuted, by-cond, and-l, and-r}
 use Rattle.ground.specs.Quantify.{countTo}
@@ -21,7 +21,8 @@ use Rattle.votes.specs.Joining.{contradicts, agreedOr}
 use Rattle.votes.specs.JoinLaws.{join-agreed, join-refused}
 use Rattle.votes.specs.declared.VoteSet.{VoteSet}
 use Rattle.votes.specs.declared.Joined.{Joined}
-use Rattle.model.specs.Ranges.{sizesInRange, isController}
+use Rattle.model.specs.Ranges.{isController}
+use Rattle.model.specs.RangeLaws.{ranges, numbered}
 use Rattle.model.specs.Routes.{route, voteRoute}
 use Rattle.model.specs.declared.Kind.{Kind}
 use Rattle.model.specs.declared.Kind.the-variants.{Vote, Ack, Help, Helped}
@@ -160,8 +161,8 @@ unfolding addressed
 sender-of me m e = (search (and-l, and-r) depth 8, search (and-l, and-r) depth 8)
 
 pub small-of : (me : Identity) → validIdentity me ≡ true → me .n ≤ limit
-unfolding validIdentity sizesInRange
-small-of me e = leb-true _ _ (search (and-l, and-r) depth 8)
+unfolding validIdentity
+small-of me e = ranges (me .n) (me .f) (search (and-l, and-r)) .small
 
 -- a vote message of another, as reading lets it through, does not know this controller
 module _ (me : Identity) (m : Message) (c : Controller) (k : Comes me m c) where
@@ -187,8 +188,9 @@ module _ (me : Identity) (m : Message) (c : Controller) (k : Comes me m c) where
   small = small-of me valid
 
   from-range : (1 ≤ m .from) × (m .from ≤ width)
-  unfolding isController
-  from-range = (leb-true _ _ (and-l (leb 1 (m .from)) _ (sender .0)), let x : m .from ≤ me .n = leb-true _ _ (and-r (leb 1 (m .from)) _ (sender .0)) in let y : me .n ≤ limit = small in omega arith)
+  from-range =
+      let r = numbered (me .n) (m .from) (sender .0) in
+      (r .low, let y : me .n ≤ limit = small in omega (arith, r .high))
 
   pub unknown : m .kind ≡ Vote → knows s i ≡ false
   unknown e = ap (λ (x : ℕ). has x i) just ∙ has-insert 0 (m .from) i (from-range .0) (from-range .1) ∙ upd-other (has 0) (m .from) true i (ne-eqb i (m .from) (λ z. eqb-false (m .from) i other (sym z))) ∙ has-none i
@@ -273,17 +275,17 @@ ack-taken n f j s c h e = rw (h, e) (sufficient-cases (λ (a : Answer). isTaken 
 
 again-is : (me : Identity) (w : Bool) (t : ℕ) (c : Controller) (m : Message) → MayVote me c → contradicts (ackOf c (m .from)) (single (me .id) w) ≡ true
     → m .kind ≡ Ack → Comes me m ((vote me w t c) .controller) → isTaken ((untested me m ((vote me w t c) .controller)) .reception) ≡ true
-unfolding arrives isController
+unfolding arrives
 again-is me w t c m ok e k h = rw k (ack-taken (me .n) (me .f) (m .from) (m .votes) _ (dropped-is me w t c ok (m .from) low high e) (early-after me w t c ok))
   where
     from-is : isController (me .n) (m .from) ≡ true
     from-is = sender me m ((vote me w t c) .controller) h .0
 
     low : 1 ≤ m .from
-    low = unfold isController in leb-true _ _ (and-l (leb 1 (m .from)) _ from-is)
+    low = numbered (me .n) (m .from) from-is .low
 
     high : m .from ≤ me .n
-    high = unfold isController in leb-true _ _ (and-r (leb 1 (m .from)) _ from-is)
+    high = numbered (me .n) (m .from) from-is .high
 
 pub strays : Strays
 strays = record {

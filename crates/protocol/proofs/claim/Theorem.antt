@@ -7,7 +7,9 @@ use native.Mathlib.Omega.{arith}
 use mathlib.Core.Logic.{inl, inr}
 use borrow.Author.Tests.{leb-true}
 use Rattle.ground.specs.Tests.{no-both, and-l, and-r}
+use Rattle.model.specs.QuestionLaws.{is-accepted}
 use Rattle.model.specs.Ranges.{isController}
+use Rattle.model.specs.RangeLaws.{Ranges, ranges}
 use Rattle.model.specs.Numbers.{isNone, wordOf}
 use Rattle.model.specs.declared.Kind.the-variants.{Vote, Ack}
 use Rattle.model.specs.declared.Outcome.{Outcome}
@@ -31,8 +33,8 @@ use Rattle.protocol.proofs.clean.Log.{In, Second, entered, pushV, logV}
 use Rattle.protocol.proofs.clean.Log as steps
 use Rattle.protocol.proofs.clean.Steps.{CleanOrder, clean-by-steps, clean-log, second-is}
 use Rattle.protocol.proofs.clean.Parts.{clean-decides, Decides}
-use Rattle.protocol.proofs.view.Simulation.{view, Sound, Ranges, ranges, Steps, Runs, reply-sim, step-steps, step-sim, run-sim}
-use Rattle.protocol.proofs.claim.Moments.{is-accepted, accepted-is, push, logOf, logAt, append-assoc, run-append, run-one, run-cons, log-append, in-order, in-log}
+use Rattle.protocol.proofs.view.Simulation.{view, Sound, Steps, Runs, reply-sim, step-steps, step-sim, run-sim}
+use Rattle.protocol.proofs.claim.Moments.{accepted-is, push, logOf, logAt, append-assoc, run-append, run-one, run-cons, log-append, in-order, in-log}
 use Rattle.protocol.proofs.claim.OrderNumbers.{same-number, number-same}
 use Rattle.protocol.proofs.claim.Bound.{sent-bound}
 use Rattle.protocol.proofs.claim.Start.{Opened, start, lock-sound, lock-inv, lock-good, lock-unvoted, new-holds, new-still}

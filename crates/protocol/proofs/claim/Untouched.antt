@@ -15,6 +15,7 @@ use Rattle.votes.specs.JoinLaws.{empty-agrees, join-agreed}
 use Rattle.votes.specs.declared.VoteSet.{VoteSet}
 use Rattle.votes.specs.declared.Joined.{Joined}
 use Rattle.votes.specs.declared.Joined.the-variants.{Agreed}
+use Rattle.model.specs.RangeLaws.{ranges}
 use Rattle.model.specs.declared.Kind.{Kind}
 use Rattle.model.specs.declared.Event.{Event}
 use Rattle.model.specs.declared.Event.the-variants.{Lock, Order, Cast, Deliver, Timeout, Decide, Stop, Save, Restore}
@@ -31,7 +32,7 @@ use Rattle.protocol.specs.Claim.{after}
 use Rattle.protocol.specs.NoContradiction.{Agreeing, acksUnion, votesSent, JoinIsUnion, untestedReply, untestedPerform, untestedStep, untestedRun, NoContradiction}
 use Rattle.protocol.proofs.view.View.{accepts}
 use Rattle.protocol.proofs.view.Performed.{ruleAnswer}
-use Rattle.protocol.proofs.view.Simulation.{view, ranges, Any, Sound, rule-sim, reply-untested, reply-sim}
+use Rattle.protocol.proofs.view.Simulation.{view, Any, Sound, rule-sim, reply-untested, reply-sim}
 use Rattle.protocol.proofs.invariant.Decisions.{Blank}
 use Rattle.protocol.proofs.claim.Start.{freshes}
 use Rattle.protocol.proofs.claim.Clear.{all-agree, acks-union, help-union, own-answer-union, own-vote-union, delivered-union}

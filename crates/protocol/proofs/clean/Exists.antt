@@ -8,6 +8,7 @@ use native.Mathlib.Decide.{ℕ-discrete}
 use borrow.Author.Tests.{ne-eqb}
 use Rattle.ground.specs.Update.{upd-other}
 use Rattle.model.specs.Ranges.{sizesInRange}
+use Rattle.model.specs.RangeLaws.{ranges}
 use Rattle.model.specs.Numbers.{isNone}
 use Rattle.model.specs.declared.Outcome.{Outcome}
 use Rattle.model.specs.declared.Outcome.the-variants.{Stay, Move}
@@ -22,7 +23,7 @@ use Rattle.protocol.specs.CleanOrders.{timeouts, allEnded, fromLock, cle
 use Rattle.protocol.specs.NotHollow.{CleanList, MoveList, StayList, EndedList, NotHollow}
 use Rattle.protocol.proofs.view.View.{View}
 use Rattle.protocol.proofs.view.Performed.{commitV, performV}
-use Rattle.protocol.proofs.view.Simulation.{view, ranges}
+use Rattle.protocol.proofs.view.Simulation.{view}
 use Rattle.protocol.proofs.clean.Log.{In, Second}
 use Rattle.protocol.proofs.clean.Log as steps
 use Rattle.protocol.proofs.clean.Steps.{log-second}

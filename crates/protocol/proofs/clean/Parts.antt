@@ -316,7 +316,7 @@ module _ (n f : ℕ) where
       unfolding stepV pushV
       step-good b e log inv h = elim (split (accepts n f b e)) [ inl q ↦ rw q (perform-good b e log inv q h) | inr q ↦ rw q h ]
 
-      pub run-good : (es : List Event) (b : View) (log : List Event) → Inv n f b → (Clean n f log → Good b log) → Clean n f (logV n f b log es) → Good (runV n f b es) (logV n f b log es)
+      run-good : (es : List Event) (b : View) (log : List Event) → Inv n f b → (Clean n f log → Good b log) → Clean n f (logV n f b log es) → Good (runV n f b es) (logV n f b log es)
       unfolding runV logV
       run-good [] b log inv h = h
       run-good (e ∷ es) b log inv h = run-good es (stepV n f b e) (pushV n f b e log) (next-inv n f f<n 1≤f small b _ (step-next n f f<n 1≤f small b e inv)) (step-good b e log inv h)

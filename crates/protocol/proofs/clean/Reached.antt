@@ -7,7 +7,9 @@ use native.Mathlib.Omega.{arith}
 use lib.ListN.{replicate}
 use Rattle.ground.specs.Tests.{by-cond}
 use Rattle.votes.specs.VoteSets.{empty}
+use Rattle.model.specs.QuestionLaws.{is-accepted}
 use Rattle.model.specs.Ranges.{sizesInRange}
+use Rattle.model.specs.RangeLaws.{Ranges, ranges}
 use Rattle.model.specs.declared.Kind.{Kind}
 use Rattle.model.specs.declared.Kind.the-variants.{Vote, Ack, Help, Helped}
 use Rattle.model.specs.declared.Outcome.the-variants.{None}
@@ -26,8 +28,8 @@ use Rattle.ground.specs.Limit.{limit}
 use Rattle.protocol.proofs.view.View.{View, openedV, accepts}
 use Rattle.protocol.proofs.view.Performed.{performV, stepV}
 use Rattle.protocol.proofs.clean.Log.{entered}
-use Rattle.protocol.proofs.claim.Moments.{is-accepted, accepted-is, push, logOf, logAt, Enters, entry-of, run-append, run-one, log-append}
-use Rattle.protocol.proofs.view.Simulation.{view, Sound, Ranges, ranges, Steps, step-steps, reply-sim, step-sim}
+use Rattle.protocol.proofs.claim.Moments.{accepted-is, push, logOf, logAt, Enters, entry-of, run-append, run-one, log-append}
+use Rattle.protocol.proofs.view.Simulation.{view, Sound, Steps, step-steps, reply-sim, step-sim}
 use Rattle.protocol.proofs.claim.Start.{all-of-copies, lock-sound}
 use Rattle.protocol.proofs.clean.Loops.{rows-all}
 use Rattle.protocol.proofs.clean.Ready.{due, begun, ReadyAll, ElseSame, vote-accepted, vote-going, deliver-accepted, deliver-going, timeout-accepted, first-going, second-going}

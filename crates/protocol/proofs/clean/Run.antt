@@ -7,12 +7,13 @@ use lib.Dec.{leb}
 use borrow.Author.Tests.{lt-leb, leb-true, le-leb}
 use Rattle.ground.specs.Tests.{same-test}
 use Rattle.model.specs.Ranges.{sizesInRange}
+use Rattle.model.specs.RangeLaws.{ranges}
 use Rattle.model.specs.declared.Kind.the-variants.{Vote, Ack}
 use Rattle.model.specs.declared.Event.the-variants.{Timeout}
 use Rattle.protocol.specs.Claim.{after}
 use Rattle.protocol.specs.CleanOrders.{casts, timeouts, allVoted, allAcked, fromLock}
 use Rattle.protocol.proofs.view.View.{accepts}
-use Rattle.protocol.proofs.view.Simulation.{view, ranges}
+use Rattle.protocol.proofs.view.Simulation.{view}
 use Rattle.protocol.proofs.clean.Ready.{begun, timeout-accepted}
 use Rattle.protocol.proofs.clean.Reached.{Reached, cast-next, timeout-next, end-next, renamed, deliver-all, start}
 

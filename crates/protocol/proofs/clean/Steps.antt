@@ -75,7 +75,7 @@ module _ (n f : ℕ) where
 
   -- the statement's clean order, of a log
   pub record CleanOrder (log : List Event) : Type 0 where
-    pub stops : (i : ℕ) → In (Stop i) log → ⊥
+    stops : (i : ℕ) → In (Stop i) log → ⊥
     pub votes : (i : ℕ) (earlier later : List Event) → log ≡ later ++ (Timeout i ∷ earlier) → NoTimeout earlier → VotesIn n f earlier
     pub acks : (i : ℕ) (earlier later : List Event) → log ≡ later ++ (Timeout i ∷ earlier) → Second n f i earlier → NoSecond earlier → AcksIn n f earlier
 

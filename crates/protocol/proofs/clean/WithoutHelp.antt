@@ -70,9 +70,9 @@ module _ (n f : ℕ) where
     -- no help call, no answer, nobody waits; no word put
     pub no-help : (i j : ℕ) → has ((b .state .sent i) .help .to) j ≡ false
     pub no-helped : (i j : ℕ) → has ((b .state .sent i) .helped .to) j ≡ false
-    pub none-waits : (i : ℕ) → (b .ctl i) .help .waiting ≡ false
-    pub no-move : b .state .consensus .«move_proposed» ≡ false
-    pub no-stay : b .state .consensus .«stay_proposed» ≡ false
+    none-waits : (i : ℕ) → (b .ctl i) .help .waiting ≡ false
+    no-move : b .state .consensus .«move_proposed» ≡ false
+    no-stay : b .state .consensus .«stay_proposed» ≡ false
     -- an outcome held, or saved in the order, came after all was delivered
     pub held : (i : ℕ) (v : Bool) → outcome (b .ctl i) ≡ wordOf v → Delivered log
     pub saved : (i : ℕ) (v : Bool) → savedOrder (b .saved i) ≡ b .order → savedOutcome (b .saved i) ≡ wordOf v → Delivered log

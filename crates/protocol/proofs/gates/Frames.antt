@@ -30,7 +30,7 @@ use Rattle.protocol.proofs.view.Performed.{timeoutRule}
 use Rattle.protocol.proofs.invariant.Words.{some-word}
 
 -- it has an outcome, or does not run
-abbrev pub TakenIn : Condition → Type 0
+abbrev TakenIn : Condition → Type 0
 TakenIn k = isRunning k ≡ true → isNone (outcomeIn k) ≡ false
 
 abbrev pub Taken : Controller → Type 0
@@ -52,7 +52,7 @@ pub record Steady (c c′ : Controller) : Type 0 where
   pub condition : c′ .condition ≡ c .condition
   pub position : c′ .gate .position ≡ c .gate .position
 
-pub own-steady : (f i : ℕ) (c : Controller) → Steady c (countOwn f i c)
+own-steady : (f i : ℕ) (c : Controller) → Steady c (countOwn f i c)
 unfolding countOwn keepAck
 own-steady f i c = by-cond (Steady c) (isBackup f i && not (hasAck c i)) (keepAck c i (c .votes)) c (λ e. record { condition = refl; position = refl }) (λ e. record { condition = refl; position = refl })
 
@@ -84,7 +84,7 @@ pub conclude-taken : (c : Controller) (w : Bool) → Taken (conclude c (wordOf w
 unfolding conclude
 conclude-taken c w = noting-taken (c .condition) (wordOf w) (some-word w)
 
-pub conclude-gate : (c : Controller) (o : Outcome) → ((conclude c o) .gate .position ≡ c .gate .position) ⊎ Moved c (conclude c o)
+conclude-gate : (c : Controller) (o : Outcome) → ((conclude c o) .gate .position ≡ c .gate .position) ⊎ Moved c (conclude c o)
 unfolding conclude
 conclude-gate c o = by-cond (λ (p : ℕ). (p ≡ c .gate .position) ⊎ Moved c (conclude c o)) (runs c && isNone (outcome c) && isMove o) (c .gate .target) (c .gate .position)
     (λ e. inr (record { ran = search (and-l, and-r); free = search (and-l, and-r); taken = taken-by (search (and-l, and-r)) })) (λ e. inl refl)

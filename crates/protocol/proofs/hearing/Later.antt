@@ -12,6 +12,7 @@ use Rattle.ground.specs.Limit.{limit}
 use Rattle.ground.specs.Tests.{split}
 use Rattle.ground.specs.Mask.{has}
 use Rattle.ground.specs.Update.{upd-other, upd-all}
+use Rattle.model.specs.QuestionLaws.{is-accepted}
 use Rattle.model.specs.declared.Kind.{Kind}
 use Rattle.model.specs.declared.Event.{Event}
 use Rattle.model.specs.declared.Event.the-variants.{Lock, Order, Cast, Deliver, Timeout, Decide, Stop, Save, Restore}
@@ -36,7 +37,7 @@ use Rattle.protocol.proofs.clean.Log.{In}
 use Rattle.protocol.proofs.clean.Kept.{PhaseMove, stays, times-out, voted, KeptAll, Goes, perform-tame}
 use Rattle.protocol.proofs.clean.Parts.{perform-order}
 use Rattle.protocol.proofs.clean.Reached.{log-one}
-use Rattle.protocol.proofs.claim.Moments.{is-accepted, logAt, Enters, entry-of, append-assoc, run-append, run-one}
+use Rattle.protocol.proofs.claim.Moments.{logAt, Enters, entry-of, append-assoc, run-append, run-one}
 use Rattle.protocol.proofs.claim.Sends.{sent-more}
 use Rattle.protocol.proofs.hearing.Events.{Heard, perform-heard}
 

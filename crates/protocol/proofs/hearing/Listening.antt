@@ -50,7 +50,7 @@ Adds i c (Save j) = Unit {0}
 Adds i c (Restore j) = Unit {0}
 
 -- an event of another controller adds nothing
-pub adds-none : (i : ℕ) (c : Controller) (e : Event) → (subject e ≡ i → ⊥) → Adds i c e
+adds-none : (i : ℕ) (c : Controller) (e : Event) → (subject e ≡ i → ⊥) → Adds i c e
 adds-none i c (Lock a x) d = tt
 adds-none i c (Order o) d = tt
 adds-none i c (Cast j w t) d = tt
@@ -89,7 +89,7 @@ pub record Forth (c c′ : Controller) : Type 0 where
 pub forth-refl : (c : Controller) → Forth c c
 forth-refl c = record { callers = λ k e. e; helped = λ k e. e; acks = λ k e. e; low = λ h. h; waits = λ e. inr e; outcome = λ e. e }
 
-pub came-on : (i : ℕ) (c c′ : Controller) (log : List Event) → Came i c log → Forth c c′ → Came i c′ log
+came-on : (i : ℕ) (c c′ : Controller) (log : List Event) → Came i c log → Forth c c′ → Came i c′ log
 came-on i c c′ log h t = record {
   calls = λ k m. t .callers k (h .calls k m);
   unhelped = λ s k m. h .unhelped (t .low s) k m;

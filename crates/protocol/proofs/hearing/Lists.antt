@@ -18,6 +18,7 @@ use Rattle.ground.specs.Update.{upd-same, upd-other, fun-ext}
 use Rattle.votes.specs.VoteSets.{complete}
 use Rattle.votes.specs.declared.VoteSet.{VoteSet}
 use Rattle.model.specs.Ranges.{sizesInRange, isController, positionInRange}
+use Rattle.model.specs.RangeLaws.{Ranges, ranges}
 use Rattle.model.specs.declared.Kind.the-variants.{Help, Helped}
 use Rattle.model.specs.declared.Event.{Event}
 use Rattle.model.specs.declared.Event.the-variants.{Lock, Order, Cast, Deliver, Timeout, Stop}
@@ -35,7 +36,7 @@ use Rattle.protocol.specs.Termination.{RunsAt, few-down, Meets, MetList,
 use Rattle.protocol.proofs.view.View.{View, openedV, accepts}
 use Rattle.protocol.proofs.view.Performed.{commitV, timeoutRule, performV, runV}
 use Rattle.protocol.proofs.view.RuleCases.{helped-cases, sufficient-cases}
-use Rattle.protocol.proofs.view.Simulation.{view, Ranges, ranges, step-steps, Runs, run-sim}
+use Rattle.protocol.proofs.view.Simulation.{view, step-steps, Runs, run-sim}
 use Rattle.protocol.proofs.invariant.Invariant.{Inv}
 use Rattle.protocol.proofs.invariant.Decisions.{Blank, renew-blank}
 use Rattle.protocol.proofs.clean.Log.{In}

@@ -11,6 +11,7 @@ use Rattle.ground.specs.MaskLaws.{has-none}
 use Rattle.ground.specs.Limit.{limit}
 use lib.ListN.{replicate}
 use Rattle.votes.specs.VoteSets.{empty}
+use Rattle.model.specs.RangeLaws.{Ranges, ranges}
 use Rattle.model.specs.declared.Outcome.the-variants.{None}
 use Rattle.model.specs.declared.Event.{Event}
 use Rattle.protocol.specs.declared.Station.{Station}
@@ -22,7 +23,7 @@ use Rattle.protocol.specs.Steps.{step, run}
 use Rattle.protocol.specs.Claim.{after}
 use Rattle.protocol.proofs.view.View.{View, accepts}
 use Rattle.protocol.proofs.view.Performed.{stepV}
-use Rattle.protocol.proofs.view.Simulation.{view, Sound, Ranges, ranges, Steps, step-steps, reply-sim, step-sim}
+use Rattle.protocol.proofs.view.Simulation.{view, Sound, Steps, step-steps, reply-sim, step-sim}
 use Rattle.protocol.proofs.invariant.Words.{none-word}
 use Rattle.protocol.proofs.invariant.Decisions.{Blank}
 use Rattle.protocol.proofs.claim.Moments.{push, logOf, logAt}
@@ -34,7 +35,7 @@ pub record HeardAt (b : Bench) (log : List Event) : Type 0 where
   pub sound : Sound b
   pub heard : Heard (b .shared .n) (b .shared .f) (view b) log
 
-pub step-heard : (b : Bench) (e : Event) (log : List Event) → HeardAt b log → HeardAt (step b e) (push b e log)
+step-heard : (b : Bench) (e : Event) (log : List Event) → HeardAt b log → HeardAt (step b e) (push b e log)
 step-heard b e log h =
     let s : Steps b (h .sound) (step b e) = step-steps b (h .sound) e in
     record {
@@ -52,7 +53,7 @@ step-heard b e log h =
       | inr q ↦ rw (reply-sim b (h .sound) e, q) (h .heard)
     ]
 
-pub run-heard : (es : List Event) (b : Bench) (log : List Event) → HeardAt b log → HeardAt (run b es) (logOf b log es)
+run-heard : (es : List Event) (b : Bench) (log : List Event) → HeardAt b log → HeardAt (run b es) (logOf b log es)
 unfolding run logOf
 run-heard [] b log h = h
 run-heard (e ∷ es) b log h = run-heard es (step b e) (push b e log) (step-heard b e log h)

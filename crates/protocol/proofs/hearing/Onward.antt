@@ -8,7 +8,7 @@ use native.Mathlib.Omega.{arith}
 use native.Mathlib.Decide.{decLe, ℕ-discrete}
 use lib.Dec.{eqb, leb}
 use mathlib.Core.Logic.{inl, inr}
-use borrow.Author.Tests.{le-leb, leb-true}
+use borrow.Author.Tests.{le-leb}
 use Rattle.ground.specs.Limit.{limit}
 use Rattle.ground.specs.Tests.{no-both, split, and-i, and-l, and-r}
 use Rattle.ground.specs.Mask.{has}
@@ -17,6 +17,7 @@ use Rattle.ground.specs.Quantify.{countTo}
 use Rattle.ground.specs.Update.{upd-all, fun-ext}
 use Rattle.votes.specs.declared.VoteSet.{VoteSet}
 use Rattle.model.specs.Ranges.{isController, positionInRange}
+use Rattle.model.specs.RangeLaws.{Ranges, ranges, numbered}
 use Rattle.model.specs.Routes.{route}
 use Rattle.model.specs.Numbers.{wordOf, isNone}
 use Rattle.model.specs.QuestionLaws.{AllYes, all-yes}
@@ -46,7 +47,7 @@ use Rattle.protocol.specs.Termination.{RunsAt, HasPut, WasGiven, Premise
 use Rattle.protocol.proofs.view.View.{accepts}
 use Rattle.protocol.proofs.view.Performed.{commitV, chosen, timeoutRule, performV}
 use Rattle.protocol.proofs.view.RuleCases.{vote-cases, ack-cases, helped-cases, help-cases, sufficient-cases}
-use Rattle.protocol.proofs.view.Simulation.{view, Ranges, ranges}
+use Rattle.protocol.proofs.view.Simulation.{view}
 use Rattle.protocol.proofs.invariant.Orders.{not-both}
 use Rattle.protocol.proofs.clean.Log.{In}
 use Rattle.protocol.proofs.clean.Added.{NewVote, NewTimeout, perform-new, second-reaches, reached-after}
@@ -299,10 +300,10 @@ module _ (n f o : ℕ) (f<n : f < n) (1≤f : 1 ≤ f) (small : n ≤ limit) (op
       both = and-l _ (not (eqb i j)) (differ es m kind i j e)
 
       low : (k : ℕ) → isController n k ≡ true → 1 ≤ k
-      low k x = unfold isController in leb-true 1 k (and-l (leb 1 k) (leb k n) x)
+      low k x = numbered n k x .low
 
       high : (k : ℕ) → isController n k ≡ true → k ≤ n
-      high k x = unfold isController in leb-true k n (and-r (leb 1 k) (leb k n) x)
+      high k x = numbered n k x .high
 
   deliver-all : (S : Kind → Bool) (kind : Kind) → ((k : Kind) → S k ≡ true → still kind k ≡ true) → S kind ≡ true → (es : List Event) → At es → Onto S es (AllDelivered kind)
   deliver-all S kind mild covered es m = let a : Onto S es (Rows S kind mild covered n) = deliver-rows S kind mild covered n es m in

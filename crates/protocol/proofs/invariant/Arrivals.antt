@@ -57,7 +57,7 @@ count-zero (suc n) = rw (has-none (suc n), count-zero n)
 collected : (x y z : Bool) → (x && y && z) ≡ true → z ≡ true
 collected x y z e = and-r (x && y) z e
 
-pub recipients-route : (n f : ℕ) (small : n ≤ limit) (i j : ℕ) → (has (recipients n f Vote i) j ≡ true → voteRoute f i j ≡ true) × (has (recipients n f Ack i) j ≡ true → ackRoute f i j ≡ true)
+recipients-route : (n f : ℕ) (small : n ≤ limit) (i j : ℕ) → (has (recipients n f Vote i) j ≡ true → voteRoute f i j ≡ true) × (has (recipients n f Ack i) j ≡ true → ackRoute f i j ≡ true)
 unfolding recipients route
 recipients-route n f small i j = (
   λ e. collected (leb 1 j) (leb j n) (voteRoute f i j) (sym (has-collect n (voteRoute f i) j (omega arith)) ∙ e),

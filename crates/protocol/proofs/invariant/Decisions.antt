@@ -125,7 +125,7 @@ pub record Blank (c : Controller) : Type 0 where
   pub calls-none : c .help .callers ≡ 0
   pub outcome : outcome c ≡ None
 
-pub cleared-blank : (k : Condition) (c : Controller) → phaseIn k ≡ 0 → outcomeIn k ≡ None → Blank (cleared k c)
+cleared-blank : (k : Condition) (c : Controller) → phaseIn k ≡ 0 → outcomeIn k ≡ None → Blank (cleared k c)
 unfolding cleared
 cleared-blank k c p q = record { votes = refl; phase = p; acks-none = refl; helps-none = refl; helped = refl; cnt-none = refl; cnt-help-none = refl; waiting = refl; calls-none = refl; outcome = q }
 

@@ -21,7 +21,7 @@ module _ (n f : ℕ) (f<n : f < n) where
 
     -- Stay from a backup's acknowledgement: the direct decision saw it with the word Move. Stay from all help vote sets: some help vote set knows the vote that
     -- is willing on none of them, namely that of a direct decider beyond the backups, or of the second backup for a backup's vote, or the voter's own.
-    pub direct-excludes-stay : AllWilling n f L → DirectMove n f L → StayGrounds n f L → ⊥
+    direct-excludes-stay : AllWilling n f L → DirectMove n f L → StayGrounds n f L → ⊥
     direct-excludes-stay all d (inl s) = no-both (unanimous n (ackOn (L (s .at)))) (d .acks (s .at) (s .low) (s .high) .1) (s .stays)
     direct-excludes-stay all d (inr s) = by-more (d .more)
       where

@@ -37,7 +37,7 @@ module _ (L L′ : ℕ → Sent) (g : Grows L L′) where
     pub all-mono : AllWilling n f L → AllWilling n f L′
     all-mono h k a b = (g k .voted (h k a b .0), g k .will (h k a b .0) ∙ h k a b .1)
 
-    pub direct-mono : DirectMove n f L → DirectMove n f L′
+    direct-mono : DirectMove n f L → DirectMove n f L′
     direct-mono d = record {
       acks = λ j a b. (g j .acked (d .acks j a b .0), rw (g j .ack (d .acks j a b .0)) (d .acks j a b .1));
       more = elim (d .more) [
@@ -50,10 +50,10 @@ module _ (L L′ : ℕ → Sent) (g : Grows L L′) where
     stay-mono (inl s) = inl (record { at = s .at; low = s .low; high = s .high; acked = g (s .at) .acked (s .acked); stays = rw (g (s .at) .ack (s .acked)) (s .stays) })
     stay-mono (inr s) = inr (record { at = s .at; low = s .low; high = s .high; helped = λ j a b. g j .helped (s .helped j a b); lacks = λ j a b. rw (g j .help (s .helped j a b)) (s .lacks j a b) })
 
-    pub ack-mono : (i : ℕ) (s : VoteSet) (j : ℕ) → HeldAck n f L i s j → HeldAck n f L′ i s j
+    ack-mono : (i : ℕ) (s : VoteSet) (j : ℕ) → HeldAck n f L i s j → HeldAck n f L′ i s j
     ack-mono i s j h = record { acked = g j .acked (h .acked); copy = h .copy ∙ sym (g j .ack (h .acked)); backup = h .backup }
 
-    pub help-mono : (s : VoteSet) (j : ℕ) → HeldHelp n f L s j → HeldHelp n f L′ s j
+    help-mono : (s : VoteSet) (j : ℕ) → HeldHelp n f L s j → HeldHelp n f L′ s j
     help-mono s j h = record { helped = g j .helped (h .helped); covers = λ k e. h .covers k (rw (g j .help (h .helped)) at e); beyond = h .beyond }
 
 module _ (L L′ : ℕ → Sent) (g : Grows L L′) (ch ch′ : Outcome) (gc : (v : Bool) → ch ≡ wordOf v → ch′ ≡ wordOf v) (n f : ℕ) where

@@ -28,11 +28,11 @@ pub record Unrefused (a : Answer) : Type 0 where
   pub is : isContradicted (a .reception) ≡ false
 
 module _ (c : Controller) where
-  pub passed-unrefused : Unrefused (passedOver c)
+  passed-unrefused : Unrefused (passedOver c)
   unfolding passedOver
   passed-unrefused = record { is = refl }
 
-  pub becomes-unrefused : Unrefused (becomes c)
+  becomes-unrefused : Unrefused (becomes c)
   unfolding becomes
   becomes-unrefused = record { is = refl }
 

@@ -1,19 +1,18 @@
 -- The bench of the declared types steps as its view does: one list of stations changed at one place is three functions changed at one place; and the test
 -- of vote sets, which the view does not make, finds nothing (Clear).
-use Prim.Native.Nat.{ℕ, _≤_, _<_}
+use Prim.Native.Nat.{ℕ, _≤_}
 use mathlib.Core.Path.{_≡_, refl, sym, _∙_, ap, subst}
 use mathlib.Core.Bool.{Bool, true, false, not, cond, true≢false, false≢true}
 use mathlib.Core.List.{List, [], _∷_, map}
 use native.Mathlib.Omega.{arith}
 use lib.ListN.{length, length-map}
-use lib.Dec.{leb}
 use mathlib.Core.Logic.{inl, inr}
-use borrow.Author.Tests.{leb-true}
 use Rattle.ground.specs.Limit.{limit}
 use Rattle.ground.specs.Tests.{split, by-cond, and-l, and-r}
 use Rattle.ground.specs.Update.{upd, fun-ext}
 use Rattle.ground.specs.Lists.{nth, put, nth-put, length-put, map-at}
 use Rattle.model.specs.Ranges.{sizesInRange, isController}
+use Rattle.model.specs.RangeLaws.{Ranges, ranges, numbered}
 use Rattle.model.specs.declared.Kind.{Kind}
 use Rattle.model.specs.declared.Event.{Event}
 use Rattle.model.specs.declared.Event.the-variants.{Lock, Order, Cast, Deliver, Timeout, Decide, Stop, Save, Restore}
@@ -99,15 +98,6 @@ refused-before : (r x : Reply) → isAccepted r ≡ false → cond (isAccepted r
 refused-before accepted x e = absurd (true≢false e)
 refused-before (refused q) x e = refl
 
-pub record Ranges (n f : ℕ) : Type 0 where
-  pub low : 1 ≤ f
-  pub high : f < n
-  pub small : n ≤ limit
-
-pub ranges : (n f : ℕ) → sizesInRange n f ≡ true → Ranges n f
-unfolding sizesInRange
-ranges n f e = record { low = leb-true _ _ (search (and-l, and-r)); high = leb-true _ _ (search (and-l, and-r)); small = leb-true _ _ (search (and-l, and-r)) }
-
 module _ (b : Bench) (ok : Sound b) where
   abbrev n : ℕ
   n = b .shared .n
@@ -116,12 +106,10 @@ module _ (b : Bench) (ok : Sound b) where
   f = b .shared .f
 
   lows : (i : ℕ) → isController n i ≡ true → 1 ≤ i
-  unfolding isController
-  lows i e = leb-true 1 i (and-l (leb 1 i) (leb i n) e)
+  lows i e = numbered n i e .low
 
   place : (i : ℕ) → isController n i ≡ true → i ≤ length (b .stations)
-  unfolding isController
-  place i e = let p : length (b .stations) ≡ limit = ok .size in let q : n ≤ limit = ranges n f (ok .sized) .small in let h : i ≤ n = leb-true i n (and-r (leb 1 i) (leb i n) e) in omega arith
+  place i e = let p : length (b .stations) ≡ limit = ok .size in let q : n ≤ limit = ranges n f (ok .sized) .small in let h : i ≤ n = numbered n i e .high in omega arith
 
   -- behind the questions the test finds nothing
   clear-at : (e : Event) → accepts n f (view b) e ≡ true → Clear n f (view b) e
@@ -178,7 +166,7 @@ module _ (b : Bench) (ok : Sound b) where
       same : putBackV (view b) (subject e) (effect (b .shared) e (sentBy b (source e)) (station b (subject e))) ≡ playOneV n f (view b) e
       same = unfold view in rw (ok .locked)
 
-  pub perform-sim : (e : Event) → accepts n f (view b) e ≡ true → view (perform b e) ≡ playV n f (view b) e
+  perform-sim : (e : Event) → accepts n f (view b) e ≡ true → view (perform b e) ≡ playV n f (view b) e
   unfolding playV
   perform-sim (Lock a c) q = unfold accepts firstNo in absurd (false≢true (ask-l _ _ _ (ask-r _ _ _ q)))
   perform-sim (Order o) q = view-open o
