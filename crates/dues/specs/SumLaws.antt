@@ -12,7 +12,7 @@ use Rattle.dues.specs.declared.Answer.{Answer}
 use Rattle.dues.specs.Sheet.{chargeOf, lockages, total, totals, questions, duesFor, answered, numberOf, valuesOf, DuesOf}
 
 -- "the two totals make up the sum of the charges"
-pub totals-make-up : (ls : List Lockage) → totals ls .upper + totals ls .lower ≡ total chargeOf ls
+totals-make-up : (ls : List Lockage) → totals ls .upper + totals ls .lower ≡ total chargeOf ls
 unfolding totals total
 totals-make-up [] = refl
 totals-make-up (l ∷ ls) = omega (arith, totals-make-up ls, make-up (chargeOf l))

@@ -1,9 +1,12 @@
-// A sheet of lockages: the questions put to it, and what the two owners get of it.
-use tariff::Shares;
-
+// A sheet of lockages: the questions put to it, what the two owners get of it, and what is printed of that.
+mod output;
 mod sheet;
 
+pub use output::HELD;
+pub use output::LONGEST_OUTPUT;
+pub use output::render;
 pub use sheet::dues;
+use tariff::Shares;
 
 // A lockage as it stands on a sheet: the boat's length in cm, and the bytes for the outcome and for a return.
 pub struct Lockage {

@@ -1,17 +1,13 @@
 -- Laws of replies: refused, a buffer of another length, and the file.
-use Prim.Native.Nat.{ℕ, _*_, _≤_, _<_}
+use Prim.Native.Nat.{ℕ, _*_, _<_}
 use mathlib.Core.Path.{_≡_, refl, sym, _∙_}
-use mathlib.Core.Bool.{true, _&&_}
 use mathlib.Core.List.{List}
 use native.Mathlib.Omega.{arith}
-use lib.Dec.{leb, ltb}
 use lib.ListN.{length}
-use borrow.Author.Tests.{eq-eqb, ne-eqb, leb-true}
-use Rattle.ground.specs.Tests.{and-l}
-use Rattle.ground.specs.Limit.{limit}
+use borrow.Author.Tests.{eq-eqb, ne-eqb}
 use Rattle.model.specs.Questions.{accepted, refused, number, unless, firstNo}
 use Rattle.model.specs.QuestionLaws.{all-yes, reply-accepted, reply-refused, first-accepted, first-refused}
-use Rattle.model.specs.Ranges.{sizesInRange}
+use Rattle.model.specs.RangeLaws.{ranges}
 use Rattle.event_record.specs.Events.{eventLength}
 use Rattle.generator.specs.Claim.{recordsIn}
 use Rattle.generator.specs.FileLaws.{length-file}
@@ -24,13 +20,8 @@ module _ (n f count start : ℕ) where
 
   -- "n from 2 to 16"
   pub some-controllers : refusalOf n f count start ≡ accepted → 0 < n
-  unfolding refusalOf sizesInRange
-  some-controllers e =
-      let s : sizesInRange n f ≡ true = all-yes (asked n f count start) e .0 in
-      let a : (leb 2 n && leb n limit && leb 1 f) ≡ true = and-l (leb 2 n && leb n limit && leb 1 f) (ltb f n) s in
-      let b : (leb 2 n && leb n limit) ≡ true = and-l (leb 2 n && leb n limit) (leb 1 f) a in
-      let c : 2 ≤ n = leb-true 2 n (and-l (leb 2 n) (leb n limit) b) in
-      omega arith
+  unfolding refusalOf
+  some-controllers e = omega (arith, ranges n f (all-yes (asked n f count start) e .0) .some)
 
   -- as long as the file, by its length
   pub as-long : (l r : ℕ) → l ≡ r → r ≡ eventLength * recordsIn n count → l ≡ length (fileOf n f count start)

@@ -13,10 +13,10 @@ ghost use Rattle.generator.specs.File.{votesTo, drawnFrom, recordsOf, fi
 ghost use Rattle.generator.specs.Claim.{recordsIn, Files};
 
 // The most events that are drawn.
-pub const MOST_DRAWN: u32 = 4000;
+pub(crate) const MOST_DRAWN: u32 = 4000;
 
 // Ten bytes for each record: lock, order, votes, drawn events.
-pub fn file_length(n: u8, count: u32) -> usize
+pub(crate) fn file_length(n: u8, count: u32) -> usize
     ensures { λ r. ⌜ r ≡ eventLength * recordsIn n count ⌝ }
 {
     Event::LENGTH * (2 + n as usize + count as usize)
@@ -79,7 +79,7 @@ fn put_file(out: &mut [u8], n: u8, f: u8, count: u32, start: u32) -> usize
 }
 
 // Answers 0, or the refusal: 4 for n and f, then 23 for a starting number of 0 or a count above 4,000.
-pub fn refusal_of(n: u8, f: u8, count: u32, start: u32) -> u8
+pub(crate) fn refusal_of(n: u8, f: u8, count: u32, start: u32) -> u8
     ensures { λ r. ⌜ r ≡ number (refusalOf n f count start) ⌝ }
 {
     if !sizes_in_range(n, f) {

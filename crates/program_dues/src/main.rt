@@ -1,6 +1,6 @@
 // The dues program: a sheet of lockages on standard input, both owners' totals or the refusal on standard output.
-use dues_output::HELD;
-use dues_output::LONGEST_OUTPUT;
+use dues::HELD;
+use dues::LONGEST_OUTPUT;
 use libc::STDIN_FILENO;
 use libc::STDOUT_FILENO;
 
@@ -8,8 +8,8 @@ fn main() {
     // one byte more than a sheet may have that is looked at, so that a longer one shows
     let mut input = [0u8; HELD + 1];
     let n = io::read_full(STDIN_FILENO, &mut input);
-    // room for any output: `always-fits` of dues_output, PrintedLaws
+    // room for any output: `always-fits` of dues, PrintedLaws
     let mut text = [0u8; LONGEST_OUTPUT];
-    let length = dues_output::render(&input[..n], &mut text);
+    let length = dues::render(&input[..n], &mut text);
     io::write_all(STDOUT_FILENO, &text[..length]);
 }

@@ -1,5 +1,5 @@
 // The generator program: n, f, count and start on standard input, the file or a refusal on standard output.
-use generator_output::LONGEST_OUTPUT;
+use generator::LONGEST_OUTPUT;
 use libc::STDIN_FILENO;
 use libc::STDOUT_FILENO;
 
@@ -7,8 +7,8 @@ fn main() {
     // one byte more than the input has, so that a longer one is known by it
     let mut input = [0u8; 9];
     let n = io::read_full(STDIN_FILENO, &mut input);
-    // it holds every output of every input: `generator_output::longest_output`
+    // it holds every output of every input: `generator::longest_output`
     let mut file = [0u8; LONGEST_OUTPUT];
-    let length = generator_output::render(&input[..n], &mut file);
+    let length = generator::render(&input[..n], &mut file);
     io::write_all(STDOUT_FILENO, &file[..length]);
 }

@@ -1,6 +1,6 @@
 // What the dues program prints, in a lent buffer.
-use dues::Answer;
-use dues::dues;
+use crate::Answer;
+use crate::sheet::dues;
 use tariff::Shares;
 use text::LINE;
 use text::put_byte;
@@ -10,7 +10,7 @@ use text::write_line;
 use text::write_refusal;
 ghost use mathlib.Core.Path.{_≡_};
 ghost use Rattle.text.specs.Writing.{fitted, fittedLength, Rendered};
-ghost use Rattle.dues_output.specs.Printed.{totalsLine, heldAnswer, outputOf};
+ghost use Rattle.dues.specs.Printed.{totalsLine, heldAnswer, outputOf};
 
 // So many bytes the program holds; a longer sheet it refuses with 22.
 pub const HELD: usize = 65536;

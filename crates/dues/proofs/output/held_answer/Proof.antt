@@ -1,9 +1,9 @@
 -- `dues_output::held_answer` meets its contract.
 use borrow.Author.Tests.{lt-ltb, le-ltb}
-use Rattle.dues_output.specs.Printed.{heldAnswer}
+use Rattle.dues.specs.Printed.{heldAnswer}
 use borrow.Author.Needs.{needs}
-use Rattle.dues_output.proofs.held_answer.Statement.{statement}
-use Rattle.dues_output.proofs.held_answer.Tie as tie
+use Rattle.dues.proofs.output.held_answer.Statement.{statement}
+use Rattle.dues.proofs.output.held_answer.Tie as tie
 
 returns : tie.Need-returns
 unfolding heldAnswer

@@ -1,15 +1,15 @@
 // The generator program but for its reading and writing: from n, f, count and start as bytes to the file or a refusal, in a lent buffer.
-use generator::MOST_DRAWN;
-use generator::file_length;
-use generator::generate;
-use generator::refusal_of;
+use crate::file::MOST_DRAWN;
+use crate::file::file_length;
+use crate::file::generate;
+use crate::file::refusal_of;
 use ground::LIMIT;
 use records::number2;
 use records::number4;
 use text::write_refusal;
 ghost use mathlib.Core.Path.{_≡_};
 ghost use Rattle.text.specs.Writing.{fitted, fittedLength, Rendered};
-ghost use Rattle.generator_output.specs.Output.{outputFor, outputOf, longestOutput, AllFit};
+ghost use Rattle.generator.specs.Output.{outputFor, outputOf, longestOutput, AllFit};
 
 // No output is longer: the file of the most controllers and the most drawn events, ten bytes for each record.
 pub const LONGEST_OUTPUT: usize = 10 * (2 + LIMIT + MOST_DRAWN as usize);

@@ -1,9 +1,9 @@
 use Rattle.text.specs.WritingLaws.{rendered}
 use borrow.Author.Tests.{eq-eqb, ne-eqb}
-use Rattle.generator_output.specs.Output.{outputOf}
+use Rattle.generator.specs.Output.{outputOf}
 use borrow.Author.Needs.{needs}
-use Rattle.generator_output.proofs.render.Statement.{statement}
-use Rattle.generator_output.proofs.render.Tie as tie
+use Rattle.generator.proofs.output.render.Statement.{statement}
+use Rattle.generator.proofs.output.render.Tie as tie
 
 write-refusal-requires : tie.Need-write-refusal-requires
 write-refusal-requires c κs = search needs

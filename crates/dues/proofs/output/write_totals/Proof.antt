@@ -1,10 +1,10 @@
 -- `dues_output::write_totals` meets its contract.
 use Rattle.text.specs.WritingLaws.{put-then}
-use Rattle.dues_output.specs.Printed.{totalsLine}
-use Rattle.dues_output.specs.PrintedLaws.{totals-length}
+use Rattle.dues.specs.Printed.{totalsLine}
+use Rattle.dues.specs.PrintedLaws.{totals-length}
 use borrow.Author.Needs.{needs}
-use Rattle.dues_output.proofs.write_totals.Statement.{statement}
-use Rattle.dues_output.proofs.write_totals.Tie as tie
+use Rattle.dues.proofs.output.write_totals.Statement.{statement}
+use Rattle.dues.proofs.output.write_totals.Tie as tie
 
 slice-aggregate-put-number : tie.Need-slice-aggregate-put-number
 slice-aggregate-put-number c = search needs

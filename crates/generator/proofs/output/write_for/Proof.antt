@@ -2,10 +2,10 @@
 use mathlib.Core.Path.{sym}
 use lib.Seq.{length-take-le}
 use Rattle.text.specs.WritingLaws.{same-fitted}
-use Rattle.generator_output.specs.OutputLaws.{refused-output, short-output, whole-output}
+use Rattle.generator.specs.OutputLaws.{refused-output, short-output, whole-output}
 use borrow.Author.Needs.{needs}
-use Rattle.generator_output.proofs.write_for.Statement.{statement}
-use Rattle.generator_output.proofs.write_for.Tie as tie
+use Rattle.generator.proofs.output.write_for.Statement.{statement}
+use Rattle.generator.proofs.output.write_for.Tie as tie
 
 refusal-of-requires : tie.Need-refusal-of-requires
 refusal-of-requires c κs = search needs

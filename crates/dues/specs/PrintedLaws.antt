@@ -5,9 +5,9 @@ use native.Mathlib.Omega.{arith}
 use lib.ListN.{length, length-append}
 use Rattle.text.specs.Lengths.{decimal-length, refusal-length}
 use Rattle.tariff.specs.declared.Shares.{Shares}
 use Rattle.dues.specs.declared.Answer.{Answer}
 use Rattle.dues.specs.declared.Answer.the-variants.{Totals, Refused}
-use Rattle.dues_output.specs.Printed.{totalsLine, answerLine, heldAnswer, outputOf}
+use Rattle.dues.specs.Printed.{totalsLine, answerLine, heldAnswer, outputOf}
 
 pub totals-length : (t : Shares) → length (totalsLine t) ≤ 22
 totals-length t = simp length-append (omega (arith, decimal-length (t .upper), decimal-length (t .lower)))

@@ -1,38 +1,36 @@
 -- No output is longer than the program's buffer; and the output by the reply.
 use Prim.Native.Nat.{ℕ, _*_, _≤_, _<_}
 use mathlib.Core.Path.{_≡_, refl, sym, _∙_, ap}
-use mathlib.Core.Bool.{true, not, _&&_}
+use mathlib.Core.Bool.{true, not}
 use mathlib.Core.List.{List, _++_}
 use native.Mathlib.Omega.{arith}
-use lib.Dec.{eqb, leb, ltb}
+use lib.Dec.{eqb, leb}
 use lib.ListN.{length, take, drop}
 use lib.Seq.{length-take-le}
 use borrow.Author.Tests.{leb-true}
-use Rattle.ground.specs.Tests.{and-l, and-r, by-cond}
+use Rattle.ground.specs.Tests.{and-r, by-cond}
 use Rattle.ground.specs.Limit.{limit}
 use Rattle.model.specs.Questions.{Reply, accepted, refused, number}
 use Rattle.model.specs.QuestionLaws.{all-yes, reply-refused}
-use Rattle.model.specs.Ranges.{sizesInRange}
+use Rattle.model.specs.RangeLaws.{ranges}
 use Rattle.records.specs.Bytes.{byte, number2, number4}
 use Rattle.event_record.specs.Events.{eventLength}
 use Rattle.text.specs.Text.{refusal}
 use Rattle.text.specs.Lengths.{refusal-length}
 use Rattle.text.specs.Writing.{fitted, fittedLength}
 use Rattle.text.specs.WritingLaws.{nothing-fitted, fitted-whole}
 use Rattle.generator.specs.File.{fileOf, mostDrawn, asked, refusalOf, generated}
 use Rattle.generator.specs.FileLaws.{length-file}
 use Rattle.generator.specs.ReplyLaws.{not-refused, file-reply}
 use Rattle.generator.specs.Claim.{recordsIn}
-use Rattle.generator_output.specs.Output.{fileOrRefusal, outputFor, outputOf, longestOutput, AllFit}
+use Rattle.generator.specs.Output.{fileOrRefusal, outputFor, outputOf, longestOutput, AllFit}
 
 -- at most 16 controllers and 4,000 drawn events
 limits : (n f count start : ℕ) → refusalOf n f count start ≡ accepted → (n ≤ limit) × (count ≤ mostDrawn)
-unfolding refusalOf sizesInRange
+unfolding refusalOf
 limits n f count start e =
     let y = all-yes (asked n f count start) e in
-    let a : (leb 2 n && leb n limit && leb 1 f) ≡ true = and-l (leb 2 n && leb n limit && leb 1 f) (ltb f n) (y .0) in
-    let b : (leb 2 n && leb n limit) ≡ true = and-l (leb 2 n && leb n limit) (leb 1 f) a in
-    (leb-true n limit (and-r (leb 2 n) (leb n limit) b), leb-true count mostDrawn (and-r (not (eqb start 0)) (leb count mostDrawn) (y .1 .0)))
+    (ranges n f (y .0) .small, leb-true count mostDrawn (and-r (not (eqb start 0)) (leb count mostDrawn) (y .1 .0)))
 
 for-length : (n f count start : ℕ) → length (outputFor n f count start) ≤ longestOutput
 unfolding outputFor

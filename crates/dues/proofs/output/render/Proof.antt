@@ -1,10 +1,10 @@
 -- `dues_output::render` meets its contract.
 use mathlib.Core.Path.{sym, _∙_, ap}
 use Rattle.text.specs.WritingLaws.{same-fitted, rendered}
-use Rattle.dues_output.specs.Printed.{answerLine}
+use Rattle.dues.specs.Printed.{answerLine}
 use borrow.Author.Needs.{needs}
-use Rattle.dues_output.proofs.render.Statement.{statement}
-use Rattle.dues_output.proofs.render.Tie as tie
+use Rattle.dues.proofs.output.render.Statement.{statement}
+use Rattle.dues.proofs.output.render.Tie as tie
 
 held-answer-requires : tie.Need-held-answer-requires
 held-answer-requires c κs = search needs
