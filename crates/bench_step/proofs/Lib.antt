@@ -1,7 +1,6 @@
-mod PlayLaws
 mod Defaults
 mod Maps
+mod StationsRead
 mod Outside
 mod Agrees
-mod StationsRead
 mod StepLaws

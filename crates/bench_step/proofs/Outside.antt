@@ -1,19 +1,21 @@
 -- A bench that says it has more controllers than the limit (no run leads there): an event of one that it has no station for is accepted or refused
 -- as any other, and changes no station.
-use Prim.Native.Nat.{ℕ, _<_, _≤_, _-_}
-use mathlib.Core.Path.{_≡_, refl, _∙_}
+use Prim.Native.Nat.{_<_, _≤_, _-_}
+use mathlib.Core.Path.{_≡_, refl, sym, _∙_}
 use mathlib.Core.Bool.{true, false, _&&_, false≢true}
+use mathlib.Core.Logic.{inl, inr}
 use mathlib.Core.List.{List, []}
 use native.Mathlib.Omega.{arith}
-use lib.Dec.{leb, ltb}
+use lib.Dec.{leb}
 use lib.ListN.{length, replicate}
 use lib.Seq.{set-out}
-use borrow.Author.Tests.{leb-true}
+use borrow.Author.Tests.{leb-true, leb-false}
 use Rattle.ground.specs.Limit.{limit}
-use Rattle.ground.specs.Tests.{refuted, and-l, and-r}
+use Rattle.ground.specs.Tests.{split, refuted, and-l, and-r}
 use Rattle.ground.specs.Lists.{nth, put, nth-past}
 use Rattle.votes.specs.VoteSets.{empty}
 use Rattle.votes.specs.declared.VoteSet.{VoteSet}
+use Rattle.model.specs.RangeLaws.{ranges, numbered}
 use Rattle.model.specs.Ranges.{sizesInRange, isController}
 use Rattle.model.specs.declared.Event.{Event}
 use Rattle.model.specs.declared.Event.the-variants.{Lock, Order, Cast, Deliver, Timeout, Decide, Stop, Save, Restore}
@@ -26,27 +28,21 @@ use Rattle.protocol.specs.Controllers.{cleared}
 use Rattle.protocol.specs.Rules.{passedOver, becomes}
 use Rattle.protocol.specs.Calls.{validIdentity, vote, receive, timeout, awaitsDecision, decide, stop}
 use Rattle.protocol.specs.Benches.{freshStation, fresh, station, sentBy, identity}
-use Rattle.protocol.specs.Steps.{perform, effectOf, effect, answering}
+use Rattle.protocol.specs.Steps.{effectOf, effect, answering, putBack, performOne, perform}
 use Rattle.protocol.specs.Events.{concernsOne, subject, source, restoreFrom, answerTo}
-use Rattle.bench_step.proofs.PlayLaws.{performed}
-use Rattle.bench_step.proofs.StationsRead.{stationRead}
+use Rattle.bench_step.proofs.StationsRead.{stationRead, sentRead, read-sent, read-station}
 
--- the number of no lock's controller
-pub few : (n f : ℕ) → sizesInRange n f ≡ true → n ≤ limit
-unfolding sizesInRange
-few n f e = leb-true n limit (and-r (leb 2 n) (leb n limit) (and-l (leb 2 n && leb n limit) (leb 1 f) (and-l (leb 2 n && leb n limit && leb 1 f) (ltb f n) e)))
-
-pub within : (n k : ℕ) → isController n k ≡ true → k ≤ n
-unfolding isController
-within n k e = leb-true k n (and-r (leb 1 k) (leb k n) e)
+-- a valid identity has a station
+pub placed : (me : Identity) → validIdentity me ≡ true → (1 ≤ me .id) × (me .id ≤ limit)
+unfolding validIdentity
+placed me e =
+    let both = and-l (sizesInRange (me .n) (me .f) && isController (me .n) (me .id)) (leb 1 (me .order)) e in
+    let s = ranges (me .n) (me .f) (and-l (sizesInRange (me .n) (me .f)) (isController (me .n) (me .id)) both) in
+    let k = numbered (me .n) (me .id) (and-r (sizesInRange (me .n) (me .f)) (isController (me .n) (me .id)) both) in
+    (k .low, omega (arith, s .small, k .high))
 
 no-member : (me : Identity) → limit < me .id → validIdentity me ≡ false
-unfolding validIdentity
-no-member me h = refuted (validIdentity me) (λ e.
-    let both = and-l (sizesInRange (me .n) (me .f) && isController (me .n) (me .id)) (leb 1 (me .order)) e in
-    let s : me .n ≤ limit = few (me .n) (me .f) (and-l (sizesInRange (me .n) (me .f)) (isController (me .n) (me .id)) both) in
-    let k : me .id ≤ me .n = within (me .n) (me .id) (and-r (sizesInRange (me .n) (me .f)) (isController (me .n) (me .id)) both) in
-    omega arith)
+no-member me h = refuted (validIdentity me) (λ e. omega (arith, placed me e .1))
 
 -- then what a controller that has just begun leaves of what is shared does not depend on the list that it holds
 alike : (m : Shared) (e : Event) (sent : Sent) (l l′ : List VoteSet) → concernsOne e ≡ true → limit < subject e
@@ -62,14 +58,38 @@ alike m (Stop i) sent l l′ o h = refl
 alike m (Save i) sent l l′ o h = refl
 alike m (Restore i) sent l l′ o h = refl
 
--- an accepted event of a number past the limit changes no station; what it leaves of what is shared, the code finds on the station that it reads
-pub outside : (b : Bench) (e : Event) → length (b .stations) ≡ limit → concernsOne e ≡ true → limit < subject e
-    → perform b e ≡ record { shared = (effect (b .shared) e (sentBy b (source e)) (stationRead b (subject e))) .shared; stations = b .stations }
+performed : (b : Bench) (e : Event) → concernsOne e ≡ true → perform b e ≡ performOne b e
+unfolding perform
+performed b (Lock n f) o = absurd (false≢true o)
+performed b (Order k) o = absurd (false≢true o)
+performed b (Cast i willing target) o = refl
+performed b (Deliver i j kind) o = refl
+performed b (Timeout i) o = refl
+performed b (Decide i move) o = refl
+performed b (Stop i) o = refl
+performed b (Save i) o = refl
+performed b (Restore i) o = refl
+
+-- an accepted event of a number past the limit changes no station, whatever it is put back with; what it leaves of what is shared, the code finds on the
+-- station that it reads
+outside : (b : Bench) (e : Event) → length (b .stations) ≡ limit → concernsOne e ≡ true → limit < subject e
+    → putBack b (subject e) (effect (b .shared) e (sentBy b (source e)) (stationRead b (subject e))) ≡ performOne b e
 unfolding put
-outside b e l o h = performed b e o ∙ λ t. record { shared = same t; stations = set-out (b .stations) (subject e - 1) ((effect (b .shared) e (sentBy b (source e)) (station b (subject e))) .station) (omega arith) t }
+outside b e l o h = λ t. record { shared = same t; stations = (past-out (stationRead b (subject e)) ∙ sym (past-out (station b (subject e)))) t }
   where
     past : (d : Station) → nth d (b .stations) (subject e) ≡ d
     past d = nth-past d (b .stations) (subject e) (omega arith)
 
-    same : (effect (b .shared) e (sentBy b (source e)) (station b (subject e))) .shared ≡ (effect (b .shared) e (sentBy b (source e)) (stationRead b (subject e))) .shared
-    same = unfold station in rw (past (freshStation []), past (freshStation (replicate limit empty))) (alike (b .shared) e (sentBy b (source e)) [] (replicate limit empty) o h)
+    same : (effect (b .shared) e (sentBy b (source e)) (stationRead b (subject e))) .shared ≡ (effect (b .shared) e (sentBy b (source e)) (station b (subject e))) .shared
+    same = unfold station in rw (past (freshStation []), past (freshStation (replicate limit empty))) (alike (b .shared) e (sentBy b (source e)) (replicate limit empty) [] o h)
+
+    past-out : (s : Station) → put (b .stations) (subject e) ((effect (b .shared) e (sentBy b (source e)) s) .station) ≡ b .stations
+    past-out s = set-out (b .stations) (subject e - 1) ((effect (b .shared) e (sentBy b (source e)) s) .station) (omega arith)
+
+-- so an event of one controller, played on the station that the code reads and put back, does what it should
+pub put-read : (b : Bench) (e : Event) → length (b .stations) ≡ limit → concernsOne e ≡ true → 1 ≤ subject e
+    → putBack b (subject e) (effect (b .shared) e (sentRead b e) (stationRead b (subject e))) ≡ perform b e
+put-read b e l o k = rw (performed b e o, read-sent b (source e)) (elim (split (leb (subject e) limit)) [
+  | inl h ↦ rw (read-station b (subject e) l k (leb-true (subject e) limit h))
+  | inr h ↦ outside b e l o (leb-false (subject e) limit h)
+])

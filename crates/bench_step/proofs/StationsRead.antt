@@ -21,6 +21,10 @@ use Rattle.bench_step.proofs.Defaults.{nth-alike, nth-within}
 abbrev pub stationRead : Bench → ℕ → Station
 stationRead b i = nth (freshStation (replicate limit empty)) (b .stations) i
 
+-- and of what an event's source has sent
+abbrev pub sentRead : Bench → Event → Sent
+sentRead b e = (stationRead b (source e)) .sent
+
 read-condition : (b : Bench) (i : ℕ) → (stationRead b i) .controller .condition ≡ (station b i) .controller .condition
 unfolding station freshStation fresh
 read-condition b i = nth-alike (λ (s : Station). s .controller .condition) (freshStation (replicate limit empty)) (freshStation []) refl (b .stations) i
@@ -38,13 +42,13 @@ unfolding station
 read-station b i l h k = nth-within (freshStation (replicate limit empty)) (freshStation []) (b .stations) i h (rw l k)
 
 pub read-facts : (b : Bench) (e : Event) (may agrees : Bool)
-    → factsOf (b .shared) e (stationRead b (subject e)) ((stationRead b (source e)) .sent) may agrees ≡ factsOf (b .shared) e (station b (subject e)) (sentBy b (source e)) may agrees
+    → factsOf (b .shared) e (stationRead b (subject e)) (sentRead b e) may agrees ≡ factsOf (b .shared) e (station b (subject e)) (sentBy b (source e)) may agrees
 read-facts b e may agrees =
     ap (λ (k : Condition). record {
       shared = b .shared;
       condition = k;
       «has_checkpoint» = isSaved ((stationRead b (subject e)) .saved);
-      receivers = receiversIn e ((stationRead b (source e)) .sent);
+      receivers = receiversIn e (sentRead b e);
       «may_open» = may;
       agrees = agrees;
     }) (read-condition b (subject e))
@@ -52,7 +56,7 @@ read-facts b e may agrees =
       shared = b .shared;
       condition = (station b (subject e)) .controller .condition;
       «has_checkpoint» = isSaved s;
-      receivers = receiversIn e ((stationRead b (source e)) .sent);
+      receivers = receiversIn e (sentRead b e);
       «may_open» = may;
       agrees = agrees;
     }) (read-saved b (subject e))

@@ -1,19 +1,17 @@
 -- What one call gives: the bench's answer to an event, and the bench after it.
-use mathlib.Core.Bool.{true}
-use lib.ListN.{replicate}
-use Rattle.ground.specs.Limit.{limit}
-use Rattle.votes.specs.VoteSets.{empty}
+use Prim.Native.Nat.{ℕ}
+use mathlib.Core.Bool.{cond}
+use lib.Dec.{eqb}
 use Rattle.model.specs.declared.Event.{Event}
-use Rattle.protocol.specs.declared.Shared.{Shared}
 use Rattle.protocol.specs.declared.Bench.{Bench}
-use Rattle.protocol.specs.Benches.{freshStation, unsentAll}
-use Rattle.protocol.specs.Questions.{Reply, number, firstNo, mayOpen, questionsOf, factsOf, reply}
-use Rattle.protocol.specs.Steps.{step}
+use Rattle.protocol.specs.declared.Effect.{Effect}
+use Rattle.protocol.specs.Questions.{number, reply}
+use Rattle.protocol.specs.Steps.{putBack, step}
 use Rattle.bench_step.specs.declared.Stepped.{Stepped}
 
 abbrev pub stepped : Bench → Event → Stepped
 stepped b e = record { answer = number (reply b e); bench = step b e }
 
--- the answer to a lock or an order, which look at what is shared: asked with a station of no controller
-abbrev pub wholeReply : Shared → Event → Reply
-wholeReply m e = firstNo (questionsOf (factsOf m e (freshStation (replicate limit empty)) unsentAll (mayOpen m) true) e)
+-- the same from the answer to an event of controller i and from what the event leaves if it is accepted
+abbrev pub settled : Bench → ℕ → ℕ → Effect → Stepped
+settled b i answer t = record { answer = answer; bench = cond (eqb answer 0) (putBack b i t) b }

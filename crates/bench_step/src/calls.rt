@@ -1,51 +1,57 @@
-// A controller as it is called, the message that is handed to it, and the checkpoint from which it is restored.
-use crate::events::of_kind;
-use controller::restore;
-use controller_state::passed_over;
+// The events that INBAC's rules answer: a vote, a message that is delivered, a timeout.
+use crate::Stepped;
+use crate::effects::answering;
+use crate::effects::settle;
+use crate::stations::condition_of;
+use crate::stations::identity;
+use crate::stations::message;
+use crate::stations::of_kind;
+use crate::stations::station_at;
+use bench_state::cast_question;
+use bench_state::deliver_question;
+use bench_state::timeout_question;
+use controller::receive;
+use controller::timeout;
+use controller::vote;
+use controller_state::is_contradicted;
 use model::Kind;
-use model::Message;
-use protocol::Answer;
-use protocol::Controller;
-use protocol::Identity;
-use protocol::Saved;
-use protocol::Sent;
-use protocol::Shared;
+use protocol::Bench;
 ghost use mathlib.Core.Path.{_≡_};
-ghost use Rattle.protocol.specs.Benches.{identity, message};
-ghost use Rattle.protocol.specs.Events.{restoreFrom};
+ghost use Rattle.model.specs.declared.Event.the-variants.{Cast, Deliver, Timeout};
+ghost use Rattle.bench_step.specs.Steps.{stepped};
 
-pub(crate) fn identity(m: Shared, id: u8) -> Identity
-    ensures { λ r. ⌜ r ≡ identity m id ⌝ }
+pub(crate) fn cast(b: Bench, id: u8, willing: bool, target: u32) -> Stepped
+    ensures { λ r. ⌜ r ≡ stepped b (Cast id willing target) ⌝ }
 {
-    Identity {
-        n: m.n,
-        f: m.f,
-        id,
-        order: m.order,
-    }
+    let s = station_at(b, id);
+    let answer = cast_question(b.shared, condition_of(s), id, target);
+    let a = vote(identity(b.shared, id), willing, target, s.controller);
+    settle(b, id, answer, answering(b.shared, s, a))
 }
 
-pub(crate) fn message(m: Shared, kind: Kind, from: u8, to: u8, sent: Sent) -> Message
-    ensures { λ r. ⌜ r ≡ message m kind from to sent ⌝ }
+// 24, asked last, is the controller's own answer.
+pub(crate) fn deliver(b: Bench, from: u8, to: u8, kind: Kind) -> Stepped
+    ensures { λ r. ⌜ r ≡ stepped b (Deliver from to kind) ⌝ }
 {
-    let out = of_kind(kind, sent);
-    let votes = out.votes;
-    Message {
-        kind,
-        n: m.n,
-        f: m.f,
-        from,
-        to,
-        order: m.order,
-        votes,
-    }
+    let s = station_at(b, to);
+    let sender = station_at(b, from);
+    let out = of_kind(kind, sender.sent);
+    let a = receive(
+        identity(b.shared, to),
+        message(b.shared, kind, from, to, out.votes),
+        s.controller,
+    );
+    let reception = a.reception;
+    let agrees = !is_contradicted(reception);
+    let answer = deliver_question(b.shared, condition_of(s), out.to, agrees, from, to, kind);
+    settle(b, to, answer, answering(b.shared, s, a))
 }
 
-pub(crate) fn restore_from(me: Identity, saved: Saved, c: Controller) -> Answer
-    ensures { λ r. ⌜ r ≡ restoreFrom me saved c ⌝ }
+pub(crate) fn time_out(b: Bench, id: u8) -> Stepped
+    ensures { λ r. ⌜ r ≡ stepped b (Timeout id) ⌝ }
 {
-    match saved {
-        Saved::Nothing => passed_over(c),
-        Saved::Newest(checkpoint) => restore(me, checkpoint, c),
-    }
+    let s = station_at(b, id);
+    let answer = timeout_question(b.shared, condition_of(s), id);
+    let a = timeout(identity(b.shared, id), s.controller);
+    settle(b, id, answer, answering(b.shared, s, a))
 }

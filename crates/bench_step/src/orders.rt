@@ -1,5 +1,10 @@
-// What a new order leaves.
+// A lock makes a new bench, an order renews every station.
+use crate::Stepped;
+use bench_state::bench_of;
+use bench_state::lock_question;
+use bench_state::may_open;
 use bench_state::order_opened;
+use bench_state::order_question;
 use bench_state::unsent_all;
 use controller::renew;
 use ground::LIMIT;
@@ -7,8 +12,20 @@ use protocol::Bench;
 use protocol::Station;
 ghost use mathlib.Core.Path.{_≡_};
 ghost use mathlib.Core.List.{map};
-ghost use Rattle.model.specs.declared.Event.the-variants.{Order};
+ghost use Rattle.model.specs.declared.Event.the-variants.{Lock, Order};
 ghost use Rattle.protocol.specs.Steps.{renewed, perform};
+ghost use Rattle.bench_step.specs.Steps.{stepped};
+
+pub(crate) fn lock(b: Bench, n: u8, f: u8) -> Stepped
+    ensures { λ r. ⌜ r ≡ stepped b (Lock n f) ⌝ }
+{
+    let answer = lock_question(b.shared, n, f);
+    if answer != 0 {
+        return Stepped { answer, bench: b };
+    }
+    let bench = bench_of(true, n, f);
+    Stepped { answer, bench }
+}
 
 // A station in a new order: old messages are gone, the checkpoint remains.
 fn renewed(s: Station) -> Station
@@ -36,7 +53,7 @@ fn renew_all(stations: [Station; LIMIT]) -> [Station; LIMIT]
 }
 
 // The bench in a new order.
-pub(crate) fn opened(b: Bench, order: u32) -> Bench
+fn opened(b: Bench, order: u32) -> Bench
     ensures { λ r. ⌜ r ≡ perform b (Order order) ⌝ }
 {
     let shared = order_opened(b.shared, order);
@@ -46,4 +63,15 @@ pub(crate) fn opened(b: Bench, order: u32) -> Bench
         shared,
         stations: renewed,
     }
+}
+
+pub(crate) fn open(b: Bench, order: u32) -> Stepped
+    ensures { λ r. ⌜ r ≡ stepped b (Order order) ⌝ }
+{
+    let answer = order_question(b.shared, may_open(b.shared), order);
+    if answer != 0 {
+        return Stepped { answer, bench: b };
+    }
+    let bench = opened(b, order);
+    Stepped { answer, bench }
 }

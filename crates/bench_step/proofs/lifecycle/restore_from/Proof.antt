@@ -1,7 +1,7 @@
 use Rattle.protocol.specs.Events.{restoreFrom}
 use borrow.Author.Needs.{needs}
-use Rattle.bench_step.proofs.calls.restore_from.Statement.{statement}
-use Rattle.bench_step.proofs.calls.restore_from.Tie as tie
+use Rattle.bench_step.proofs.lifecycle.restore_from.Statement.{statement}
+use Rattle.bench_step.proofs.lifecycle.restore_from.Tie as tie
 
 enum-told : tie.Need-enum-told
 enum-told c = search needs

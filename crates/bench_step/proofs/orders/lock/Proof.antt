@@ -1,0 +1,28 @@
+use mathlib.Core.Path.{_≡_}
+use Rattle.model.specs.declared.Event.the-variants.{Lock}
+use Rattle.protocol.specs.Questions.{number, reply}
+use Rattle.protocol.specs.Steps.{perform}
+use Rattle.bench_step.proofs.StepLaws.{refuses, accepts}
+use borrow.Author.Needs.{needs}
+use Rattle.bench_step.proofs.orders.lock.Statement.{statement}
+use Rattle.bench_step.proofs.orders.lock.Tie as tie
+
+asked : (c : tie.After-lock-question) → c .lock-question .result ≡ number (reply (c .before .args .b) (Lock (c .before .args .n) (c .before .args .f)))
+unfolding reply
+asked c = c .lock-question .ensures
+
+lock-question-requires : tie.Need-lock-question-requires
+lock-question-requires c κs = search needs
+
+returns : tie.Need-returns
+returns c = refuses _ _ _ (asked (c .before)) (c .if1 .taken)
+
+bench-of-requires : tie.Need-bench-of-requires
+bench-of-requires c κs = search needs
+
+returns-2 : tie.Need-returns-2
+unfolding perform
+returns-2 c = accepts _ _ _ (asked (c .before .before)) (c .before .if1 .left) _ (c .bench-of .ensures)
+
+pub lock-spec : {M : Type 1} → statement M
+lock-spec = tie.close (tie.spec lock-question-requires returns bench-of-requires returns-2)
