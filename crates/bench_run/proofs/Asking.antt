@@ -9,7 +9,7 @@ use lib.Dec.{eqb}
 use Rattle.ground.specs.Limit.{limit}
 use Rattle.ground.specs.Tests.{no-both, refuted, split, and-l, and-r}
 use Rattle.model.specs.QuestionLaws.{AllYes}
-use Rattle.model.specs.RangeLaws.{numbered, is-numbered}
+use Rattle.model.specs.RangeLaws.{member, is-member}
 use Rattle.model.specs.Ranges.{isController, differentControllers}
 use Rattle.model.specs.declared.Event.{Event}
 use Rattle.model.specs.declared.Event.the-variants.{Lock, Order, Cast, Deliver, Timeout, Decide, Stop, Save, Restore}
@@ -26,7 +26,7 @@ pub record Seated (k : ℕ) : Type 0 where
   pub high : k ≤ limit
 
 has-seat : (n k : ℕ) → n ≤ limit → isController n k ≡ true → Seated k
-has-seat n k h e = let r = numbered n k e in record { low = r .low; high = omega (arith, r .high) }
+has-seat n k h e = let r = member n k e in record { low = r .low; high = omega (arith, r .high) }
 
 -- refused by 5 or by 7, whatever is asked after
 far : (l c : Bool) (rest : List Question) → c ≡ false → firstNo (ask 5 l ∷ ask 7 c ∷ rest) ≡ unless 5 l (refused 7)
@@ -40,7 +40,7 @@ module _ (n : ℕ) (few : n ≤ limit) where
   no-seat : (i : ℕ) → isController limit i ≡ false → isController n i ≡ false
   no-seat i h = refuted (isController n i) (λ e.
       let k = has-seat n i few e in
-      no-both (isController limit i) (is-numbered limit i (k .low) (k .high)) h)
+      no-both (isController limit i) (is-member limit i (k .low) (k .high)) h)
 
   no-sender : (i j : ℕ) → isController limit i ≡ false → differentControllers n i j ≡ false
   no-sender i j h = rw (no-seat i h)
@@ -56,7 +56,7 @@ Seat b i s = 1 ≤ i → i ≤ limit → s ≡ station b i
 module _ (b : Bench) (few : b .shared .n ≤ limit) (own other : Station) (may : Bool) where
   -- of an event of one controller, where subject and source are one
   seated : (i : ℕ) → Seat b i own → Seat b i other → isController limit i ≡ true → (own ≡ station b i) × (other ≡ station b i)
-  seated i o p y = let k = numbered limit i y in (o (k .low) (k .high), p (k .low) (k .high))
+  seated i o p y = let k = member limit i y in (o (k .low) (k .high), p (k .low) (k .high))
 
   pub same-questions : (e : Event) → Seat b (subject e) own → Seat b (source e) other
       → firstNo (questionsOf (factsOf (b .shared) e own (other .sent) may true) e) ≡ firstNo (questionsOf (factsOf (b .shared) e (station b (subject e)) (sentBy b (source e)) may true) e)
@@ -69,8 +69,8 @@ module _ (b : Bench) (few : b .shared .n ≤ limit) (own other : Station) (may :
   same-questions (Deliver i j k) o p = elim (split (isController limit i)) [
     | inl x ↦ elim (split (isController limit j)) [
       | inl y ↦
-          let s = numbered limit i x in
-          let r = numbered limit j y in
+          let s = member limit i x in
+          let r = member limit j y in
           rw (o (r .low) (r .high), p (s .low) (s .high))
       | inr n ↦ alike _ _ _ _ (no-receiver (b .shared .n) few i j n)
     ]

@@ -11,7 +11,7 @@ use Rattle.ground.specs.Limit.{limit}
 use Rattle.ground.specs.Tests.{by-cond, and-l, and-r}
 use Rattle.ground.specs.Lists.{put}
 use Rattle.votes.specs.VoteSets.{empty}
-use Rattle.model.specs.RangeLaws.{numbered}
+use Rattle.model.specs.RangeLaws.{member}
 use Rattle.model.specs.QuestionLaws.{is-accepted, AllYes, all-yes}
 use Rattle.model.specs.Ranges.{isController}
 use Rattle.model.specs.declared.Event.{Event}
@@ -56,7 +56,7 @@ effectAt b e = effect (b .shared) e (sentBy b (source e)) (station b (subject e)
 one-idle : (b : Bench) (e : Event) → isController (b .shared .n) (subject e) ≡ true → (effectAt b e) .shared .n ≡ b .shared .n → Idle b → Idle (performOne b e)
 unfolding put
 one-idle b e y q h k p =
-    let s = numbered (b .shared .n) (subject e) y in
+    let s = member (b .shared .n) (subject e) y in
     let at : b .shared .n ≤ k = subst (λ (n : ℕ). n ≤ k) q p in
     getD-set-other (b .stations) (subject e - 1) k ((effectAt b e) .station) begun (λ x. omega (arith, s .low, s .high, at, x)) ∙ h k at
 

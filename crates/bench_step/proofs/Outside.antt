@@ -15,7 +15,7 @@ use Rattle.ground.specs.Tests.{split, refuted, and-l, and-r}
 use Rattle.ground.specs.Lists.{nth, put, nth-past}
 use Rattle.votes.specs.VoteSets.{empty}
 use Rattle.votes.specs.declared.VoteSet.{VoteSet}
-use Rattle.model.specs.RangeLaws.{ranges, numbered}
+use Rattle.model.specs.RangeLaws.{ranges, member}
 use Rattle.model.specs.Ranges.{sizesInRange, isController}
 use Rattle.model.specs.declared.Event.{Event}
 use Rattle.model.specs.declared.Event.the-variants.{Lock, Order, Cast, Deliver, Timeout, Decide, Stop, Save, Restore}
@@ -38,7 +38,7 @@ unfolding validIdentity
 placed me e =
     let both = and-l (sizesInRange (me .n) (me .f) && isController (me .n) (me .id)) (leb 1 (me .order)) e in
     let s = ranges (me .n) (me .f) (and-l (sizesInRange (me .n) (me .f)) (isController (me .n) (me .id)) both) in
-    let k = numbered (me .n) (me .id) (and-r (sizesInRange (me .n) (me .f)) (isController (me .n) (me .id)) both) in
+    let k = member (me .n) (me .id) (and-r (sizesInRange (me .n) (me .f)) (isController (me .n) (me .id)) both) in
     (k .low, omega (arith, s .small, k .high))
 
 no-member : (me : Identity) → limit < me .id → validIdentity me ≡ false

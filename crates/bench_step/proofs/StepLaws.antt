@@ -8,7 +8,7 @@ use lib.ListN.{length}
 use borrow.Author.Tests.{eqb-true, eqb-false}
 use Rattle.ground.specs.Limit.{limit}
 use Rattle.ground.specs.Tests.{split, and-l, and-r}
-use Rattle.model.specs.RangeLaws.{numbered}
+use Rattle.model.specs.RangeLaws.{member}
 use Rattle.model.specs.Ranges.{isController}
 use Rattle.model.specs.declared.Event.{Event}
 use Rattle.model.specs.declared.Event.the-variants.{Lock, Order, Cast, Deliver, Timeout, Decide, Stop, Save, Restore}
@@ -37,15 +37,15 @@ module _ (b : Bench) (e : Event) (q : ℕ) (asked : q ≡ number (reply b e)) wh
 numbered-from-1 : (b : Bench) (e : Event) → concernsOne e ≡ true → number (reply b e) ≡ 0 → 1 ≤ subject e
 numbered-from-1 b (Lock n f) o z = absurd (false≢true o)
 numbered-from-1 b (Order k) o z = absurd (false≢true o)
-numbered-from-1 b (Cast i willing target) o z = numbered (b .shared .n) i (zero-yes b (Cast i willing target) z .1 .0) .low
+numbered-from-1 b (Cast i willing target) o z = member (b .shared .n) i (zero-yes b (Cast i willing target) z .1 .0) .low
 numbered-from-1 b (Deliver i j kind) o z =
     let y = and-l (isController (b .shared .n) i && isController (b .shared .n) j) (not (eqb i j)) (zero-yes b (Deliver i j kind) z .1 .0) in
-    numbered (b .shared .n) j (and-r (isController (b .shared .n) i) (isController (b .shared .n) j) y) .low
-numbered-from-1 b (Timeout i) o z = numbered (b .shared .n) i (zero-yes b (Timeout i) z .1 .0) .low
-numbered-from-1 b (Decide i move) o z = numbered (b .shared .n) i (zero-yes b (Decide i move) z .1 .0) .low
-numbered-from-1 b (Stop i) o z = numbered (b .shared .n) i (zero-yes b (Stop i) z .1 .0) .low
-numbered-from-1 b (Save i) o z = numbered (b .shared .n) i (zero-yes b (Save i) z .1 .0) .low
-numbered-from-1 b (Restore i) o z = numbered (b .shared .n) i (zero-yes b (Restore i) z .1 .0) .low
+    member (b .shared .n) j (and-r (isController (b .shared .n) i) (isController (b .shared .n) j) y) .low
+numbered-from-1 b (Timeout i) o z = member (b .shared .n) i (zero-yes b (Timeout i) z .1 .0) .low
+numbered-from-1 b (Decide i move) o z = member (b .shared .n) i (zero-yes b (Decide i move) z .1 .0) .low
+numbered-from-1 b (Stop i) o z = member (b .shared .n) i (zero-yes b (Stop i) z .1 .0) .low
+numbered-from-1 b (Save i) o z = member (b .shared .n) i (zero-yes b (Save i) z .1 .0) .low
+numbered-from-1 b (Restore i) o z = member (b .shared .n) i (zero-yes b (Restore i) z .1 .0) .low
 
 -- what the questions of an event look at, as the code reads it
 abbrev pub factsRead : Bench → Event → Facts

@@ -24,15 +24,15 @@ ranges n f e = record {
   high = leb-true _ _ (search (and-l, and-r));
 }
 
--- "numbered 1 to n"
-pub record Numbered (n k : ℕ) : Type 0 where
+-- "n controllers, numbered 1 to n"
+pub record Member (n k : ℕ) : Type 0 where
   pub low : 1 ≤ k
   pub high : k ≤ n
 
-pub numbered : (n k : ℕ) → isController n k ≡ true → Numbered n k
+pub member : (n k : ℕ) → isController n k ≡ true → Member n k
 unfolding isController
-numbered n k e = record { low = leb-true 1 k (and-l (leb 1 k) (leb k n) e); high = leb-true k n (and-r (leb 1 k) (leb k n) e) }
+member n k e = record { low = leb-true 1 k (and-l (leb 1 k) (leb k n) e); high = leb-true k n (and-r (leb 1 k) (leb k n) e) }
 
-pub is-numbered : (n k : ℕ) → 1 ≤ k → k ≤ n → isController n k ≡ true
+pub is-member : (n k : ℕ) → 1 ≤ k → k ≤ n → isController n k ≡ true
 unfolding isController
-is-numbered n k lo hi = and-i (leb 1 k) (leb k n) (le-leb 1 k lo) (le-leb k n hi)
+is-member n k lo hi = and-i (leb 1 k) (leb k n) (le-leb 1 k lo) (le-leb k n hi)

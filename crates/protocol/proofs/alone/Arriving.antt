@@ -13,7 +13,7 @@ use Rattle.votes.specs.VoteSets.{knows, wills}
 use Rattle.votes.specs.VoteLaws.{union-knows}
 use Rattle.votes.specs.Joining.{contradicts, join, agreedOr}
 use Rattle.votes.specs.declared.VoteSet.{VoteSet}
-use Rattle.model.specs.RangeLaws.{numbered}
+use Rattle.model.specs.RangeLaws.{member}
 use Rattle.model.specs.declared.Kind.{Kind}
 use Rattle.model.specs.declared.Kind.the-variants.{Vote, Ack, Help, Helped}
 use Rattle.model.specs.declared.Message.{Message}
@@ -58,10 +58,10 @@ module _ (me : Identity) (m : Message) (c : Controller) (k : Comes me m c) (o : 
   small = small-of me (and-l (validIdentity me) _ (and-l (validIdentity me && runs c) _ (and-l (validIdentity me && runs c && addressed me m) _ k)))
 
   from-low : 1 ≤ m .from
-  from-low = numbered _ _ (sender me m c k .0) .low
+  from-low = member _ _ (sender me m c k .0) .low
 
   from-high : m .from ≤ n
-  from-high = numbered _ _ (sender me m c k .0) .high
+  from-high = member _ _ (sender me m c k .0) .high
 
   formed : (j : ℕ) → wills s j ≡ true → knows s j ≡ true
   formed = within-has (s .willing) (s .known) (unfold suits in and-r (bitsInRange m) _ (and-l (bitsInRange m && within (m .votes .willing) (m .votes .known)) _ (suited me m c k)))

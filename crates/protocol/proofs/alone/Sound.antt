@@ -17,7 +17,7 @@ use Rattle.ground.specs.Lists.{nth, put, nth-put-at, length-put}
 use Rattle.ground.specs.Update.{upd, upd-same, upd-other}
 use Rattle.votes.specs.VoteSets.{empty, knows}
 use Rattle.votes.specs.declared.VoteSet.{VoteSet}
-use Rattle.model.specs.RangeLaws.{numbered}
+use Rattle.model.specs.RangeLaws.{member}
 use Rattle.model.specs.declared.Outcome.{Outcome}
 use Rattle.protocol.specs.declared.Identity.{Identity}
 use Rattle.protocol.specs.declared.Acks.{Acks}
@@ -189,4 +189,4 @@ counted-leaves n f i a o = sufficient-cases (Leaves n i) n f a (λ q. unfold pro
 
 pub place-of : (me : Identity) → validIdentity me ≡ true → (1 ≤ me .id) × (me .id ≤ me .n)
 unfolding validIdentity
-place-of me e = let r = numbered (me .n) (me .id) (search (and-l, and-r)) in (r .low, r .high)
+place-of me e = let r = member (me .n) (me .id) (search (and-l, and-r)) in (r .low, r .high)

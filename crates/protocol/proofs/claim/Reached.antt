@@ -19,7 +19,7 @@ use Rattle.votes.specs.Contradictions.{WellFormed}
 use Rattle.votes.specs.declared.VoteSet.{VoteSet}
 use Rattle.model.specs.QuestionLaws.{yes-all}
 use Rattle.model.specs.Ranges.{isController, positionInRange}
-use Rattle.model.specs.RangeLaws.{ranges, is-numbered}
+use Rattle.model.specs.RangeLaws.{ranges, is-member}
 use Rattle.model.specs.Routes.{route, voteRoute, ackRoute, helpRoute}
 use Rattle.model.specs.declared.Kind.{Kind}
 use Rattle.model.specs.declared.Kind.the-variants.{Vote, Ack, Help, Helped}
@@ -210,7 +210,7 @@ module _ (b : Bench) (a : Sound b) (h : Ranged b) (i : ℕ) where
       yes-all (aboutMessage (messageAt b kind i j)) (
         a .sized,
         (
-          and-i (isController n i && isController n j) (not (eqb i j)) (and-i (isController n i) (isController n j) (is-numbered n i lo (t .1)) (is-numbered n j (some-number _ j e) (t .2))) (differs kind j (t .3)),
+          and-i (isController n i && isController n j) (not (eqb i j)) (and-i (isController n i) (isController n j) (is-member n i lo (t .1)) (is-member n j (some-number _ j e) (t .2))) (differs kind j (t .3)),
           (le-leb 1 _ (t .0), (fits kind j lo (t .1) e, (t .3, tt))),
         ),
       )

@@ -22,7 +22,7 @@ use Rattle.votes.specs.JoinLaws.{join-agreed, join-refused}
 use Rattle.votes.specs.declared.VoteSet.{VoteSet}
 use Rattle.votes.specs.declared.Joined.{Joined}
 use Rattle.model.specs.Ranges.{isController}
-use Rattle.model.specs.RangeLaws.{ranges, numbered}
+use Rattle.model.specs.RangeLaws.{ranges, member}
 use Rattle.model.specs.Routes.{route, voteRoute}
 use Rattle.model.specs.declared.Kind.{Kind}
 use Rattle.model.specs.declared.Kind.the-variants.{Vote, Ack, Help, Helped}
@@ -189,7 +189,7 @@ module _ (me : Identity) (m : Message) (c : Controller) (k : Comes me m c) where
 
   from-range : (1 ≤ m .from) × (m .from ≤ width)
   from-range =
-      let r = numbered (me .n) (m .from) (sender .0) in
+      let r = member (me .n) (m .from) (sender .0) in
       (r .low, let y : me .n ≤ limit = small in omega (arith, r .high))
 
   pub unknown : m .kind ≡ Vote → knows s i ≡ false
@@ -282,10 +282,10 @@ again-is me w t c m ok e k h = rw k (ack-taken (me .n) (me .f) (m .from) (m .vot
     from-is = sender me m ((vote me w t c) .controller) h .0
 
     low : 1 ≤ m .from
-    low = numbered (me .n) (m .from) from-is .low
+    low = member (me .n) (m .from) from-is .low
 
     high : m .from ≤ me .n
-    high = numbered (me .n) (m .from) from-is .high
+    high = member (me .n) (m .from) from-is .high
 
 pub strays : Strays
 strays = record {

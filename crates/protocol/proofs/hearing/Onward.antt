@@ -17,7 +17,7 @@ use Rattle.ground.specs.Quantify.{countTo}
 use Rattle.ground.specs.Update.{upd-all, fun-ext}
 use Rattle.votes.specs.declared.VoteSet.{VoteSet}
 use Rattle.model.specs.Ranges.{isController, positionInRange}
-use Rattle.model.specs.RangeLaws.{Ranges, ranges, numbered}
+use Rattle.model.specs.RangeLaws.{Ranges, ranges, member}
 use Rattle.model.specs.Routes.{route}
 use Rattle.model.specs.Numbers.{wordOf, isNone}
 use Rattle.model.specs.QuestionLaws.{AllYes, all-yes}
@@ -300,10 +300,10 @@ module _ (n f o : ℕ) (f<n : f < n) (1≤f : 1 ≤ f) (small : n ≤ limit) (op
       both = and-l _ (not (eqb i j)) (differ es m kind i j e)
 
       low : (k : ℕ) → isController n k ≡ true → 1 ≤ k
-      low k x = numbered n k x .low
+      low k x = member n k x .low
 
       high : (k : ℕ) → isController n k ≡ true → k ≤ n
-      high k x = numbered n k x .high
+      high k x = member n k x .high
 
   deliver-all : (S : Kind → Bool) (kind : Kind) → ((k : Kind) → S k ≡ true → still kind k ≡ true) → S kind ≡ true → (es : List Event) → At es → Onto S es (AllDelivered kind)
   deliver-all S kind mild covered es m = let a : Onto S es (Rows S kind mild covered n) = deliver-rows S kind mild covered n es m in

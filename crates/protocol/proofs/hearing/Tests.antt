@@ -10,7 +10,7 @@ use Rattle.ground.specs.Tests.{and-l, and-r, or-e, or-l, or-r, eqb-same}
 use Rattle.ground.specs.Quantify.{allTo, all-at, all-of}
 use Rattle.ground.specs.Mask.{has}
 use Rattle.model.specs.Ranges.{isController}
-use Rattle.model.specs.RangeLaws.{numbered}
+use Rattle.model.specs.RangeLaws.{member}
 use Rattle.model.specs.Numbers.{isNone, kindNumber}
 use Rattle.model.specs.QuestionLaws.{AllYes, all-yes}
 use Rattle.model.specs.declared.Kind.{Kind}
@@ -185,10 +185,10 @@ module _ (es : List Event) where
       in-order es (Deliver i j kind) (subst (λ (y : Event). In y (logAt es)) (the-delivery i j kind (g .event) (g .passes)) (g .entry))
     where
       low : (i : ℕ) → isController n i ≡ true → 1 ≤ i
-      low i c = numbered n i c .low
+      low i c = member n i c .low
 
       high : (i : ℕ) → isController n i ≡ true → i ≤ n
-      high i c = numbered n i c .high
+      high i c = member n i c .high
   passes-met answered e = λ i r p.
       let x : anyIn (isAnswer i) (logAt es) ≡ true = implied _ _ (implied _ _ (all-at n _ e i (r .low) (r .high)) (r .running)) (ap not p) in
       let g : FoundIn (isAnswer i) (logAt es) = found-in (isAnswer i) (logAt es) x in

@@ -12,7 +12,7 @@ use Rattle.ground.specs.Tests.{split, by-cond, and-l, and-r}
 use Rattle.ground.specs.Update.{upd, fun-ext}
 use Rattle.ground.specs.Lists.{nth, put, nth-put, length-put, map-at}
 use Rattle.model.specs.Ranges.{sizesInRange, isController}
-use Rattle.model.specs.RangeLaws.{Ranges, ranges, numbered}
+use Rattle.model.specs.RangeLaws.{Ranges, ranges, member}
 use Rattle.model.specs.declared.Kind.{Kind}
 use Rattle.model.specs.declared.Event.{Event}
 use Rattle.model.specs.declared.Event.the-variants.{Lock, Order, Cast, Deliver, Timeout, Decide, Stop, Save, Restore}
@@ -106,10 +106,10 @@ module _ (b : Bench) (ok : Sound b) where
   f = b .shared .f
 
   lows : (i : ℕ) → isController n i ≡ true → 1 ≤ i
-  lows i e = numbered n i e .low
+  lows i e = member n i e .low
 
   place : (i : ℕ) → isController n i ≡ true → i ≤ length (b .stations)
-  place i e = let p : length (b .stations) ≡ limit = ok .size in let q : n ≤ limit = ranges n f (ok .sized) .small in let h : i ≤ n = numbered n i e .high in omega arith
+  place i e = let p : length (b .stations) ≡ limit = ok .size in let q : n ≤ limit = ranges n f (ok .sized) .small in let h : i ≤ n = member n i e .high in omega arith
 
   -- behind the questions the test finds nothing
   clear-at : (e : Event) → accepts n f (view b) e ≡ true → Clear n f (view b) e
