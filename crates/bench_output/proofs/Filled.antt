@@ -1,17 +1,12 @@
 -- A list filled from its front: the first i are those of s, the others still those of d.
-use Prim.Native.Nat.{ℕ, zero, suc, _+_, _<_, _≤_}
-use mathlib.Core.List.{List, [], _∷_, _++_, append-nil}
+use Prim.Native.Nat.{ℕ, suc, _+_, _<_, _≤_}
+use mathlib.Core.List.{List, _++_, append-nil}
 use mathlib.Core.Path.{_≡_}
 use native.Mathlib.Nat.{zero-add}
 use native.Mathlib.Numerals.{add-one}
 use native.Mathlib.Omega.{arith}
-use lib.ListN.{length, getD, set, take, drop}
-use lib.Seq.{paste-suc, take-all, drop-nil}
-
-none-left : {A : Type 0} (l : List A) (i : ℕ) → length l ≤ i → drop i l ≡ []
-none-left [] i h = drop-nil i
-none-left (x ∷ l) zero h = absurd (omega arith)
-none-left (x ∷ l) (suc i) h = none-left l i (omega arith)
+use lib.ListN.{length, getD, set, take, drop, drop-of-length-le}
+use lib.Seq.{paste-suc, take-all}
 
 module _ {A : Type 0} (s d : List A) where
   pub one-filled : (i : ℕ) (z : A) → i < length s → i < length d → set (take i s ++ drop i d) i (getD s i z) ≡ take (i + 1) s ++ drop (i + 1) d
@@ -21,4 +16,4 @@ module _ {A : Type 0} (s d : List A) where
       rw add-one (rw e at (rw (zero-add i) at (paste-suc d 0 s i z g′ h)))
 
   pub all-filled : (i : ℕ) → length s ≤ i → length d ≤ i → take i s ++ drop i d ≡ s
-  all-filled i h g = rw (take-all i s h, none-left d i g, append-nil)
+  all-filled i h g = rw (take-all i s h, drop-of-length-le d g, append-nil)

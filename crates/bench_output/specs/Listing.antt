@@ -1,13 +1,11 @@
 -- Trial 1 from bytes to text: the records of document 01's listing, one after the other, and what the program prints of them.
-use Prim.Native.Nat.{ℕ}
 use mathlib.Core.Path.{_≡_, refl}
 use mathlib.Core.Bool.{true}
-use mathlib.Core.List.{List, [], _∷_, _++_}
-use Rattle.model.specs.declared.Event.{Event}
+use mathlib.Core.List.{[], _∷_}
 use Rattle.records.specs.Codec.{reads}
 use Rattle.records.specs.Codes.{isKind, kindOf}
 use Rattle.records.specs.Rows.{rowOf}
-use Rattle.event_record.specs.Events.{fieldsIn, fieldsOf, rows, rowFor, eventBytes}
+use Rattle.event_record.specs.Events.{fieldsIn, fieldsOf, rows, rowFor, recordsOf}
 use Rattle.schedule_reader.specs.Pieces.{pieceAt}
 use Rattle.protocol.specs.Computing.{wholeRun}
 use Rattle.protocol.specs.Trials.{listing}
@@ -20,16 +18,11 @@ use Rattle.bench_report.specs.Listing.{page}
 use Rattle.bench_output.specs.Summary.{summaryOf}
 use Rattle.bench_output.specs.Output.{outputOf}
 
--- "The records follow one another with nothing between them."
-abbrev pub schedule : List Event → List ℕ
-schedule [] = []
-schedule (e ∷ es) = eventBytes e ++ schedule es
-
 -- "Output: twelve lines "0 0" to "11 0", then .."
-pub listing-printed : outputOf (schedule (listing true)) ≡ page (
+pub listing-printed : outputOf (recordsOf (listing true)) ≡ page (
     "0 0" ∷ "1 0" ∷ "2 0" ∷ "3 0" ∷ "4 0" ∷ "5 0" ∷ "6 0" ∷ "7 0" ∷ "8 0" ∷ "9 0" ∷ "10 0" ∷ "11 0" ∷
     "C 1 3 M 500" ∷
     "C 2 3 M -250" ∷
     "T 2 2 0 0" ∷ [])
-unfolding outputOf isTooLong summaryOf reportOf lines signed decimal digits answersTo eventsTo count pieceAt reads rowFor rows rowOf fieldsIn fieldsOf isKind kindOf wholeRun
+unfolding outputOf recordsOf isTooLong summaryOf reportOf lines signed decimal digits answersTo eventsTo count pieceAt reads rowFor rows rowOf fieldsIn fieldsOf isKind kindOf wholeRun
 listing-printed = refl

@@ -1,5 +1,5 @@
--- Lines in parts: what they are together, how far they reach, how many are left.
-use Prim.Native.Nat.{ℕ, zero, suc, _+_, _*_, _-_, _≤_, _<_}
+-- Lines in parts: what they are together, how far they reach.
+use Prim.Native.Nat.{ℕ, zero, suc, _+_, _*_, _≤_}
 use mathlib.Core.List.{List, _++_, append-assoc, append-nil}
 use mathlib.Core.Path.{_≡_}
 use native.Mathlib.Nat.{add-zero, add-suc}
@@ -22,6 +22,3 @@ put-more h n at p q = put-text (put-then p q) (lines-then h n at)
 -- lines of at most w bytes
 pub reach : {l m : List ℕ} {i j : ℕ} (w h : ℕ) (at : ℕ → List ℕ) → ((k : ℕ) → length (at k) ≤ w) → Put l m i j (lines h at) → j ≤ i + h * w
 reach w h at b p = let q : length (lines h at) ≤ h * w = lines-length w h at b in omega (arith, p .place)
-
-pub nearer : (end i : ℕ) → i < end → end - (i + 1) < end - i
-nearer end i h = omega arith

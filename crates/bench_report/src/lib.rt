@@ -35,7 +35,7 @@ pub const LONGEST_OUTPUT: usize = MOST_ANSWERS * ANSWER_LINE
     + MESSAGE_LINE;
 
 // The last four digits of a number, as they are printed.
-pub struct Digits {
+pub(crate) struct Digits {
     pub thousands: u8,
     pub hundreds: u8,
     pub tens: u8,

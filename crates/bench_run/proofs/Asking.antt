@@ -9,23 +9,18 @@ use lib.Dec.{eqb}
 use Rattle.ground.specs.Limit.{limit}
 use Rattle.ground.specs.Tests.{no-both, refuted, split, and-l, and-r}
 use Rattle.model.specs.QuestionLaws.{AllYes}
-use Rattle.model.specs.RangeLaws.{member, is-member}
+use Rattle.model.specs.RangeLaws.{Member, member, is-member}
 use Rattle.model.specs.Ranges.{isController, differentControllers}
 use Rattle.model.specs.declared.Event.{Event}
 use Rattle.model.specs.declared.Event.the-variants.{Lock, Order, Cast, Deliver, Timeout, Decide, Stop, Save, Restore}
 use Rattle.protocol.specs.declared.Station.{Station}
-use Rattle.protocol.specs.declared.Facts.{Facts}
 use Rattle.protocol.specs.declared.Bench.{Bench}
 use Rattle.protocol.specs.Benches.{station, sentBy}
 use Rattle.protocol.specs.Events.{concernsOne, subject, source}
-use Rattle.protocol.specs.Questions.{refused, Question, ask, unless, firstNo, questionsOf, factsOf}
+use Rattle.protocol.specs.Questions.{Facts, refused, Question, ask, unless, firstNo, questionsOf, factsOf}
 
 -- a controller's number has a seat
-pub record Seated (k : ℕ) : Type 0 where
-  pub low : 1 ≤ k
-  pub high : k ≤ limit
-
-has-seat : (n k : ℕ) → n ≤ limit → isController n k ≡ true → Seated k
+has-seat : (n k : ℕ) → n ≤ limit → isController n k ≡ true → Member limit k
 has-seat n k h e = let r = member n k e in record { low = r .low; high = omega (arith, r .high) }
 
 -- refused by 5 or by 7, whatever is asked after
@@ -99,8 +94,8 @@ module _ (b : Bench) (few : b .shared .n ≤ limit) (own other : Station) (may :
 
 -- once all are answered "yes", subject and source have stations
 pub record Stationed (e : Event) : Type 0 where
-  pub of-subject : Seated (subject e)
-  pub of-source : Seated (source e)
+  pub of-subject : Member limit (subject e)
+  pub of-source : Member limit (source e)
 
 pub stationed : (v : Facts) (e : Event) → v .shared .n ≤ limit → concernsOne e ≡ true → AllYes (questionsOf v e) → Stationed e
 stationed v (Lock n f) few o y = absurd (false≢true o)

@@ -14,6 +14,7 @@ use Rattle.ground.specs.Update.{upd, upd-same, upd-other, fun-ext}
 use Rattle.protocol.specs.declared.Station.{Station}
 use Rattle.protocol.specs.declared.Shared.{Shared}
 use Rattle.protocol.specs.declared.Effect.{Effect}
+use Rattle.bench_run.specs.Columns.{byteColumns, wordColumns}
 use Rattle.bench_run.specs.Tables.{tabulate, byteRows, wordRows, stationFrom, stationsOf}
 use Rattle.bench_run.specs.Changes.{At, stationsIn, stationIn, Sized, Changed, Left}
 
@@ -65,7 +66,7 @@ unfolding stationsOf
 changed-rows b w at p q =
     ap (tabulate limit) (fun-ext _ _ (one-station b w at p q)) ∙ sym (set-tabulate limit (λ i. stationFrom (b i) (w i)) at (stationFrom p q))
 
-pub changed : (b w b′ w′ : List ℕ) (at : ℕ) (p q : ℕ → ℕ) (s : Station) → at < limit → At 16 b b′ at p → At 64 w w′ at q → stationFrom p q ≡ s → Changed b w b′ w′ at s
+pub changed : (b w b′ w′ : List ℕ) (at : ℕ) (p q : ℕ → ℕ) (s : Station) → at < limit → At byteColumns b b′ at p → At wordColumns w w′ at q → stationFrom p q ≡ s → Changed b w b′ w′ at s
 changed b w b′ w′ at p q s h x y e = record {
   bytes = x .same-length;
   words = y .same-length;

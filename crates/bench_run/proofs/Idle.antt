@@ -8,6 +8,7 @@ use lib.Dec.{eqb}
 use lib.ListN.{getD, replicate, List·getD-map}
 use lib.Seq.{getD-set-other}
 use Rattle.ground.specs.Limit.{limit}
+use Rattle.ground.specs.Firsts.{mapFirst, first-enough}
 use Rattle.ground.specs.Tests.{by-cond, and-l, and-r}
 use Rattle.ground.specs.Lists.{put}
 use Rattle.votes.specs.VoteSets.{empty}
@@ -25,8 +26,6 @@ use Rattle.protocol.specs.Benches.{fresh, freshStation, benchOf, newBench, stat
 use Rattle.protocol.specs.Events.{subject, source}
 use Rattle.protocol.specs.Questions.{accepted, isAccepted, questions, reply}
 use Rattle.protocol.specs.Steps.{renewed, orderOpened, proposedTo, decidedAs, answering, effectOf, effect, performOne, perform, step, run}
-use Rattle.bench_run.specs.Changes.{mapFirst}
-use Rattle.bench_run.proofs.Firsts.{first-enough}
 
 -- a station that has just begun
 abbrev begun : Station

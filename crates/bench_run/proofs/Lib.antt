@@ -3,7 +3,6 @@ mod TableLaws
 mod ChangeLaws
 mod ReadBack
 mod Filling
-mod Firsts
 mod Idle
 mod WaitingRows
 mod ArrivalRows

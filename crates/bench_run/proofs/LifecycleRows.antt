@@ -7,6 +7,7 @@ use mathlib.Core.Logic.{inl, inr}
 use lib.Dec.{eqb}
 use lib.ListN.{getD, set}
 use Rattle.ground.specs.Limit.{limit}
+use Rattle.ground.specs.Firsts.{first-more, first-all}
 use Rattle.ground.specs.Tests.{split}
 use Rattle.ground.specs.Update.{upd}
 use Rattle.records.specs.Codes.{outcomeOf, flagOf}
@@ -30,7 +31,6 @@ use Rattle.protocol.specs.Questions.{isSaved}
 use Rattle.protocol.specs.Steps.{proposedTo, withCounts, answering, keeping, renewed}
 use Rattle.bench_run.specs.Tables.{tabulate, rows, byteRows, wordRows, conditionIn, setsFrom, savedFrom, controllerFrom, stationFrom}
 use Rattle.bench_run.specs.Changes.{At, clearedBytes, clearedWords, unsentWords, stationsIn, stationIn, controllerIn, withController, Changed, Left, RenewedUpTo}
-use Rattle.bench_run.proofs.Firsts.{first-more, first-all}
 use Rattle.bench_run.proofs.TableLaws.{follows, unchanged}
 use Rattle.bench_run.proofs.ChangeLaws.{changed, read-station, changed-then, length-stations}
 use Rattle.bench_run.proofs.ReadBack.{condition-back}

@@ -12,6 +12,7 @@ use Rattle.votes.specs.VoteSets.{empty}
 use Rattle.records.specs.Codes.{outcomeOf}
 use Rattle.protocol.specs.declared.Station.{Station}
 use Rattle.protocol.specs.Benches.{freshStation, fresh, unsentAll, benchOf, newBench}
+use Rattle.bench_run.specs.Columns.{byteColumns, wordColumns}
 use Rattle.bench_run.specs.Tables.{tabulate, rows, byteRows, wordRows, setsFrom, controllerFrom, stationFrom, stationsOf}
 use Rattle.bench_run.specs.Changes.{Sized}
 use Rattle.bench_run.specs.Plays.{benchIn}
@@ -37,15 +38,15 @@ just-begun : stationFrom (λ (c : ℕ). 0) (λ (c : ℕ). 0) ≡ freshStation (r
 unfolding stationFrom controllerFrom setsFrom tabulate outcomeOf freshStation fresh unsentAll
 just-begun = refl
 
-one-begun : (i : ℕ) → stationFrom (byteRows (replicate 256 0) i) (wordRows (replicate 1024 0) i) ≡ freshStation (replicate limit empty)
+one-begun : (i : ℕ) → stationFrom (byteRows (replicate (limit * byteColumns) 0) i) (wordRows (replicate (limit * wordColumns) 0) i) ≡ freshStation (replicate limit empty)
 one-begun i =
-    ap (λ (r : ℕ → ℕ). stationFrom r (wordRows (replicate 1024 0) i)) (no-row 16 256 i)
-    ∙ ap (stationFrom (λ (c : ℕ). 0)) (no-row 64 1024 i)
+    ap (λ (r : ℕ → ℕ). stationFrom r (wordRows (replicate (limit * wordColumns) 0) i)) (no-row byteColumns (limit * byteColumns) i)
+    ∙ ap (stationFrom (λ (c : ℕ). 0)) (no-row wordColumns (limit * wordColumns) i)
     ∙ just-begun
 
-pub new-here : benchIn (newBench .shared) (replicate 256 0) (replicate 1024 0) ≡ newBench
+pub new-here : benchIn (newBench .shared) (replicate (limit * byteColumns) 0) (replicate (limit * wordColumns) 0) ≡ newBench
 unfolding stationsOf benchOf
 new-here = ap (λ (l : List Station). record { shared = newBench .shared; stations = l }) (ap (tabulate limit) (fun-ext _ _ one-begun) ∙ same limit (freshStation (replicate limit empty)))
 
-pub new-sized : Sized (replicate 256 0) (replicate 1024 0)
-new-sized = record { bytes = length-replicate {A = ℕ} 256 0; words = length-replicate {A = ℕ} 1024 0 }
+pub new-sized : Sized (replicate (limit * byteColumns) 0) (replicate (limit * wordColumns) 0)
+new-sized = record { bytes = length-replicate {A = ℕ} (limit * byteColumns) 0; words = length-replicate {A = ℕ} (limit * wordColumns) 0 }

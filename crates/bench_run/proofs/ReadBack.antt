@@ -1,7 +1,7 @@
 -- What is written into a row reads back as it was; and what is shared, where nothing of it changes.
 use Prim.Native.Nat.{ℕ, _+_}
 use mathlib.Core.Path.{_≡_, refl, sym, ap, _∙_}
-use mathlib.Core.Bool.{Bool, true, false, or-false}
+use mathlib.Core.Bool.{or-false}
 use mathlib.Core.Logic.{inl, inr}
 use native.Mathlib.Omega.{arith}
 use lib.Dec.{eqb}
@@ -17,10 +17,10 @@ use Rattle.model.specs.declared.Outcome.{Outcome}
 use Rattle.model.specs.declared.Outcome.the-variants.{None}
 use Rattle.protocol.specs.declared.Condition.{Condition}
 use Rattle.protocol.specs.declared.Condition.the-variants.{Running, Stopped, Standby}
-use Rattle.protocol.specs.declared.Counts.{Counts}
 use Rattle.protocol.specs.declared.Shared.{Shared}
-use Rattle.protocol.specs.Controllers.{isPresent, phaseIn, outcomeIn}
-use Rattle.protocol.specs.Counts.{lacksOutcome, recount, countsAfter}
+use Rattle.protocol.specs.Controllers.{phaseIn, outcomeIn}
+use Rattle.protocol.specs.Counts.{countsAfter}
+use Rattle.protocol.specs.CountLaws.{counts-stay}
 use Rattle.protocol.specs.Steps.{proposedTo, withCounts}
 use Rattle.bench_run.specs.Tables.{tabulate, conditionFrom, setFrom, setColumn, setsFrom}
 use Rattle.bench_run.specs.Changes.{tagOf, setTo}
@@ -54,14 +54,6 @@ sets-back w o s = ap (tabulate limit) (fun-ext _ _ (one-set w o s)) ∙ sym (set
 pub proposed-none : (m : Shared) → proposedTo m None ≡ m
 unfolding proposedTo
 proposed-none m = rw (or-false (m .consensus .«move_proposed»), or-false (m .consensus .«stay_proposed»))
-
-recount-same : (x : Bool) (k : ℕ) → recount x x k ≡ k
-recount-same true k = refl
-recount-same false k = refl
-
-pub counts-stay : (k : Condition) (n : Counts) → countsAfter k k n ≡ n
-unfolding countsAfter
-counts-stay k n = rw (recount-same (lacksOutcome k) (n .undecided), recount-same (isPresent k) (n .present))
 
 pub shared-stays : (m : Shared) (k : Condition) → withCounts (proposedTo m None) (countsAfter k k (m .counts)) ≡ m
 shared-stays m k = ap (withCounts (proposedTo m None)) (counts-stay k (m .counts)) ∙ ap (λ (x : Shared). withCounts x (m .counts)) (proposed-none m)

@@ -25,12 +25,13 @@ use Rattle.protocol.specs.Controllers.{propose}
 use Rattle.protocol.specs.Rules.{passedOver, becomes, proposing, verdict, ackJoin, sufficient, answersJoin, proposeIfSufficient}
 use Rattle.protocol.specs.Benches.{sentAfter}
 use Rattle.protocol.specs.Counts.{countsAfter}
+use Rattle.protocol.specs.CountLaws.{counts-stay}
 use Rattle.protocol.specs.Steps.{proposedTo, withCounts, stationAfter, answering}
 use Rattle.bench_run.specs.Tables.{byteRows, wordRows, setFrom, setColumn, setsFrom, controllerFrom, stationFrom}
 use Rattle.bench_run.specs.Changes.{stationIn, withController, settled, Left}
 use Rattle.bench_run.proofs.TableLaws.{unchanged}
 use Rattle.bench_run.proofs.ChangeLaws.{at-tabulate, length-tabulate, changed, left}
-use Rattle.bench_run.proofs.ReadBack.{proposed-none, counts-stay, shared-stays}
+use Rattle.bench_run.proofs.ReadBack.{proposed-none, shared-stays}
 use Rattle.records.specs.CodeLaws.{outcome-of-number}
 
 -- the vote set of one sender, as it is read; there are as many as the limit

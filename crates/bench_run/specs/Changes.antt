@@ -2,10 +2,11 @@
 use Prim.Native.Nat.{ℕ, suc, _+_, _*_, _≤_}
 use mathlib.Core.Bool.{Bool, cond, not, _&&_, _||_}
 use mathlib.Core.Path.{_≡_}
-use mathlib.Core.List.{List, map, _++_}
+use mathlib.Core.List.{List}
 use lib.Dec.{ltb}
-use lib.ListN.{length, set, take, drop}
+use lib.ListN.{length, set}
 use Rattle.ground.specs.Limit.{limit}
+use Rattle.ground.specs.Firsts.{mapFirst}
 use Rattle.ground.specs.Lists.{nth}
 use Rattle.ground.specs.Mask.{has}
 use Rattle.ground.specs.Quantify.{allTo}
@@ -122,10 +123,6 @@ rowHolds w n j = has (w acksFromColumn) j && complete n (nth empty (setsFrom w) 
 
 abbrev pub rowDecides : (ℕ → ℕ) → ℕ → ℕ → ℕ → Bool
 rowDecides w n f i = allTo f (rowHolds w n) && (not (isBackup f i) || rowHolds w f (suc f))
-
--- a list with its first n elements changed
-abbrev pub mapFirst : {A : Type 0} → (A → A) → ℕ → List A → List A
-mapFirst g n l = map g (take n l) ++ drop n l
 
 -- the first n stations are renewed, the others as they were
 pub record RenewedUpTo (n : ℕ) (b w b′ w′ : List ℕ) : Type 0 where

@@ -18,14 +18,14 @@ abbrev pub benchIn : Shared → List ℕ → List ℕ → Bench
 benchIn m b w = record { shared = m; stations = stationsIn b w }
 
 -- the answer is the one of that bench, and the lists, which keep their sizes, now stand for the next one
-pub record Stepped (m : Shared) (b w : List ℕ) (says : Bench → ℕ) (next : Bench → Bench) (r : Played) (b′ w′ : List ℕ) : Type 0 where
+pub record PlayedAs (m : Shared) (b w : List ℕ) (says : Bench → ℕ) (next : Bench → Bench) (r : Played) (b′ w′ : List ℕ) : Type 0 where
   pub answer : r .answer ≡ says (benchIn m b w)
   pub bench : benchIn (r .shared) b′ w′ ≡ next (benchIn m b w)
   pub sized : Sized b′ w′
 
 -- so it is on every bench that a list of events leads to from a new one; nothing is said of numbers that stand for no such bench
 pub record OnReached (m : Shared) (b w : List ℕ) (says : Bench → ℕ) (next : Bench → Bench) (r : Played) (b′ w′ : List ℕ) : Type 0 where
-  pub reached : (es : List Event) → Sized b w → benchIn m b w ≡ run newBench es → Stepped m b w says next r b′ w′
+  pub reached : (es : List Event) → Sized b w → benchIn m b w ≡ run newBench es → PlayedAs m b w says next r b′ w′
 
 -- an event is played; a record, from which reading lets an event through or none
 abbrev pub Steps : Shared → List ℕ → List ℕ → Event → Played → List ℕ → List ℕ → Type 0

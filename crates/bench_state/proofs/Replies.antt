@@ -5,8 +5,7 @@ use Rattle.model.specs.QuestionLaws.{AllYes, all-yes, numbered, reply-accepted}
 use Rattle.model.specs.declared.Event.{Event}
 use Rattle.model.specs.declared.Event.the-variants.{Lock, Order, Cast, Deliver, Timeout, Decide, Stop, Save, Restore}
 use Rattle.protocol.specs.declared.Bench.{Bench}
-use Rattle.protocol.specs.declared.Facts.{Facts}
-use Rattle.protocol.specs.Questions.{Reply, accepted, refused, number, isAccepted, questionsOf, questions, reply}
+use Rattle.protocol.specs.Questions.{Facts, Reply, accepted, refused, number, isAccepted, questionsOf, questions, reply}
 use Rattle.protocol.specs.Steps.{perform, step}
 
 pub all-numbered : (v : Facts) (e : Event) → numbered (questionsOf v e) ≡ true

@@ -3,17 +3,17 @@ use Prim.Native.Nat.{ℕ}
 use mathlib.Core.Bool.{Bool, true, false}
 use Rattle.model.specs.declared.Outcome.the-variants.{None}
 use Rattle.protocol.specs.declared.Condition.{Condition}
+use Rattle.protocol.specs.Questions.{Facts}
 use Rattle.protocol.specs.declared.Shared.{Shared}
-use Rattle.protocol.specs.declared.Facts.{Facts}
 use Rattle.protocol.specs.Controllers.{inPhase}
 
 -- of an event of one controller in this condition: a checkpoint it has or not, a message sent to these, its vote set agreeing or not
 abbrev pub factsAt : Shared → Condition → Bool → ℕ → Bool → Facts
-factsAt m k saved receivers agrees = record { shared = m; condition = k; «has_checkpoint» = saved; receivers = receivers; «may_open» = false; agrees = agrees }
+factsAt m k saved receivers agrees = record { shared = m; condition = k; has-checkpoint = saved; receivers = receivers; may-open = false; agrees = agrees }
 
 abbrev pub ownFacts : Shared → Condition → Facts
 ownFacts m k = factsAt m k false 0 true
 
 -- of a lock, and of an order that may be opened or not
 abbrev pub openFacts : Shared → Bool → Facts
-openFacts m may = record { shared = m; condition = inPhase 0 None; «has_checkpoint» = false; receivers = 0; «may_open» = may; agrees = true }
+openFacts m may = record { shared = m; condition = inPhase 0 None; has-checkpoint = false; receivers = 0; may-open = may; agrees = true }

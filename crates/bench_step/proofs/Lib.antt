@@ -1,5 +1,4 @@
 mod Defaults
-mod Maps
 mod StationsRead
 mod Outside
 mod Agrees

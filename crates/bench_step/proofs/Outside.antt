@@ -2,7 +2,7 @@
 -- as any other, and changes no station.
 use Prim.Native.Nat.{_<_, _≤_, _-_}
 use mathlib.Core.Path.{_≡_, refl, sym, _∙_}
-use mathlib.Core.Bool.{true, false, _&&_, false≢true}
+use mathlib.Core.Bool.{true, false, false≢true}
 use mathlib.Core.Logic.{inl, inr}
 use mathlib.Core.List.{List, []}
 use native.Mathlib.Omega.{arith}
@@ -11,12 +11,11 @@ use lib.ListN.{length, replicate}
 use lib.Seq.{set-out}
 use borrow.Author.Tests.{leb-true, leb-false}
 use Rattle.ground.specs.Limit.{limit}
-use Rattle.ground.specs.Tests.{split, refuted, and-l, and-r}
+use Rattle.ground.specs.Tests.{split, refuted}
 use Rattle.ground.specs.Lists.{nth, put, nth-past}
 use Rattle.votes.specs.VoteSets.{empty}
 use Rattle.votes.specs.declared.VoteSet.{VoteSet}
-use Rattle.model.specs.RangeLaws.{ranges, member}
-use Rattle.model.specs.Ranges.{sizesInRange, isController}
+use Rattle.model.specs.RangeLaws.{member}
 use Rattle.model.specs.declared.Event.{Event}
 use Rattle.model.specs.declared.Event.the-variants.{Lock, Order, Cast, Deliver, Timeout, Decide, Stop, Save, Restore}
 use Rattle.protocol.specs.declared.Identity.{Identity}
@@ -30,16 +29,13 @@ use Rattle.protocol.specs.Calls.{validIdentity, vote, receive, timeout, awaitsD
 use Rattle.protocol.specs.Benches.{freshStation, fresh, station, sentBy, identity}
 use Rattle.protocol.specs.Steps.{effectOf, effect, answering, putBack, performOne, perform}
 use Rattle.protocol.specs.Events.{concernsOne, subject, source, restoreFrom, answerTo}
+use Rattle.protocol.proofs.alone.Sound.{place-of}
+use Rattle.protocol.proofs.claim.Strayed.{small-of}
 use Rattle.bench_step.proofs.StationsRead.{stationRead, sentRead, read-sent, read-station}
 
 -- a valid identity has a station
 pub placed : (me : Identity) → validIdentity me ≡ true → (1 ≤ me .id) × (me .id ≤ limit)
-unfolding validIdentity
-placed me e =
-    let both = and-l (sizesInRange (me .n) (me .f) && isController (me .n) (me .id)) (leb 1 (me .order)) e in
-    let s = ranges (me .n) (me .f) (and-l (sizesInRange (me .n) (me .f)) (isController (me .n) (me .id)) both) in
-    let k = member (me .n) (me .id) (and-r (sizesInRange (me .n) (me .f)) (isController (me .n) (me .id)) both) in
-    (k .low, omega (arith, s .small, k .high))
+placed me e = let p = place-of me e in (p .0, omega (arith, p .1, small-of me e))
 
 no-member : (me : Identity) → limit < me .id → validIdentity me ≡ false
 no-member me h = refuted (validIdentity me) (λ e. omega (arith, placed me e .1))

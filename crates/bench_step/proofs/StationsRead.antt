@@ -47,17 +47,17 @@ read-facts b e may agrees =
     ap (λ (k : Condition). record {
       shared = b .shared;
       condition = k;
-      «has_checkpoint» = isSaved ((stationRead b (subject e)) .saved);
+      has-checkpoint = isSaved ((stationRead b (subject e)) .saved);
       receivers = receiversIn e (sentRead b e);
-      «may_open» = may;
+      may-open = may;
       agrees = agrees;
     }) (read-condition b (subject e))
     ∙ ap (λ (s : Saved). record {
       shared = b .shared;
       condition = (station b (subject e)) .controller .condition;
-      «has_checkpoint» = isSaved s;
+      has-checkpoint = isSaved s;
       receivers = receiversIn e (sentRead b e);
-      «may_open» = may;
+      may-open = may;
       agrees = agrees;
     }) (read-saved b (subject e))
     ∙ ap (λ (s : Sent). factsOf (b .shared) e (station b (subject e)) s may agrees) (read-sent b (source e))

@@ -12,16 +12,15 @@ use Rattle.model.specs.RangeLaws.{member}
 use Rattle.model.specs.Ranges.{isController}
 use Rattle.model.specs.declared.Event.{Event}
 use Rattle.model.specs.declared.Event.the-variants.{Lock, Order, Cast, Deliver, Timeout, Decide, Stop, Save, Restore}
-use Rattle.protocol.specs.declared.Facts.{Facts}
 use Rattle.protocol.specs.declared.Bench.{Bench}
 use Rattle.protocol.specs.declared.Effect.{Effect}
 use Rattle.protocol.specs.Benches.{station, sentBy}
 use Rattle.protocol.specs.Events.{concernsOne, subject, source}
-use Rattle.protocol.specs.Questions.{number, firstNo, mayOpen, questionsOf, agreesAt, factsOf, reply}
+use Rattle.protocol.specs.Questions.{Facts, number, firstNo, mayOpen, questionsOf, agreesAt, factsOf, reply}
 use Rattle.protocol.specs.Steps.{effect, perform}
 use Rattle.bench_state.proofs.Replies.{zero-yes, step-accepted, step-refused}
 use Rattle.bench_step.specs.declared.Stepped.{Stepped}
-use Rattle.bench_step.specs.Steps.{stepped, settled}
+use Rattle.bench_step.specs.Steps.{stepped, finished}
 use Rattle.bench_step.proofs.StationsRead.{stationRead, sentRead, read-facts}
 use Rattle.bench_step.proofs.Outside.{put-read}
 use Rattle.bench_step.proofs.Agrees.{read-agrees}
@@ -64,8 +63,8 @@ module _ (b : Bench) (e : Event) (l : length (b .stations) ≡ limit) (q : ℕ) 
   pub one-first : concernsOne e ≡ true → q ≡ 0 → 1 ≤ subject e
   one-first o z = numbered-from-1 b e o (sym replied ∙ z)
 
-  pub one-settled : concernsOne e ≡ true → (t : Effect) → t ≡ effect (b .shared) e (sentRead b e) (stationRead b (subject e)) → settled b (subject e) q t ≡ stepped b e
-  one-settled o t is = elim (split (eqb q 0)) [
+  pub one-finished : concernsOne e ≡ true → (t : Effect) → t ≡ effect (b .shared) e (sentRead b e) (stationRead b (subject e)) → finished b (subject e) q t ≡ stepped b e
+  one-finished o t is = elim (split (eqb q 0)) [
     | inl y ↦
         let z : q ≡ 0 = eqb-true q 0 y in
         rw y (accepts b e q replied z _ (rw is (put-read b e l o (one-first o z))))

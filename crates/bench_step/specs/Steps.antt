@@ -13,5 +13,5 @@ abbrev pub stepped : Bench → Event → Stepped
 stepped b e = record { answer = number (reply b e); bench = step b e }
 
 -- the same from the answer to an event of controller i and from what the event leaves if it is accepted
-abbrev pub settled : Bench → ℕ → ℕ → Effect → Stepped
-settled b i answer t = record { answer = answer; bench = cond (eqb answer 0) (putBack b i t) b }
+abbrev pub finished : Bench → ℕ → ℕ → Effect → Stepped
+finished b i answer t = record { answer = answer; bench = cond (eqb answer 0) (putBack b i t) b }

@@ -1,10 +1,10 @@
 // The events that INBAC's rules answer: a vote, a message that is delivered, a timeout.
 use crate::Stepped;
 use crate::effects::answering;
-use crate::effects::settle;
+use crate::effects::finish;
 use crate::stations::condition_of;
 use crate::stations::identity;
-use crate::stations::message;
+use crate::stations::message_to;
 use crate::stations::of_kind;
 use crate::stations::station_at;
 use bench_state::cast_question;
@@ -26,7 +26,7 @@ pub(crate) fn cast(b: Bench, id: u8, willing: bool, target: u32) -> Stepped
     let s = station_at(b, id);
     let answer = cast_question(b.shared, condition_of(s), id, target);
     let a = vote(identity(b.shared, id), willing, target, s.controller);
-    settle(b, id, answer, answering(b.shared, s, a))
+    finish(b, id, answer, answering(b.shared, s, a))
 }
 
 // 24, asked last, is the controller's own answer.
@@ -38,13 +38,13 @@ pub(crate) fn deliver(b: Bench, from: u8, to: u8, kind: Kind) -> Stepped
     let out = of_kind(kind, sender.sent);
     let a = receive(
         identity(b.shared, to),
-        message(b.shared, kind, from, to, out.votes),
+        message_to(b.shared, kind, from, to, out.votes),
         s.controller,
     );
     let reception = a.reception;
     let agrees = !is_contradicted(reception);
     let answer = deliver_question(b.shared, condition_of(s), out.to, agrees, from, to, kind);
-    settle(b, to, answer, answering(b.shared, s, a))
+    finish(b, to, answer, answering(b.shared, s, a))
 }
 
 pub(crate) fn time_out(b: Bench, id: u8) -> Stepped
@@ -53,5 +53,5 @@ pub(crate) fn time_out(b: Bench, id: u8) -> Stepped
     let s = station_at(b, id);
     let answer = timeout_question(b.shared, condition_of(s), id);
     let a = timeout(identity(b.shared, id), s.controller);
-    settle(b, id, answer, answering(b.shared, s, a))
+    finish(b, id, answer, answering(b.shared, s, a))
 }

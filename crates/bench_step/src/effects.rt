@@ -1,4 +1,4 @@
-// What an accepted event of one controller leaves.
+// What an event of one controller leaves.
 use crate::Stepped;
 use crate::sends::sent_after;
 use bench_state::counts_after;
@@ -13,7 +13,7 @@ use protocol::Station;
 ghost use Prim.Native.Nat.{_≤_};
 ghost use mathlib.Core.Path.{_≡_};
 ghost use Rattle.protocol.specs.Steps.{stationAfter, answering, keeping};
-ghost use Rattle.bench_step.specs.Steps.{settled};
+ghost use Rattle.bench_step.specs.Steps.{finished};
 
 // A station after its controller's answer.
 fn station_after(s: Station, a: Answer) -> Station
@@ -47,18 +47,19 @@ pub(crate) fn answering(m: Shared, s: Station, a: Answer) -> Effect
     Effect { shared, station }
 }
 
-// A new checkpoint: the bench keeps the newest.
-pub(crate) fn keeping(m: Shared, s: Station, saved: Saved) -> Effect
+// What a save leaves: the bench keeps the newest checkpoint.
+pub(crate) fn with_checkpoint(m: Shared, s: Station, saved: Saved) -> Effect
     ensures { λ r. ⌜ r ≡ record { shared = m; station = keeping s saved } ⌝ }
 {
     let station = Station { saved, ..s };
     Effect { shared: m, station }
 }
 
-// A refused event leaves the bench as it is, an accepted one with its effect. No lock has more controllers than there are stations.
-pub(crate) fn settle(b: Bench, id: u8, answer: u8, t: Effect) -> Stepped
+// A refused event leaves the bench as it is, an accepted one with its effect. On a bench value that says it has more controllers than there are stations,
+// an event of one that has none changes what is shared alone.
+pub(crate) fn finish(b: Bench, id: u8, answer: u8, t: Effect) -> Stepped
     requires { ⌜ (answer ≡ 0 → 1 ≤ id) ⌝ }
-    ensures { λ r. ⌜ r ≡ settled b id answer t ⌝ }
+    ensures { λ r. ⌜ r ≡ finished b id answer t ⌝ }
 {
     if answer != 0 {
         return Stepped { answer, bench: b };

@@ -1,5 +1,5 @@
 // The bench by value: one call takes a bench and an event, and returns the answer and the bench. Each kind of event has a function of its own, which asks
-// the event's questions, calls the controller that it concerns as a cabinet would, and puts the answer back.
+// the event's questions; that of an event of one controller calls it as a cabinet would, and puts its answer back if the event is accepted.
 mod calls;
 mod effects;
 mod lifecycle;

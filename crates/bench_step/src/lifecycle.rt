@@ -1,8 +1,8 @@
 // The consensus decides for one controller; a controller is stopped, saved, restored.
 use crate::Stepped;
 use crate::effects::answering;
-use crate::effects::keeping;
-use crate::effects::settle;
+use crate::effects::finish;
+use crate::effects::with_checkpoint;
 use crate::stations::condition_of;
 use crate::stations::identity;
 use crate::stations::station_at;
@@ -28,7 +28,7 @@ pub(crate) fn decide(b: Bench, id: u8, to_move: bool) -> Stepped
     let s = station_at(b, id);
     let answer = decide_question(b.shared, condition_of(s), id, to_move);
     let a = controller::decide(to_move, s.controller);
-    settle(
+    finish(
         b,
         id,
         answer,
@@ -42,7 +42,7 @@ pub(crate) fn stop(b: Bench, id: u8) -> Stepped
     let s = station_at(b, id);
     let answer = present_question(b.shared, condition_of(s), id);
     let a = controller::stop(s.controller);
-    settle(b, id, answer, answering(b.shared, s, a))
+    finish(b, id, answer, answering(b.shared, s, a))
 }
 
 // The checkpoint takes the place of the one before.
@@ -52,7 +52,7 @@ pub(crate) fn save(b: Bench, id: u8) -> Stepped
     let s = station_at(b, id);
     let answer = present_question(b.shared, condition_of(s), id);
     let saved = controller::save(identity(b.shared, id), s.controller);
-    settle(b, id, answer, keeping(b.shared, s, saved))
+    finish(b, id, answer, with_checkpoint(b.shared, s, saved))
 }
 
 fn is_saved(saved: Saved) -> bool
@@ -80,5 +80,5 @@ pub(crate) fn restore(b: Bench, id: u8) -> Stepped
     let saved = s.saved;
     let answer = restore_question(b.shared, condition_of(s), is_saved(saved), id);
     let a = restore_from(identity(b.shared, id), saved, s.controller);
-    settle(b, id, answer, answering(b.shared, s, a))
+    finish(b, id, answer, answering(b.shared, s, a))
 }

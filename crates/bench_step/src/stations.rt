@@ -12,16 +12,17 @@ use protocol::Shared;
 use protocol::Station;
 use votes::VoteSet;
 ghost use mathlib.Core.Path.{_≡_};
-ghost use lib.ListN.{replicate};
+ghost use lib.ListN.{length, replicate};
 ghost use Rattle.ground.specs.Limit.{limit};
 ghost use Rattle.ground.specs.Lists.{nth};
 ghost use Rattle.votes.specs.VoteSets.{empty};
 ghost use Rattle.protocol.specs.Sequence.{messageTo};
 ghost use Rattle.protocol.specs.Benches.{freshStation, identity, ofKind};
 
-// Station i; a number that no controller has reads as a controller that has just begun.
+// Station i; a number that no controller has reads as a controller that has just begun. There are as many stations as the limit says.
 pub(crate) fn station_at(b: Bench, i: u8) -> Station
     ensures { λ r. ⌜ r ≡ nth (freshStation (replicate limit empty)) (b .stations) i ⌝ }
+    ensures { λ _. ⌜ length (b .stations) ≡ limit ⌝ }
 {
     if i < 1 {
         return fresh_station();
@@ -76,7 +77,7 @@ pub(crate) fn of_kind(kind: Kind, s: Sent) -> Outgoing
     }
 }
 
-pub(crate) fn message(m: Shared, kind: Kind, from: u8, to: u8, votes: VoteSet) -> Message
+pub(crate) fn message_to(m: Shared, kind: Kind, from: u8, to: u8, votes: VoteSet) -> Message
     ensures { λ r. ⌜ r ≡ messageTo (identity m from) kind votes to ⌝ }
 {
     Message {

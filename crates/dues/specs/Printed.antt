@@ -17,9 +17,12 @@ unfoldable pub answerLine : Answer → List ℕ
 answerLine (Totals t) = totalsLine t
 answerLine (Refused q) = refusal q
 
--- the program holds 65,536 bytes. A longer sheet has more than 1,000 lockages: 22
+-- so many bytes the program holds. A longer sheet has more than 1,000 lockages: 22
+abbrev pub held : ℕ
+held = 65536
+
 unfoldable pub heldAnswer : List ℕ → Answer
-heldAnswer s = cond (ltb 65536 (length s)) (Refused 22) (duesFor s)
+heldAnswer s = cond (ltb held (length s)) (Refused 22) (duesFor s)
 
 abbrev pub outputOf : List ℕ → List ℕ
 outputOf s = answerLine (heldAnswer s)

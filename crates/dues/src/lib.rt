@@ -9,7 +9,7 @@ pub use sheet::dues;
 use tariff::Shares;
 
 // A lockage as it stands on a sheet: the boat's length in cm, and the bytes for the outcome and for a return.
-pub struct Lockage {
+pub(crate) struct Lockage {
     pub length: u32,
     pub outcome: u8,
     pub returned: u8,

@@ -5,11 +5,10 @@ use mathlib.Core.Bool.{Bool, true, false, false≢true}
 use mathlib.Core.List.{List, [], _∷_, _++_}
 use lib.Dec.{eqb, leb}
 use mathlib.Core.Logic.{_⊎_, inl, inr}
-use borrow.Author.Tests.{leb-true}
 use Rattle.ground.specs.Tests.{split, by-cond, and-l, and-r, and-i, or-e, no-both}
 use Rattle.ground.specs.Mask.{has}
 use Rattle.model.specs.Ranges.{isController}
-use Rattle.model.specs.RangeLaws.{ranges}
+use Rattle.model.specs.RangeLaws.{ranges, member}
 use Rattle.model.specs.QuestionLaws.{all-yes}
 use Rattle.model.specs.declared.Kind.the-variants.{Vote, Ack, Help, Helped}
 use Rattle.model.specs.declared.Event.{Event}
@@ -100,12 +99,12 @@ module _ (b : Bench) (ok : Fine b) (a : Sound b) where
 
   -- a kept call may come once more
   may-come : (i : ℕ) (st : eqb (phase (v .ctl i)) 2 ≡ true) (j : ℕ) → 1 ≤ j → has ((v .ctl i) .help .callers) j ≡ true → MayCome n f (ranges n f (a .sized) .small) v i st j
-  unfolding aboutMessage isController view
+  unfolding aboutMessage view
   may-come i st j lo e =
       let sent = a .inv .ctls i .calls-ok j e in
       let asked = all-yes _ (ok .ways j i sent) in
       record {
-        high = leb-true j n (and-r (leb 1 j) (leb j n) (and-l (isController n j) _ (and-l _ _ (asked .1 .0))));
+        high = member n j (and-l (isController n j) _ (and-l _ _ (asked .1 .0))) .high;
         between = asked .1 .0;
         way = asked .1 .1 .1 .1 .0;
         opened = asked .1 .1 .0;
@@ -260,9 +259,9 @@ untested-same : (b b₁ : Bench) (e : Event) → SameButKept b b₁ → untested
 untested-same b b₁ e s = λ p. firstNo (questionsOf (record {
   shared = s .shared p;
   condition = condition (subject e) p;
-  «has_checkpoint» = isSaved (s .saved (subject e) p);
+  has-checkpoint = isSaved (s .saved (subject e) p);
   receivers = receiversIn e (s .sent (source e) p);
-  «may_open» = mayOpen (s .shared p);
+  may-open = mayOpen (s .shared p);
   agrees = true;
 }) e)
   where

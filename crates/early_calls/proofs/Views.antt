@@ -2,7 +2,7 @@
 -- right after a second timeout.
 use Prim.Native.Nat.{ℕ, zero, suc, _≤_}
 use mathlib.Core.Path.{_≡_, refl, sym, _∙_, ap, subst}
-use mathlib.Core.Bool.{Bool, true, false, not, _&&_, _||_, cond, or-false, false≢true}
+use mathlib.Core.Bool.{Bool, true, false, not, _&&_, _||_, cond, or-false, or-assoc, false≢true}
 use mathlib.Core.List.{List, [], _∷_, _++_, map, map-append}
 use native.Mathlib.Omega.{arith}
 use lib.Bits.{bitOr}
@@ -34,8 +34,9 @@ use Rattle.protocol.specs.declared.Answer.{Answer}
 use Rattle.protocol.specs.declared.Send.the-variants.{Nothing, To}
 use Rattle.protocol.specs.declared.Sent.{Sent}
 use Rattle.protocol.specs.declared.Saved.the-variants.{Newest}
-use Rattle.protocol.specs.Controllers.{isRunning, isPresent, phaseIn, outcomeIn, phase, addCaller}
-use Rattle.protocol.specs.Counts.{recount, lacksOutcome, countsAfter}
+use Rattle.protocol.specs.Controllers.{isRunning, phaseIn, outcomeIn, phase, addCaller}
+use Rattle.protocol.specs.Counts.{countsAfter}
+use Rattle.protocol.specs.CountLaws.{counts-stay}
 use Rattle.protocol.specs.Rules.{nothing, helps, ackJoin, helpVotes, firstTimeout, secondTimeout, answersCall, helpArrives}
 use Rattle.protocol.specs.Calls.{arrives}
 use Rattle.protocol.specs.Benches.{afterSend, sentAfter}
@@ -72,13 +73,8 @@ commit-forget v i a a′ m = λ p. record {
 }
 
 -- the counts of a controller whose condition stays
-recount-same : (x : Bool) (k : ℕ) → recount x x k ≡ k
-recount-same true k = refl
-recount-same false k = refl
-
 counts-same : (c c′ : Condition) (k : Counts) → c′ ≡ c → countsAfter c c′ k ≡ k
-unfolding countsAfter
-counts-same c c′ k e = rw e (λ p. record { undecided = recount-same (lacksOutcome c) (k .undecided) p; present = recount-same (isPresent c) (k .present) p })
+counts-same c c′ k e = rw e (counts-stay c k)
 
 upd-id : {A : Type 0} (F : ℕ → A) (i : ℕ) (a : A) → a ≡ F i → upd F i a ≡ F
 upd-id {A} F i a e = fun-ext (upd F i a) F (upd-all (λ k (x : A). x ≡ F k) F i a e (λ k. refl))
@@ -129,9 +125,9 @@ module _ (n f : ℕ) where
   accepts-forget v e = λ p. isAccepted (firstNo (questionsOf (record {
     shared = sharedV n f v;
     condition = alike (v .ctl (subject e)) .condition p;
-    «has_checkpoint» = isSaved (v .saved (subject e));
+    has-checkpoint = isSaved (v .saved (subject e));
     receivers = receiversIn e (v .state .sent (source e));
-    «may_open» = mayOpen (sharedV n f v);
+    may-open = mayOpen (sharedV n f v);
     agrees = true;
   }) e))
 
@@ -292,10 +288,6 @@ module _ (n f : ℕ) where
     one-more h m j lo hi = same-set _ _ (λ k. has-or (bitOr h m) (insert 0 j) k ∙ ap (λ (x : Bool). x || has (insert 0 j) k) (has-or h m k)
         ∙ or-assoc (has h k) (has m k) (has (insert 0 j) k) ∙ ap (λ (x : Bool). has h k || x) (with-one k) ∙ sym (has-or h (insert m j) k))
       where
-        or-assoc : (x y z : Bool) → ((x || y) || z) ≡ (x || (y || z))
-        or-assoc true y z = refl
-        or-assoc false y z = refl
-
         with-one : (k : ℕ) → (has m k || has (insert 0 j) k) ≡ has (insert m j) k
         with-one k = same-test _ _
             (λ e. elim (or-e (has m k) (has (insert 0 j) k) e) [ inl y ↦ insert-keeps m j k y | inr y ↦ insert-from m j k y ])

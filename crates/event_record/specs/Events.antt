@@ -1,7 +1,7 @@
 -- Event records.
 use Prim.Native.Nat.{ℕ}
 use mathlib.Core.Bool.{_&&_}
-use mathlib.Core.List.{List, [], _∷_}
+use mathlib.Core.List.{List, [], _∷_, _++_}
 use lib.ListN.{getD}
 use Rattle.model.specs.Numbers.{kindNumber}
 use Rattle.model.specs.declared.Event.{Event}
@@ -82,3 +82,8 @@ readEvent s = reads events s
 
 abbrev pub eventBytes : Event → List ℕ
 eventBytes e = bytesOf events e
+
+-- "The records follow one another with nothing between them."
+unfoldable pub recordsOf : List Event → List ℕ
+recordsOf [] = []
+recordsOf (e ∷ es) = eventBytes e ++ recordsOf es

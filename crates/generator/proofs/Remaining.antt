@@ -4,12 +4,12 @@ use mathlib.Core.Path.{_≡_, refl, sym, _∙_, ap}
 use mathlib.Core.List.{List, [], _++_, append-assoc, append-nil}
 use native.Mathlib.Omega.{arith}
 use lib.ListN.{length}
-use Rattle.event_record.specs.Events.{eventBytes}
+use Rattle.event_record.specs.Events.{eventBytes, recordsOf}
 use Rattle.text.specs.Writing.{Put, highest}
 use Rattle.text.specs.WritingLaws.{put-then, put-text, put-nothing}
 use Rattle.generator.specs.declared.Drawn.{Drawn}
 use Rattle.generator.specs.Drawing.{drawnEvent}
-use Rattle.generator.specs.File.{drawnFrom, recordsOf}
+use Rattle.generator.specs.File.{drawnFrom}
 
 pub record Remaining (before after : List ℕ) (at next : ℕ) (rest whole : List ℕ) : Type 0 where
   pub front : List ℕ

@@ -5,7 +5,8 @@ use mathlib.Core.List.{List}
 use lib.ListN.{length}
 use Rattle.text.specs.Writing.{Put, highest}
 use Rattle.text.specs.WritingLaws.{put-nothing}
-use Rattle.generator.specs.File.{votesTo, recordsOf}
+use Rattle.event_record.specs.Events.{recordsOf}
+use Rattle.generator.specs.File.{votesTo}
 
 pub put-no-votes : (l : List ℕ) (at : ℕ) → at ≤ highest → length l ≤ highest → Put l l at at (recordsOf (votesTo 0))
 unfolding votesTo recordsOf

@@ -8,7 +8,7 @@ use Rattle.model.specs.declared.Event.{Event}
 use Rattle.model.specs.declared.Event.the-variants.{Lock, Order, Cast}
 use Rattle.model.specs.Questions.{Reply, accepted, refused, Question, ask, firstNo}
 use Rattle.model.specs.Ranges.{sizesInRange}
-use Rattle.event_record.specs.Events.{eventBytes}
+use Rattle.event_record.specs.Events.{recordsOf}
 use Rattle.generator.specs.Drawing.{drawnEvent}
 
 -- "all votes willing with target 0 in rising number": those of 1 to k
@@ -24,11 +24,6 @@ drawnFrom n (suc count) s = drawnEvent n s .event ∷ drawnFrom n count (drawnEv
 -- "A generator writes event records: lock, order 1, all votes .. , then a wanted count of drawn events"
 unfoldable pub eventsOf : ℕ → ℕ → ℕ → ℕ → List Event
 eventsOf n f count start = Lock n f ∷ Order 1 ∷ (votesTo n ++ drawnFrom n count start)
-
--- records follow one another with nothing between them
-unfoldable pub recordsOf : List Event → List ℕ
-recordsOf [] = []
-recordsOf (e ∷ es) = eventBytes e ++ recordsOf es
 
 abbrev pub fileOf : ℕ → ℕ → ℕ → ℕ → List ℕ
 fileOf n f count start = recordsOf (eventsOf n f count start)

@@ -10,13 +10,13 @@ use Rattle.model.specs.Questions.{firstNo}
 use Rattle.model.specs.declared.Event.{Event}
 use Rattle.model.specs.declared.Event.the-variants.{Lock, Order, Cast}
 use Rattle.records.specs.Promises.{Promises}
-use Rattle.event_record.specs.Events.{fieldsOf, events, eventLength, eventBytes, readEvent}
+use Rattle.event_record.specs.Events.{fieldsOf, events, eventLength, eventBytes, readEvent, recordsOf}
 use Rattle.event_record.specs.declared.ReadEvent.the-variants.{Read}
 use Rattle.schedule_reader.specs.Pieces.{pieceAt, recordAt}
 use Rattle.xorshift.specs.Claim.{Draws}
 use Rattle.generator.specs.Drawing.{drawnEvent}
 use Rattle.generator.specs.DrawingLaws.{drawn-value, drawn-state}
-use Rattle.generator.specs.File.{votesTo, drawnFrom, eventsOf, recordsOf, fileOf}
+use Rattle.generator.specs.File.{votesTo, drawnFrom, eventsOf, fileOf}
 use Rattle.generator.specs.Claim.{recordsIn, stateAfter, Files}
 
 records-append : (es es′ : List Event) → recordsOf (es ++ es′) ≡ recordsOf es ++ recordsOf es′

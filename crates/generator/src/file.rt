@@ -8,8 +8,8 @@ ghost use mathlib.Core.Path.{_≡_};
 ghost use Prim.Native.Nat.{_*_, _<_};
 ghost use Rattle.text.specs.Writing.{Put};
 ghost use Rattle.model.specs.Questions.{number};
-ghost use Rattle.event_record.specs.Events.{eventLength, eventBytes};
-ghost use Rattle.generator.specs.File.{votesTo, drawnFrom, recordsOf, fileOf, refusalOf, replyTo, generated};
+ghost use Rattle.event_record.specs.Events.{eventLength, eventBytes, recordsOf};
+ghost use Rattle.generator.specs.File.{votesTo, drawnFrom, fileOf, refusalOf, replyTo, generated};
 ghost use Rattle.generator.specs.Claim.{recordsIn, Files};
 
 // The most events that are drawn.

@@ -11,7 +11,7 @@ pub use output::longest_output;
 pub use output::render;
 
 // An event that was drawn, and the state of the generator after it.
-pub struct Drawn {
+pub(crate) struct Drawn {
     pub event: Event,
     pub state: u32,
 }

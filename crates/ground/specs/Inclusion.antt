@@ -1,7 +1,7 @@
 -- Laws of masks, for any n: sets with the same members are equal; which sets are within another, or within 1..n.
 use Prim.Native.Nat.{ℕ, zero, suc, _+_, _*_, _^_, _/_, _%_, _≤_, _<_}
 use mathlib.Core.Path.{_≡_, refl, sym, _∙_, ap}
-use mathlib.Core.Bool.{Bool, true, false, _||_, true≢false, false≢true}
+use mathlib.Core.Bool.{Bool, true, false, _||_, true≢false, false≢true, or-assoc as or-assoc-bool}
 use native.Mathlib.Omega.{arith}
 use native.Mathlib.Decide.{decLe}
 use native.Mathlib.Nat.{div-eq-of-lt, div-lt-iff-lt-mul, mod-eq-of-lt, lt-of-lt-of-le, pow-suc, zero-add, suc-add}
@@ -105,10 +105,6 @@ some-member m e = elim (split (anyTo m (has m))) [
 
     low : (k : ℕ) → has m k ≡ true → k ≤ m
     low k x = elim (decLe k m) [ yes h ↦ h | no h ↦ absurd (no-both (has m k) x (has-past m m k (self-lt m) (omega arith))) ]
-
-or-assoc-bool : (x y z : Bool) → (x || y || z) ≡ (x || (y || z))
-or-assoc-bool true y z = refl
-or-assoc-bool false y z = refl
 
 -- the union of three sets, in either grouping
 pub or-assoc : (a b c : ℕ) → bitOr (bitOr a b) c ≡ bitOr a (bitOr b c)

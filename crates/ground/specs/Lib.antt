@@ -3,6 +3,7 @@ pub mod Tests
 pub mod Quantify
 pub mod Update
 pub mod Lists
+pub mod Firsts
 pub mod Mask
 pub mod MaskLaws
 pub mod Inclusion

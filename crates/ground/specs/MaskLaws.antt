@@ -111,6 +111,9 @@ unfolding has
 has-none zero = refl
 has-none (suc k) = rw (div-eq-of-lt (pow-pos k))
 
+pub none-has : {X : Type 0} (k : ℕ) → has 0 k ≡ true → X
+none-has k e = absurd (no-both (has 0 k) e (has-none k))
+
 -- 2 ^ j has the one bit j
 pow-low : (j : ℕ) → 2 ^ suc j % 2 ≡ 0
 pow-low j = omega arith
@@ -189,7 +192,7 @@ insert-other m (suc i) k d =
 -- whom the set of one alone has, any set has with that one
 pub insert-from : (m i k : ℕ) → has (insert 0 i) k ≡ true → has (insert m i) k ≡ true
 insert-from m i k e = elim (insert-only 0 i k e) [
-  | inr q ↦ absurd (no-both (has 0 k) q (has-none k))
+  | inr q ↦ none-has k q
   | inl q ↦ rw q (own i (rw q at e))
 ]
   where

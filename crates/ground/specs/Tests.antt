@@ -43,6 +43,24 @@ pub or-r : (a b : Bool) → b ≡ true → (a || b) ≡ true
 or-r true b e = refl
 or-r false b e = e
 
+-- the other of two, where the one does not hold
+pub or-second : (a b : Bool) → a ≡ false → (a || b) ≡ true → b ≡ true
+or-second true b p q = absurd (true≢false p)
+or-second false b p q = q
+
+-- neither of two tests holds
+pub or-no : (a b : Bool) → a ≡ false → b ≡ false → (a || b) ≡ false
+or-no true b p q = p
+or-no false b p q = q
+
+pub or-no-l : (a b : Bool) → (a || b) ≡ false → a ≡ false
+or-no-l true b e = e
+or-no-l false b e = refl
+
+pub or-no-r : (a b : Bool) → (a || b) ≡ false → b ≡ false
+or-no-r true b e = absurd (true≢false e)
+or-no-r false b e = e
+
 pub eqb-same : (m : ℕ) → eqb m m ≡ true
 eqb-same m = eq-eqb m m refl
 

@@ -1,9 +1,9 @@
 -- The ends of the ranges decide: the answer that they give is right, and no other is.
 use mathlib.Core.Path.{_≡_, refl, sym, _∙_, subst}
-use mathlib.Core.Bool.{Bool, true, false, false≢true, cond, _&&_, _||_}
+use mathlib.Core.Bool.{true, false, false≢true, cond, _&&_, _||_}
 use lib.Signed.{ltZ}
 use mathlib.Core.Logic.{inl, inr}
-use Rattle.ground.specs.Tests.{no-both, refuted, and-l, and-r, or-e, or-l, or-r, by-cond}
+use Rattle.ground.specs.Tests.{and-l, and-r, or-e, by-cond, or-no-l, or-no-r}
 use Rattle.model.specs.Questions.{Reply, accepted, refused, firstNo}
 use Rattle.model.specs.QuestionLaws.{all-yes}
 use Rattle.levels.specs.declared.Range.{Range}
@@ -14,13 +14,6 @@ use Rattle.levels.specs.Heads.{low, high, mm, minus, EveryPair, NoPair}
 use Rattle.levels.specs.Judged.{ordered, questions, Says, SaysAfter, Judged, votes}
 use Rattle.levels.specs.Ends.{least, greatest, byHeads, after, willingness}
 use Rattle.levels.specs.PairLaws.{every, none-low, none-high, not-every-low, not-every-high, some, not-both}
-
--- neither of two tests holds
-or-no-l : (a b : Bool) → (a || b) ≡ false → a ≡ false
-or-no-l a b e = refuted a (λ t. no-both (a || b) (or-l a b t) e)
-
-or-no-r : (a b : Bool) → (a || b) ≡ false → b ≡ false
-or-no-r a b e = refuted b (λ t. no-both (a || b) (or-r a b t) e)
 
 module _ (above below : Range) where
   module _ (oa : Below (low above) (high above)) (ob : Below (low below) (high below)) where

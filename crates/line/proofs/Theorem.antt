@@ -1,14 +1,14 @@
 -- The proof of the claim: a lock that calls goes on calling until it is served, and every turn that serves another brings it nearer.
 use Prim.Native.Nat.{ℕ, _-_, _≤_, _<_}
 use mathlib.Core.Path.{_≡_, refl, sym, _∙_, ap}
-use mathlib.Core.Bool.{Bool, true, false, not, _||_, true≢false}
+use mathlib.Core.Bool.{true, false, not, true≢false}
 use mathlib.Core.List.{List, [], _∷_, _++_, append-assoc, append-nil}
 use native.Mathlib.Omega.{arith}
 use native.Mathlib.Decide.{decLe, ℕ-discrete}
 use lib.Dec.{eqb}
 use mathlib.Core.Logic.{inl, inr}
 use borrow.Author.Tests.{not-true, eqb-true, ne-eqb}
-use Rattle.ground.specs.Tests.{split, no-both, refuted, or-l, or-r, eqb-same}
+use Rattle.ground.specs.Tests.{split, no-both, refuted, or-l, or-r, eqb-same, or-no-l, or-no-r}
 use Rattle.ground.specs.Quantify.{allTo, all-at}
 use Rattle.ground.specs.Lists.{nth, put}
 use Rattle.line.specs.declared.Line.{Line}
@@ -21,13 +21,6 @@ use Rattle.line.proofs.Callers.{caller-low, caller-high, met-high}
 use Rattle.line.proofs.Distance.{ahead, ahead-small, up-low, up-high, beyond, Met, first-met, passed-ahead}
 use Rattle.line.proofs.Lists.{run-append, run-one}
 use Rattle.line.proofs.Steps.{Eight, eight-after, call-in, call-out, turn-none, turn-one, answer-in, answer-out, answer-none, answer-one, lock-low, lock-high, is-lock, next-calls, called-calls, ended-silent, goes-on, stays-silent, others-call, call-again}
-
--- neither of two tests holds
-or-left : (x y : Bool) → (x || y) ≡ false → x ≡ false
-or-left x y e = refuted x (λ t. no-both (x || y) (or-l x y t) e)
-
-or-right : (x y : Bool) → (x || y) ≡ false → y ≡ false
-or-right x y e = refuted y (λ t. no-both (x || y) (or-r x y t) e)
 
 -- every line that acts lead to has eight entries
 eight-run : (l : Line) (acts : List Act) → Eight l → Eight (run l acts)
@@ -104,8 +97,8 @@ unfolding servesAny run
 kept-run [] l k h e n = e
 kept-run (a ∷ acts) l k h e n =
     kept-run acts (perform l a .line) k (eight-after l a h)
-    (goes-on l a k h e (or-left (names k (perform l a .answer)) (servesAny (perform l a .line) k acts) n))
-    (or-right (names k (perform l a .answer)) (servesAny (perform l a .line) k acts) n)
+    (goes-on l a k h e (or-no-l (names k (perform l a .answer)) (servesAny (perform l a .line) k acts) n))
+    (or-no-r (names k (perform l a .answer)) (servesAny (perform l a .line) k acts) n)
 
 known : (acts : List Act) (k : ℕ) → Calling acts k → calls (after acts) k ≡ true
 known acts k c =
@@ -119,8 +112,8 @@ serves-append : (acts : List Act) (l : Line) (k : ℕ) (a : Act) → servesAny l
 unfolding servesAny run
 serves-append [] l k a p q = rw q
 serves-append (b ∷ acts) l k a p q =
-    rw (or-left (names k (perform l b .answer)) (servesAny (perform l b .line) k acts) p)
-    (serves-append acts (perform l b .line) k a (or-right (names k (perform l b .answer)) (servesAny (perform l b .line) k acts) p) q)
+    rw (or-no-l (names k (perform l b .answer)) (servesAny (perform l b .line) k acts) p)
+    (serves-append acts (perform l b .line) k a (or-no-r (names k (perform l b .answer)) (servesAny (perform l b .line) k acts) p) q)
 
 longer : (acts : List Act) (a : Act) (k : ℕ) → Calling acts k → names k (answer acts a) ≡ false → Calling (acts ++ (a ∷ [])) k
 longer acts a k c n = record {

@@ -5,7 +5,7 @@ ghost use Rattle.line.specs.Claim.{FairLine};
 ghost use Rattle.line.specs.Examples.{ExamplesHold};
 
 // Locks are numbered from 1 to this.
-pub const LOCKS: u8 = 8;
+pub(crate) const LOCKS: u8 = 8;
 
 pub struct Line {
     // at k - 1: is lock k calling

@@ -14,7 +14,7 @@ ghost use Prim.Native.Nat.{_≤_};
 ghost use lib.ListN.{length};
 ghost use Rattle.text.specs.Text.{ascii, decimal, line, lines};
 ghost use Rattle.text.specs.Writing.{Put, Rendered};
-ghost use Rattle.line_output.specs.Output.{actOf, shown, actLine, outputOf};
+ghost use Rattle.line_output.specs.Output.{actOf, shown, actLine, most, outputOf};
 
 // The most acts that are run.
 pub const MOST: usize = 4096;
@@ -60,7 +60,7 @@ fn put_act(out: &mut [u8], at: usize, i: u32, answer: Answer) -> usize
 
 // A line for each act on a new line.
 fn put_acts(out: &mut [u8], s: &[u8]) -> usize
-    requires { ⌜ length (now s) ≤ 4096 ⌝ }
+    requires { ⌜ length (now s) ≤ most ⌝ }
     ensures { λ r. ⌜ Put (now (out .entry)) (now (out .exit)) 0 r (lines (length (now (s .entry))) (actLine (now (s .entry)))) ⌝ }
 {
     let mut line = new_line();
@@ -78,7 +78,7 @@ fn put_acts(out: &mut [u8], s: &[u8]) -> usize
 
 // The length of those lines: they are written where no byte is kept.
 fn measure(s: &[u8]) -> usize
-    requires { ⌜ length (now s) ≤ 4096 ⌝ }
+    requires { ⌜ length (now s) ≤ most ⌝ }
     ensures { λ r. ⌜ r ≡ length (lines (length (now (s .entry))) (actLine (now (s .entry)))) ⌝ }
 {
     let mut none = [0u8; 0];

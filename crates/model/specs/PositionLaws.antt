@@ -1,7 +1,7 @@
 -- Question 11 as it is asked, of two's complement, is the document's question of millimetres.
 use Prim.Native.Nat.{ℕ, _-_, _^_, _≤_, _<_}
-use mathlib.Core.Path.{_≡_, refl}
-use mathlib.Core.Bool.{Bool, true, false, _||_}
+use mathlib.Core.Path.{_≡_}
+use mathlib.Core.Bool.{or-false}
 use native.Mathlib.Omega.{arith}
 use borrow.Author.Tests.{ltb-true, ltb-false, lt-ltb, lt-leb, le-leb, leb-true}
 use lib.Dec.{leb, ltb}
@@ -17,13 +17,9 @@ low-end p l h =
     (λ t. let e : 4294947296 ≤ p = leb-true 4294947296 p t in lt-ltb (2 ^ 32 - 1 - p) 20000 (omega arith))
     (λ t. let e : 2 ^ 32 - 1 - p < 20000 = ltb-true (2 ^ 32 - 1 - p) 20000 t in le-leb 4294947296 p (omega arith))
 
-or-no : (b : Bool) → (b || false) ≡ b
-or-no true = refl
-or-no false = refl
-
 pub position-in-range-is : (p : ℕ) → p < 2 ^ 32 → positionInRange p ≡ inRange (millimetres p)
 unfolding positionInRange inRange millimetres
 position-in-range-is p h = elim (split (ltb p (2 ^ 31))) [
-  | inl t ↦ let e : p < 2 ^ 31 = ltb-true p (2 ^ 31) t in rw (t, lt-leb 4294947296 p (omega arith)) (or-no (leb p 20000))
+  | inl t ↦ let e : p < 2 ^ 31 = ltb-true p (2 ^ 31) t in rw (t, lt-leb 4294947296 p (omega arith)) (or-false (leb p 20000))
   | inr t ↦ let e : 2 ^ 31 ≤ p = ltb-false p (2 ^ 31) t in rw (t, lt-leb p 20000 (omega arith)) (low-end p e h)
 ]

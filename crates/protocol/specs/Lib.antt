@@ -7,6 +7,7 @@ pub mod SequenceLaws
 pub mod CallLaws
 -- "The parts": the bench; "Questions put to a record or event"; what an event does
 pub mod Counts
+pub mod CountLaws
 pub mod Benches
 pub mod Events
 pub mod Questions

@@ -1,4 +1,5 @@
 -- Document 01, "Questions put to a record or event": those that the bench puts to an event, in their sequence.
+use Prim.Native.Nat.{ℕ}
 use mathlib.Core.Bool.{Bool, true, false, not, _&&_, _||_}
 use mathlib.Core.List.{List, [], _∷_}
 use lib.Dec.{eqb, leb, ltb}
@@ -11,6 +12,7 @@ use Rattle.model.specs.declared.Outcome.{Outcome}
 use Rattle.model.specs.declared.Outcome.the-variants.{None, Stay, Move}
 use Rattle.model.specs.declared.Event.{Event}
 use Rattle.model.specs.declared.Event.the-variants.{Lock, Order, Cast, Deliver, Timeout, Decide, Stop, Save, Restore}
+use Rattle.protocol.specs.declared.Condition.{Condition}
 use Rattle.protocol.specs.declared.Saved.{Saved}
 use Rattle.protocol.specs.declared.Saved.the-variants.{Nothing, Newest}
 use Rattle.protocol.specs.declared.Sent.{Sent}
@@ -18,7 +20,6 @@ use Rattle.protocol.specs.declared.Station.{Station}
 use Rattle.protocol.specs.declared.Consensus.{Consensus}
 use Rattle.protocol.specs.declared.Shared.{Shared}
 use Rattle.protocol.specs.declared.Bench.{Bench}
-use Rattle.protocol.specs.declared.Facts.{Facts}
 use Rattle.protocol.specs.Controllers.{isRunning, isStandby, isStopped, phaseIn}
 use Rattle.protocol.specs.Rules.{isContradicted}
 use Rattle.protocol.specs.Counts.{openGates}
@@ -49,10 +50,20 @@ isSaved (Newest c) = true
 abbrev pub agreesAt : Shared → Event → Sent → Station → Bool
 agreesAt m e sent s = not (isContradicted ((answerTo m e sent s) .reception))
 
+-- what the questions of an event look at beside the event: what is shared; the condition of the controller that it concerns, and whether that has a
+-- checkpoint; to whom the delivered message was sent; whether an order may be opened; whether the delivered vote set agrees with those held
+pub record Facts : Type 0 where
+  pub shared : Shared
+  pub condition : Condition
+  pub has-checkpoint : Bool
+  pub receivers : ℕ
+  pub may-open : Bool
+  pub agrees : Bool
+
 -- each event's questions, from what they look at
 abbrev pub questionsOf : Facts → Event → List Question
 questionsOf v (Lock n f) = ask 4 (sizesInRange n f) ∷ ask 6 (not (v .shared .locked)) ∷ []
-questionsOf v (Order o) = ask 5 (v .shared .locked) ∷ ask 8 (leb 1 o) ∷ ask 12 (ltb (v .shared .order) o) ∷ ask 13 (v .«may_open») ∷ []
+questionsOf v (Order o) = ask 5 (v .shared .locked) ∷ ask 8 (leb 1 o) ∷ ask 12 (ltb (v .shared .order) o) ∷ ask 13 (v .may-open) ∷ []
 questionsOf v (Cast i willing target) = ask 5 (v .shared .locked) ∷ ask 7 (isController (v .shared .n) i) ∷ ask 11 (positionInRange target) ∷ ask 14 (leb 1 (v .shared .order))
     ∷ ask 15 (isRunning (v .condition)) ∷ ask 16 (eqb (phaseIn (v .condition)) 0) ∷ []
 questionsOf v (Deliver i j kind) = ask 5 (v .shared .locked) ∷ ask 7 (differentControllers (v .shared .n) i j) ∷ ask 10 (route (v .shared .f) kind i j)
@@ -67,11 +78,11 @@ questionsOf v (Stop i) = ask 5 (v .shared .locked) ∷ ask 7 (isController (v .s
 questionsOf v (Save i) = ask 5 (v .shared .locked) ∷ ask 7 (isController (v .shared .n) i) ∷ ask 14 (leb 1 (v .shared .order))
     ∷ ask 15 (isRunning (v .condition) || isStandby (v .condition)) ∷ []
 questionsOf v (Restore i) = ask 5 (v .shared .locked) ∷ ask 7 (isController (v .shared .n) i) ∷ ask 14 (leb 1 (v .shared .order)) ∷ ask 15 (isStopped (v .condition))
-    ∷ ask 19 (v .«has_checkpoint») ∷ []
+    ∷ ask 19 (v .has-checkpoint) ∷ []
 
 -- what they look at: of an event that concerns the controller of station s, and whose source has sent `sent`; and that, of a bench
 abbrev pub factsOf : Shared → Event → Station → Sent → Bool → Bool → Facts
-factsOf m e s sent may agrees = record { shared = m; condition = s .controller .condition; «has_checkpoint» = isSaved (s .saved); receivers = receiversIn e sent; «may_open» = may; agrees = agrees }
+factsOf m e s sent may agrees = record { shared = m; condition = s .controller .condition; has-checkpoint = isSaved (s .saved); receivers = receiversIn e sent; may-open = may; agrees = agrees }
 
 abbrev pub questions : Bench → Event → List Question
 questions b e = questionsOf (factsOf (b .shared) e (station b (subject e)) (sentBy b (source e)) (mayOpen (b .shared)) (agreesAt (b .shared) e (sentBy b (source e)) (station b (subject e)))) e

@@ -27,9 +27,9 @@ answersAs r = same eqb (numbersOf (r .me) (freshCabinet (r .me)) (r .calls)) (r 
     && eqb ((cabinet (r .me) (r .calls)) .controller .acks .cnt .0) (r .cnt)
     && eqb ((cabinet (r .me) (r .calls)) .controller .helped .«cnt_help» .0) (r .cnt-help)
 
--- Of a lock of five with one holder: controller 1, the holder, and 5, which waits after its vote and its timeout. Vote sets as masks: 4 is controller 3.
-abbrev holder : List Call → List ℕ → ℕ → ℕ → StrayTrial
-holder calls numbers cnt cnt-help = record { me = record { n = 5; f = 1; id = 1; order = 1 }; calls = calls; numbers = numbers; cnt = cnt; cnt-help = cnt-help }
+-- Of a lock of five with one backup: controller 1, the backup, and 5, which waits after its vote and its timeout. Vote sets as masks: 4 is controller 3.
+abbrev backup : List Call → List ℕ → ℕ → ℕ → StrayTrial
+backup calls numbers cnt cnt-help = record { me = record { n = 5; f = 1; id = 1; order = 1 }; calls = calls; numbers = numbers; cnt = cnt; cnt-help = cnt-help }
 
 abbrev waiting : List Call → List ℕ → ℕ → ℕ → StrayTrial
 waiting calls numbers cnt cnt-help = record { me = record { n = 5; f = 1; id = 5; order = 1 }; calls = voting true 0 ∷ timing-out ∷ calls; numbers = 0 ∷ 0 ∷ numbers; cnt = cnt; cnt-help = cnt-help }
@@ -43,12 +43,12 @@ to5 kind from known willing = receiving (message 5 1 kind from 5 known willing)
 unfoldable pub strays : List StrayTrial
 strays =
     -- "24, a delivered sheet that contradicts one held". A vote against the own vote set (3 was willing), and against an acknowledgement (2's has 3 willing)
-    holder (to1 Vote 3 4 4 ∷ to1 Vote 3 4 0 ∷ []) (0 ∷ 24 ∷ []) 0 0
-    ∷ holder (to1 Ack 2 6 6 ∷ to1 Vote 3 4 0 ∷ []) (0 ∷ 24 ∷ []) 1 0
+    backup (to1 Vote 3 4 4 ∷ to1 Vote 3 4 0 ∷ []) (0 ∷ 24 ∷ []) 0 0
+    ∷ backup (to1 Ack 2 6 6 ∷ to1 Vote 3 4 0 ∷ []) (0 ∷ 24 ∷ []) 1 0
     -- an acknowledgement against the own vote set, also against the own vote
-    ∷ holder (to1 Vote 3 4 4 ∷ to1 Ack 2 6 2 ∷ []) (0 ∷ 24 ∷ []) 0 0
-    ∷ holder (voting true 0 ∷ to1 Ack 2 3 2 ∷ []) (0 ∷ 24 ∷ []) 0 0
-    -- against another's acknowledgement: at a lock with two holders, 1's has 3 willing
+    ∷ backup (to1 Vote 3 4 4 ∷ to1 Ack 2 6 2 ∷ []) (0 ∷ 24 ∷ []) 0 0
+    ∷ backup (voting true 0 ∷ to1 Ack 2 3 2 ∷ []) (0 ∷ 24 ∷ []) 0 0
+    -- against another's acknowledgement: at a lock with two backups, 1's has 3 willing
     ∷ record {
       me = record { n = 5; f = 2; id = 5; order = 1 };
       calls = receiving (message 5 2 Ack 1 5 5 5) ∷ receiving (message 5 2 Ack 2 5 6 2) ∷ [];
@@ -65,17 +65,17 @@ strays =
     -- refused once, it may come again as one that contradicts nothing
     ∷ waiting (to5 Helped 3 20 4 ∷ to5 Helped 3 20 20 ∷ []) (24 ∷ 0 ∷ []) 0 2
     -- "One that is passed over anyway, as a sender's second acknowledgement or answer, is not tested."
-    ∷ holder (to1 Ack 2 6 6 ∷ to1 Ack 2 6 2 ∷ []) (0 ∷ 0 ∷ []) 1 0
+    ∷ backup (to1 Ack 2 6 6 ∷ to1 Ack 2 6 2 ∷ []) (0 ∷ 0 ∷ []) 1 0
     ∷ waiting (to5 Helped 3 4 4 ∷ to5 Helped 3 4 0 ∷ []) (0 ∷ 0 ∷ []) 0 2
     -- nor a vote that comes late
-    ∷ holder (to1 Vote 3 4 4 ∷ voting true 0 ∷ timing-out ∷ to1 Vote 3 4 0 ∷ []) (0 ∷ 0 ∷ 0 ∷ 0 ∷ []) 1 0
+    ∷ backup (to1 Vote 3 4 4 ∷ voting true 0 ∷ timing-out ∷ to1 Vote 3 4 0 ∷ []) (0 ∷ 0 ∷ 0 ∷ 0 ∷ []) 1 0
     -- "also one already held that its own vote contradicts": the vote is answered 0 and drops it, and its sender may be received again
-    ∷ holder (to1 Ack 2 3 2 ∷ voting true 0 ∷ []) (0 ∷ 0 ∷ []) 0 0
-    ∷ holder (to1 Ack 2 3 2 ∷ voting true 0 ∷ to1 Ack 2 3 3 ∷ []) (0 ∷ 0 ∷ 0 ∷ []) 1 0
+    ∷ backup (to1 Ack 2 3 2 ∷ voting true 0 ∷ []) (0 ∷ 0 ∷ []) 0 0
+    ∷ backup (to1 Ack 2 3 2 ∷ voting true 0 ∷ to1 Ack 2 3 3 ∷ []) (0 ∷ 0 ∷ 0 ∷ []) 1 0
     -- one that it does not contradict is kept
-    ∷ holder (to1 Ack 2 3 2 ∷ voting false 0 ∷ []) (0 ∷ 0 ∷ []) 1 0
+    ∷ backup (to1 Ack 2 3 2 ∷ voting false 0 ∷ []) (0 ∷ 0 ∷ []) 1 0
     -- a help call has an empty vote set, and so contradicts none; with another it does not suit its kind, and is passed over
     ∷ waiting (to5 Helped 3 4 4 ∷ to5 Help 4 0 0 ∷ to5 Help 2 4 0 ∷ []) (0 ∷ 0 ∷ 0 ∷ []) 0 2
     -- a vote set that does not suit its kind is passed over, though it contradicts: 3's vote that knows 2 as well
-    ∷ holder (to1 Vote 2 2 2 ∷ to1 Vote 3 6 4 ∷ []) (0 ∷ 0 ∷ []) 0 0
+    ∷ backup (to1 Vote 2 2 2 ∷ to1 Vote 3 6 4 ∷ []) (0 ∷ 0 ∷ []) 0 0
     ∷ []

@@ -176,17 +176,6 @@ pub struct Bench {
     pub stations: [Station; LIMIT],
 }
 
-// What the questions of an event look at beside the event: what is shared; the condition of the controller that it concerns, and whether that has a
-// checkpoint; to whom the delivered message was sent; whether an order may be opened; whether the delivered vote set agrees with those held.
-pub struct Facts {
-    pub shared: Shared,
-    pub condition: Condition,
-    pub has_checkpoint: bool,
-    pub receivers: u32,
-    pub may_open: bool,
-    pub agrees: bool,
-}
-
 // What an event of one controller leaves: what is shared, and that controller's station.
 pub struct Effect {
     pub shared: Shared,

@@ -5,7 +5,7 @@ mod lookup;
 pub use charge::shares_of;
 
 // A band of the tariff: the highest length of its boats, in cm, and their charge, in pence.
-pub struct Band {
+pub(crate) struct Band {
     pub limit: u32,
     pub charge: u32,
 }

@@ -1,7 +1,7 @@
 -- The two masks of a vote set, known and willing, unite alike: what holds of both is proved here once, for either.
 use Prim.Native.Nat.{ℕ, zero, suc, _≤_}
 use mathlib.Core.Path.{_≡_, refl, sym, _∙_, ap}
-use mathlib.Core.Bool.{Bool, true, false, _&&_, _||_}
+use mathlib.Core.Bool.{Bool, true, false, _&&_, _||_, or-comm}
 use mathlib.Core.List.{List}
 use lib.Bits.{bitOr}
 use mathlib.Core.Logic.{inl, inr}
@@ -34,12 +34,6 @@ known-half = record { mask = λ s. s .known; unites = known-unites; none = refl 
 abbrev pub willing-half : Half
 willing-half = record { mask = λ s. s .willing; unites = willing-unites; none = refl }
 
-or-swap : (x y : Bool) → (x || y) ≡ (y || x)
-or-swap true true = refl
-or-swap true false = refl
-or-swap false true = refl
-or-swap false false = refl
-
 module _ (half : Half) where
   -- is k in that mask of s
   abbrev pub on : VoteSet → ℕ → Bool
@@ -56,7 +50,7 @@ module _ (half : Half) where
   on-all zero from l k = on-empty k
   on-all (suc m) from l k = elim (split (has from (suc m))) [
     | inl e ↦ rw e (on-union (unionAll m from l) (nth empty l (suc m)) k
-        ∙ rw (on-all m from l k) (or-swap (anyTo m (λ j. has from j && on (nth empty l j) k)) (on (nth empty l (suc m)) k)))
+        ∙ rw (on-all m from l k) (or-comm (anyTo m (λ j. has from j && on (nth empty l j) k)) (on (nth empty l (suc m)) k)))
     | inr e ↦ rw e (on-all m from l k)
   ]
 

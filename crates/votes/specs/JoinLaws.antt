@@ -2,7 +2,7 @@
 -- or in neither (`agree-at`, `at-agree`).
 use Prim.Native.Nat.{ℕ, zero, suc, _+_, _-_, _≤_}
 use mathlib.Core.Path.{_≡_, refl, sym, _∙_, ap}
-use mathlib.Core.Bool.{Bool, true, false, not, _&&_, _||_, cond, true≢false, false≢true}
+use mathlib.Core.Bool.{Bool, true, false, not, _&&_, _||_, cond, true≢false, false≢true, and-assoc, or-self, or-false}
 use mathlib.Core.List.{List, [], _∷_, _++_}
 use native.Mathlib.Omega.{arith}
 use native.Mathlib.Nat.{zero-add, suc-add}
@@ -11,10 +11,10 @@ use lib.Bits.{bitAnd, bitXor, and-comm, xor-comm}
 use lib.Dec.{eqb}
 use mathlib.Core.Logic.{inl, inr}
 use borrow.Author.Tests.{eqb-true, eq-eqb, not-true, not-false}
-use Rattle.ground.specs.Tests.{split, no-both, refuted, and-l, and-r, and-i, or-l, or-r, same-test, by-cond}
+use Rattle.ground.specs.Tests.{split, no-both, refuted, and-l, and-r, and-i, or-l, or-r, same-test, by-cond, or-second}
 use Rattle.ground.specs.Quantify.{Found}
 use Rattle.ground.specs.Mask.{has, within}
-use Rattle.ground.specs.MaskLaws.{has-and, has-xor, has-none}
+use Rattle.ground.specs.MaskLaws.{has-and, has-xor, has-none, none-has}
 use Rattle.ground.specs.Inclusion.{empty-zero, some-member, within-has}
 use Rattle.ground.specs.Lists.{nth, nth-past}
 use Rattle.votes.specs.VoteSets.{empty, knows, wills, union, unionAll}
@@ -121,7 +121,7 @@ module _ (s t : VoteSet) where
 
 -- the vote set that knows nobody contradicts none
 pub empty-agrees : (s : VoteSet) → contradicts empty s ≡ false
-empty-agrees s = at-agree empty s (λ k p q. absurd (no-both (has 0 k) p (has-none k)))
+empty-agrees s = at-agree empty s (λ k p q. none-has k p)
 
 agreed-is : (s t : VoteSet) → Agreed s ≡ Agreed t → s ≡ t
 agreed-is s t e = cc
@@ -131,17 +131,9 @@ agreed-is s t e = cc
 -- of two vote sets that agree, the union has whom one of them knows as that one does
 union-as : (s t : VoteSet) → WellFormed t → contradicts s t ≡ false → (k : ℕ) → knows s k ≡ true → wills (union s t) k ≡ wills s k
 union-as s t w e k p = union-wills s t k ∙ elim (split (knows t k)) [
-  | inl q ↦ rw (sym (agree-at s t e k p q)) (twice (wills s k))
-  | inr q ↦ rw (refuted (wills t k) (λ x. no-both (knows t k) (within-has (t .willing) (t .known) w k x) q)) (or-no (wills s k))
+  | inl q ↦ rw (sym (agree-at s t e k p q)) (or-self (wills s k))
+  | inr q ↦ rw (refuted (wills t k) (λ x. no-both (knows t k) (within-has (t .willing) (t .known) w k x) q)) (or-false (wills s k))
 ]
-  where
-    twice : (x : Bool) → (x || x) ≡ x
-    twice true = refl
-    twice false = refl
-
-    or-no : (x : Bool) → (x || false) ≡ x
-    or-no true = refl
-    or-no false = refl
 
 -- what contradicts one of them contradicts their union, and nothing else does
 union-contradicts : (s t u : VoteSet) → WellFormed s → WellFormed t → contradicts s t ≡ false → contradicts (union s t) u ≡ (contradicts s u || contradicts t u)
@@ -169,12 +161,8 @@ union-contradicts s t u a b e = same-test (contradicts (union s t) u) (contradic
     neither : contradicts s u ≡ false → contradicts t u ≡ false → contradicts (union s t) u ≡ false
     neither p q = at-agree (union s t) u (λ k x y. elim (split (knows s k)) [
       | inl z ↦ union-as s t b e k z ∙ agree-at s u p k z y
-      | inr z ↦ let v : knows t k ≡ true = second (knows s k) (knows t k) z (sym (union-knows s t k) ∙ x) in as-t k v ∙ agree-at t u q k v y
+      | inr z ↦ let v : knows t k ≡ true = or-second (knows s k) (knows t k) z (sym (union-knows s t k) ∙ x) in as-t k v ∙ agree-at t u q k v y
     ])
-      where
-        second : (x y : Bool) → x ≡ false → (x || y) ≡ true → y ≡ true
-        second true y p q = absurd (true≢false p)
-        second false y p q = q
 
     part : contradicts (union s t) u ≡ true → (contradicts s u || contradicts t u) ≡ true
     part h = elim (split (contradicts s u)) [
@@ -227,12 +215,8 @@ from-any w [] a b = ap Agreed (sym (union-empty w))
 from-any w (s ∷ sets) a b = elim (split (contradicts w s)) [
   | inl e ↦ rw (join-refused w s e, e) (from-contradiction sets)
   | inr e ↦ rw (join-agreed w s e, e)
-      (from-any (union w s) sets (union-within w s a (b .0)) (b .1) ∙ rw (union-agrees w s a (b .0) e sets, union-assoc w s (unionList sets), and-shift (agreesWith w sets) (agreesWith s sets) (pairwise sets)))
+      (from-any (union w s) sets (union-within w s a (b .0)) (b .1) ∙ rw (union-agrees w s a (b .0) e sets, union-assoc w s (unionList sets), and-assoc (agreesWith w sets) (agreesWith s sets) (pairwise sets)))
 ]
-  where
-    and-shift : (x y z : Bool) → (x && y && z) ≡ (x && (y && z))
-    and-shift true y z = refl
-    and-shift false y z = refl
 
 pub list-is : (sets : List VoteSet) → AllWellFormed sets → joinList sets ≡ cond (pairwise sets) (Agreed (unionList sets)) Contradiction
 list-is sets a = from-any empty sets (unfold within in refl) a ∙ rw (empty-agrees-all sets, union-comm empty (unionList sets), union-empty (unionList sets))

@@ -7,11 +7,11 @@ use mathlib.Core.List.{List}
 use lib.Dec.{eqb}
 use lib.Bits.{or-comm, or-zero-r}
 use mathlib.Core.Logic.{inl, inr}
-use Rattle.ground.specs.Tests.{no-both, and-l, and-r, and-i, or-e, or-l, or-r, same-test}
+use Rattle.ground.specs.Tests.{and-l, and-r, and-i, or-e, or-l, or-r, same-test}
 use Rattle.ground.specs.Quantify.{allTo, all-at, all-of, Found}
 use Rattle.ground.specs.Update.{upd}
 use Rattle.ground.specs.Mask.{width, has, insert, fullTo, within}
-use Rattle.ground.specs.MaskLaws.{has-none, has-insert, full-is}
+use Rattle.ground.specs.MaskLaws.{has-none, has-insert, full-is, none-has}
 use Rattle.ground.specs.Inclusion.{or-assoc, within-has, has-within}
 use Rattle.ground.specs.Lists.{nth}
 use Rattle.votes.specs.VoteSets.{empty, knows, wills, single, union, complete, unanimous, unionAll, Among}
@@ -154,7 +154,7 @@ all-same m from l m′ from′ l′ f g =
 pub single-within : (i : ℕ) (willing : Bool) → within (single i willing .willing) (single i willing .known) ≡ true
 unfolding single
 single-within i true = has-within (insert 0 i) (insert 0 i) (λ k e. e)
-single-within i false = has-within 0 (insert 0 i) (λ k e. absurd (no-both (has 0 k) e (has-none k)))
+single-within i false = has-within 0 (insert 0 i) (λ k e. none-has k e)
 
 -- a union of two that have it so does
 pub union-within : (s t : VoteSet) → within (s .willing) (s .known) ≡ true → within (t .willing) (t .known) ≡ true

@@ -1,3 +1,4 @@
+-- Each arm is one kind's function, whose contract is the step on that event.
 use borrow.Author.Needs.{needs}
 use Rattle.bench_step.proofs.step.Statement.{statement}
 use Rattle.bench_step.proofs.step.Tie as tie

@@ -12,7 +12,7 @@ use Rattle.ground.specs.Tests.{split, no-both, and-l, and-r}
 use Rattle.ground.specs.Quantify.{countTo}
 use Rattle.ground.specs.Sizes.{insert-size}
 use Rattle.ground.specs.Mask.{has, insert}
-use Rattle.ground.specs.MaskLaws.{has-none, insert-only}
+use Rattle.ground.specs.MaskLaws.{has-none, insert-only, none-has}
 use Rattle.ground.specs.Lists.{nth, put, nth-put-at, length-put}
 use Rattle.ground.specs.Update.{upd, upd-same, upd-other}
 use Rattle.votes.specs.VoteSets.{empty, knows}
@@ -73,12 +73,12 @@ pub cleared-sound : (n i : ℕ) (k : Condition) (c : Controller) → length (c .
 unfolding cleared
 cleared-sound n i k c room = record {
   word = λ j. false;
-  held = record { own-tells = empty-tells _; answers-tell = empty-tells _; acks-tell = λ j e. absurd (no-both (has 0 j) e (has-none j)) };
+  held = record { own-tells = empty-tells _; answers-tell = empty-tells _; acks-tell = λ j e. none-has j e };
   counted = record {
     ack-count = sym (count-zero n);
     answer-count = sym (count-zero n);
-    ack-senders = λ j e. absurd (no-both (has 0 j) e (has-none j));
-    answer-senders = λ j e. absurd (no-both (has 0 j) e (has-none j));
+    ack-senders = λ j e. none-has j e;
+    answer-senders = λ j e. none-has j e;
     room = room;
   };
   phased = record { no-answers = λ e. refl; no-join = λ e. refl; idle = λ e. refl; unvoted = λ e. has-none i };
@@ -88,12 +88,12 @@ pub fresh-sound : (n i : ℕ) → Sound n i (fresh (replicate limit empty))
 unfolding fresh
 fresh-sound n i = record {
   word = λ j. false;
-  held = record { own-tells = empty-tells _; answers-tell = empty-tells _; acks-tell = λ j e. absurd (no-both (has 0 j) e (has-none j)) };
+  held = record { own-tells = empty-tells _; answers-tell = empty-tells _; acks-tell = λ j e. none-has j e };
   counted = record {
     ack-count = sym (count-zero n);
     answer-count = sym (count-zero n);
-    ack-senders = λ j e. absurd (no-both (has 0 j) e (has-none j));
-    answer-senders = λ j e. absurd (no-both (has 0 j) e (has-none j));
+    ack-senders = λ j e. none-has j e;
+    answer-senders = λ j e. none-has j e;
     room = length-replicate limit empty;
   };
   phased = record { no-answers = λ e. refl; no-join = λ e. refl; idle = λ e. refl; unvoted = λ e. has-none i };

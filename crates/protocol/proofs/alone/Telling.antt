@@ -5,10 +5,10 @@ use mathlib.Core.Path.{_≡_, sym, _∙_, ap, subst}
 use mathlib.Core.Bool.{Bool, true, false, _&&_, _||_, cond}
 use mathlib.Core.List.{List}
 use mathlib.Core.Logic.{_⊎_, inl, inr}
-use Rattle.ground.specs.Tests.{split, no-both, and-l, and-r, and-i, or-e, or-l, or-r, same-test}
+use Rattle.ground.specs.Tests.{split, and-l, and-r, and-i, or-e, or-l, or-r, same-test}
 use Rattle.ground.specs.Quantify.{anyTo, any-of, any-at, Found}
 use Rattle.ground.specs.Mask.{has}
-use Rattle.ground.specs.MaskLaws.{has-none}
+use Rattle.ground.specs.MaskLaws.{none-has}
 use Rattle.ground.specs.Lists.{nth}
 use Rattle.votes.specs.VoteSets.{empty, knows, wills, union, unionAll}
 use Rattle.votes.specs.VoteLaws.{union-knows, union-wills}
@@ -26,7 +26,7 @@ module _ (w : ℕ → Bool) where
     pub word : (k : ℕ) → knows s k ≡ true → wills s k ≡ w k
 
   pub empty-tells : Tells empty
-  empty-tells = record { within = λ k e. absurd (no-both (has 0 k) e (has-none k)); word = λ k e. absurd (no-both (has 0 k) e (has-none k)) }
+  empty-tells = record { within = λ k e. none-has k e; word = λ k e. none-has k e }
 
   pub union-tells : (s t : VoteSet) → Tells s → Tells t → Tells (union s t)
   union-tells s t p q = record {

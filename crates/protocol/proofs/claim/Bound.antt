@@ -20,6 +20,7 @@ use Rattle.protocol.specs.Benches.{sentBy}
 use Rattle.protocol.specs.Display.{sumTo, sentCount, messageCount}
 use Rattle.protocol.proofs.invariant.Invariant.{Inv}
 use Rattle.protocol.proofs.view.Simulation.{view}
+use Rattle.protocol.proofs.clean.Parts.{route-low}
 
 -- none above k, so at most k
 count-below : (m k : ℕ) (p : ℕ → Bool) → ((j : ℕ) → p j ≡ true → j ≤ k) → countTo m p ≤ k
@@ -48,13 +49,6 @@ module _ (n f : ℕ) where
   unfolding ackRoute
   ack-self i = rw (eqb-same i)
 
-  vote-low : (i j : ℕ) → voteRoute f i j ≡ true → j ≤ suc f
-  unfolding voteRoute
-  vote-low i j e = elim (or-e (leb j f) (leb i f && eqb j (suc f)) (and-r (not (eqb i j)) _ e)) [
-    | inl q ↦ let h : j ≤ f = leb-true j f q in omega arith
-    | inr q ↦ let h : j ≡ suc f = eqb-true j (suc f) (and-r (leb i f) _ q) in omega arith
-  ]
-
   vote-high : (i j : ℕ) → f < i → voteRoute f i j ≡ true → j ≤ f
   unfolding voteRoute
   vote-high i j l e = elim (or-e (leb j f) (leb i f && eqb j (suc f)) (and-r (not (eqb i j)) _ e)) [
@@ -71,7 +65,7 @@ module _ (n f : ℕ) where
 
   votes-one : (i : ℕ) → 1 ≤ i → i ≤ n → countTo n (voteRoute f i) ≤ f
   votes-one i a b = elim (decLe i f) [
-    | yes h ↦ let x : suc (countTo n (voteRoute f i)) ≤ suc f = count-other n (suc f) i (voteRoute f i) a b (omega arith) (vote-self i) (vote-low i) in omega arith
+    | yes h ↦ let x : suc (countTo n (voteRoute f i)) ≤ suc f = count-other n (suc f) i (voteRoute f i) a b (omega arith) (vote-self i) (route-low n f i) in omega arith
     | no h ↦ count-below n f (voteRoute f i) (λ j. vote-high i j (omega arith))
   ]
 

@@ -10,7 +10,7 @@ use borrow.Author.Tests.{leb-true, eqb-true, eq-eqb}
 use Rattle.ground.specs.Limit.{limit}
 use Rattle.ground.specs.Tests.{no-both, refuted, and-l, and-r, and-i, same-test}
 use Rattle.ground.specs.Mask.{has, insert, noneAbove, within}
-use Rattle.ground.specs.MaskLaws.{has-none, insert-own, insert-only}
+use Rattle.ground.specs.MaskLaws.{insert-own, insert-only, none-has}
 use Rattle.ground.specs.Inclusion.{le-none-above, has-within, same-set}
 use Rattle.votes.specs.VoteSets.{empty, knows, single, union}
 use Rattle.votes.specs.VoteLaws.{single-knows}
@@ -66,7 +66,7 @@ module _ (G H : ℕ → Type 0) (g0 : G 0) (n f : ℕ) (small : n ≤ limit) (v 
   just : (i : ℕ) → 1 ≤ i → i ≤ n → votedBy i (L i) ≡ true → eqb ((L i) .vote .votes .known) (insert 0 i) ≡ true
   just i lo hi e = eq-eqb _ _ (same-set ((L i) .vote .votes .known) (insert 0 i) (λ k. same-test _ _
       (λ x. rw (inv .lines i .vote-only k x) (insert-own 0 i lo (omega arith)))
-      (λ x. elim (insert-only 0 i k x) [ inl z ↦ rw z e | inr z ↦ absurd (no-both (has 0 k) z (has-none k)) ])))
+      (λ x. elim (insert-only 0 i k x) [ inl z ↦ rw z e | inr z ↦ none-has k z ])))
 
   pub suits-sent : (kind : Kind) (i j : ℕ) → 1 ≤ i → i ≤ n → has ((ofKind kind (L i)) .to) j ≡ true → suits (message (sharedV n f v) kind i j (L i)) ≡ true
   unfolding suits bitsInRange knowsForKind

@@ -6,10 +6,10 @@ use mathlib.Core.List.{List, [], _∷_, _++_}
 use native.Mathlib.Omega.{arith}
 use mathlib.Core.Logic.{inl, inr}
 use lib.ListN.{length, length-map}
-use Rattle.ground.specs.Tests.{no-both, split}
+use Rattle.ground.specs.Tests.{no-both, split, or-no-l, or-no-r}
 use Rattle.ground.specs.Quantify.{countTo}
 use Rattle.ground.specs.Mask.{has}
-use Rattle.ground.specs.MaskLaws.{has-none}
+use Rattle.ground.specs.MaskLaws.{has-none, none-has}
 use Rattle.model.specs.declared.Kind.{Kind}
 use Rattle.model.specs.declared.Kind.the-variants.{Vote, Ack, Help, Helped}
 use Rattle.model.specs.declared.Event.{Event}
@@ -34,7 +34,7 @@ use Rattle.protocol.proofs.view.View.{View, openedV, accepts}
 use Rattle.protocol.proofs.view.Performed.{commitV, chosen, savedV, ruleAnswer, performV, place, stepV}
 use Rattle.protocol.proofs.view.Simulation.{view, Sound, rule-sim, reply-sim, step-steps, step-sim}
 use Rattle.protocol.proofs.invariant.Arrivals.{count-zero}
-use Rattle.protocol.proofs.claim.Moments.{accepted-is, lock-refused, run-append, or-false-l, or-false-r}
+use Rattle.protocol.proofs.claim.Moments.{accepted-is, lock-refused, run-append}
 use Rattle.protocol.proofs.claim.Start.{unlocked, freshes}
 use Rattle.protocol.proofs.claim.Sends.{Stays, New, rule-new, messageCountV, commit-counted, commit-kept}
 use Rattle.protocol.proofs.claim.Reach.{Reached, step-reached, reached}
@@ -178,7 +178,7 @@ once-at b e kind j (inr a) p h = adds b a e (sym (reply-sim b (a) e) ∙ accepte
 step-kept : (b : Bench) (e : Event) → Reached b → opensOrder b e ≡ false → (kind : Kind) (j i : ℕ) → has ((ofKind kind (sentBy b i)) .to) j ≡ true
     → Stays j (ofKind kind (sentBy b i)) (ofKind kind (sentBy (step b e) i))
 step-kept b e (inl z) o kind j i h =
-    absurd (no-both (has 0 j) (sym (ap (λ (x : Bench). has ((ofKind kind (sentBy x i)) .to) j) z ∙ ap (λ (l : Sent). has ((ofKind kind l) .to) j) (freshes false 0 0 i .sent) ∙ ap (λ (m : ℕ). has m j) (unsent-kind kind)) ∙ h) (has-none j))
+    none-has j (sym (ap (λ (x : Bench). has ((ofKind kind (sentBy x i)) .to) j) z ∙ ap (λ (l : Sent). has ((ofKind kind l) .to) j) (freshes false 0 0 i .sent) ∙ ap (λ (m : ℕ). has m j) (unsent-kind kind)) ∙ h)
 step-kept b e (inr a) o kind j i h = elim (split (isAccepted (reply b e))) [
   | inl q ↦ accepted-kept b a e (sym (reply-sim b (a) e) ∙ q) o kind j i h
   | inr q ↦ subst (λ (x : Bench). Stays j (ofKind kind (sentBy b i)) (ofKind kind (sentBy x i))) (sym (refused-step b e q)) (record { sent = h; votes = refl })
@@ -189,8 +189,8 @@ run-kept : (more : List Event) (b : Bench) → Reached b → opensAny b more ≡
 unfolding run opensAny
 run-kept [] b r o kind j i h = record { sent = h; votes = refl }
 run-kept (e ∷ more) b r o kind j i h =
-    let s = step-kept b e r (or-false-l (opensOrder b e) _ o) kind j i h in
-    let t = run-kept more (step b e) (step-reached b e r) (or-false-r (opensOrder b e) _ o) kind j i (s .sent) in
+    let s = step-kept b e r (or-no-l (opensOrder b e) _ o) kind j i h in
+    let t = run-kept more (step b e) (step-reached b e r) (or-no-r (opensOrder b e) _ o) kind j i (s .sent) in
     record { sent = t .sent; votes = t .votes ∙ s .votes }
 
 kept-from : (es more : List Event) (kind : Kind) (i j : ℕ) → opensAny (after es) more ≡ false → WasSent (after es) kind i j → StaysSent kind i j (after es) (after (es ++ more))

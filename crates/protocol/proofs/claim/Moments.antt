@@ -1,18 +1,18 @@
 -- The statement's moments and the log of an order: an event stands in the log at its place exactly when it was accepted in the order of that moment.
 use Prim.Native.Nat.{ℕ}
 use mathlib.Core.Path.{_≡_, refl, sym, _∙_, ap, subst}
-use mathlib.Core.Bool.{Bool, true, false, not, _||_, cond, true≢false}
+use mathlib.Core.Bool.{Bool, true, false, not, _||_, cond}
 use mathlib.Core.List.{List, [], _∷_, _++_}
 use native.Mathlib.Omega.{arith}
 use mathlib.Core.Logic.{_⊎_, inl, inr}
-use Rattle.ground.specs.Tests.{no-both, split, by-cond}
+use Rattle.ground.specs.Tests.{no-both, split, by-cond, or-no, or-no-l, or-no-r}
 use Rattle.model.specs.QuestionLaws.{is-accepted}
 use Rattle.model.specs.Ranges.{sizesInRange}
 use Rattle.model.specs.declared.Event.{Event}
 use Rattle.model.specs.declared.Event.the-variants.{Lock, Order, Cast, Deliver, Timeout, Decide, Stop, Save, Restore}
 use Rattle.protocol.specs.declared.Bench.{Bench}
 use Rattle.protocol.specs.Benches.{newBench, benchOf}
-use Rattle.protocol.specs.Questions.{Reply, accepted, refused, isAccepted, unless, firstNo, reply}
+use Rattle.protocol.specs.Questions.{Reply, accepted, isAccepted, unless, firstNo, reply}
 use Rattle.protocol.specs.Steps.{orderOpened, proposedTo, decidedAs, answering, effectOf, perform, step, run}
 use Rattle.protocol.specs.Claim.{after, opensOrder, opensAny, InOrder}
 use Rattle.protocol.proofs.view.View.{ask-l}
@@ -148,18 +148,6 @@ refused-opens b (Stop i) q = refl
 refused-opens b (Save i) q = refl
 refused-opens b (Restore i) q = refl
 
-or-false : (x y : Bool) → x ≡ false → y ≡ false → (x || y) ≡ false
-or-false true y p q = absurd (true≢false p)
-or-false false y p q = q
-
-pub or-false-l : (x y : Bool) → (x || y) ≡ false → x ≡ false
-or-false-l true y p = p
-or-false-l false y p = refl
-
-pub or-false-r : (x y : Bool) → (x || y) ≡ false → y ≡ false
-or-false-r true y p = absurd (true≢false p)
-or-false-r false y p = p
-
 -- from the log to the list ---------------------------------------------------------
 
 -- where an event of the log came from, after events es put to a bench b with a log
@@ -180,7 +168,7 @@ record Older (b : Bench) (log : List Event) (es : List Event) (e : Event) (earli
 older-step : (b : Bench) (x e : Event) (log es earlier later : List Event) → opensAny (step b x) es ≡ false → push b x log ≡ later ++ (e ∷ earlier) → Older b log (x ∷ es) e earlier ⊎ Origin b log (x ∷ es) e earlier
 unfolding push opensAny logOf run
 older-step b x e log es earlier later o p = elim (split (isAccepted (reply b x))) [
-  | inr q ↦ inl (record { later = later; parts = (rw q at p); same = or-false (opensOrder b x) (opensAny (step b x) es) (refused-opens b x q) o })
+  | inr q ↦ inl (record { later = later; parts = (rw q at p); same = or-no (opensOrder b x) (opensAny (step b x) es) (refused-opens b x q) o })
   | inl q ↦ elim (entry b x) [
     | inl z ↦ absurd (nil-split e earlier later (sym (z log) ∙ (rw q at p)))
     | inr y ↦ enter later (sym (y .adds log) ∙ (rw q at p)) y q
@@ -193,10 +181,10 @@ older-step b x e log es earlier later o p = elim (split (isAccepted (reply b x))
       rest = es;
       parts = ap (λ (z : Event). z ∷ es) (same-head x e log earlier p);
       taken = subst (λ (z : Event). reply b z ≡ accepted) (same-head x e log earlier p) (is-accepted (reply b x) q);
-      same = subst (λ (z : Event). (opensOrder b z || opensAny (step b z) es) ≡ false) (same-head x e log earlier p) (or-false (opensOrder b x) (opensAny (step b x) es) (y .opens) o);
+      same = subst (λ (z : Event). (opensOrder b z || opensAny (step b z) es) ≡ false) (same-head x e log earlier p) (or-no (opensOrder b x) (opensAny (step b x) es) (y .opens) o);
       was = same-tail x e log earlier p;
     })
-    enter (z ∷ later) p y q = inl (record { later = later; parts = same-tail x z log _ p; same = or-false (opensOrder b x) (opensAny (step b x) es) (y .opens) o })
+    enter (z ∷ later) p y q = inl (record { later = later; parts = same-tail x z log _ p; same = or-no (opensOrder b x) (opensAny (step b x) es) (y .opens) o })
 
 origin : (es : List Event) (b : Bench) (log : List Event) (e : Event) (earlier later : List Event) → logOf b log es ≡ later ++ (e ∷ earlier) → Older b log es e earlier ⊎ Origin b log es e earlier
 unfolding logOf run opensAny
@@ -286,8 +274,8 @@ grew : (es : List Event) (b : Bench) (log : List Event) → b .shared .locked �
 unfolding logOf opensAny
 grew [] b log h o = record { later = []; is = refl }
 grew (x ∷ es) b log h o =
-    let g : Grew log (push b x log) = grew-step b x log h (or-false-l (opensOrder b x) _ o) in
-    let k : Grew (push b x log) (logOf (step b x) (push b x log) es) = grew es (step b x) (push b x log) (step-locked b x h) (or-false-r (opensOrder b x) _ o) in
+    let g : Grew log (push b x log) = grew-step b x log h (or-no-l (opensOrder b x) _ o) in
+    let k : Grew (push b x log) (logOf (step b x) (push b x log) es) = grew es (step b x) (push b x log) (step-locked b x h) (or-no-r (opensOrder b x) _ o) in
     record { later = k .later ++ g .later; is = k .is ∙ ap (λ (l : List Event). k .later ++ l) (g .is) ∙ append-assoc (k .later) (g .later) log }
 
 -- an event accepted in the order stands in the log, before it what the log was at its moment
@@ -304,7 +292,7 @@ stands es e u t =
     record { later = g .later; is = ap logAt (t .parts) ∙ log-append (t .before) (e ∷ t .rest) newBench [] ∙ unrolled b ∙ g .is ∙ ap (λ (l : List Event). g .later ++ l) (pushed b y) }
   where
     later-opens : (b : Bench) → opensAny (step (after (t .before)) e) (t .rest) ≡ false
-    later-opens b = or-false-r (opensOrder (after (t .before)) e) _ (unfold opensAny in t .same)
+    later-opens b = or-no-r (opensOrder (after (t .before)) e) _ (unfold opensAny in t .same)
 
     unrolled : (b : Bench) → logOf (after (t .before)) (logAt (t .before)) (e ∷ t .rest) ≡ logOf (step (after (t .before)) e) (push (after (t .before)) e (logAt (t .before))) (t .rest)
     unrolled b = unfold logOf in refl

@@ -6,7 +6,7 @@ use mathlib.Core.List.{List, [], _∷_}
 use native.Mathlib.Omega.{arith}
 use mathlib.Core.Logic.{inl, inr}
 use borrow.Author.Tests.{leb-true}
-use Rattle.ground.specs.Tests.{no-both, split, by-cond, or-e}
+use Rattle.ground.specs.Tests.{no-both, split, by-cond, or-e, or-no-l, or-no-r}
 use Rattle.model.specs.declared.Event.{Event}
 use Rattle.model.specs.declared.Event.the-variants.{Lock, Order, Cast, Deliver, Timeout, Decide, Stop, Save, Restore}
 use Rattle.protocol.specs.declared.Bench.{Bench}
@@ -14,7 +14,7 @@ use Rattle.protocol.specs.Questions.{isAccepted, firstNo, reply}
 use Rattle.protocol.specs.Steps.{orderOpened, proposedTo, decidedAs, answering, effectOf, perform, step, run}
 use Rattle.protocol.specs.Claim.{opensOrder, opensAny}
 use Rattle.protocol.proofs.view.View.{ask-l, ask-r}
-use Rattle.protocol.proofs.claim.Moments.{or-false-l, or-false-r, step-locked, lock-refused}
+use Rattle.protocol.proofs.claim.Moments.{step-locked, lock-refused}
 
 -- an accepted event goes on with the order, or opens a later one
 record Goes (b : Bench) (e : Event) (b′ : Bench) : Type 0 where
@@ -66,7 +66,7 @@ run-mono (e ∷ es) b h = let p : b .shared .order ≤ (step b e) .shared .order
 pub same-number : (es : List Event) (b : Bench) → b .shared .locked ≡ true → opensAny b es ≡ false → (run b es) .shared .order ≡ b .shared .order
 unfolding run opensAny
 same-number [] b h o = refl
-same-number (e ∷ es) b h o = same-number es (step b e) (step-locked b e h) (or-false-r (opensOrder b e) _ o) ∙ step-goes b e h .same (or-false-l (opensOrder b e) _ o)
+same-number (e ∷ es) b h o = same-number es (step b e) (step-locked b e h) (or-no-r (opensOrder b e) _ o) ∙ step-goes b e h .same (or-no-l (opensOrder b e) _ o)
 
 opens-later : (es : List Event) (b : Bench) → b .shared .locked ≡ true → opensAny b es ≡ true → b .shared .order < (run b es) .shared .order
 unfolding run opensAny

@@ -8,9 +8,9 @@ use lib.Dec.{eqb, leb, ltb}
 use mathlib.Core.Logic.{inl, inr}
 use borrow.Author.Tests.{leb-true, ne-eqb, eqb-false, not-true}
 use Rattle.ground.specs.Limit.{limit}
-use Rattle.ground.specs.Tests.{no-both, by-cond, and-l, and-r, and-i, or-e}
+use Rattle.ground.specs.Tests.{by-cond, and-l, and-r, and-i, or-e}
 use Rattle.ground.specs.Mask.{has}
-use Rattle.ground.specs.MaskLaws.{has-none, insert-only}
+use Rattle.ground.specs.MaskLaws.{insert-only, none-has}
 use Rattle.ground.specs.Collect.{has-collect}
 use Rattle.ground.specs.Update.{upd-all}
 use Rattle.votes.specs.VoteSets.{empty, knows, wills}
@@ -79,7 +79,7 @@ module _ (G H : ℕ → Type 0) (g0 : G 0) where
     keeps : InRange (a .controller)
 
   empty-within : WithinSet empty
-  empty-within k e = absurd (no-both (has 0 k) e (has-none k))
+  empty-within k e = none-has k e
 
   puts-keeps : (n f : ℕ) (a : Answer) → Keeps a → Keeps (proposeIfSufficient n f a)
   unfolding proposing propose
@@ -184,26 +184,23 @@ module _ (G H : ℕ → Type 0) (g0 : G 0) where
       ];
     }
 
-    none-to : {X : Type 0} (j : ℕ) → has 0 j ≡ true → X
-    none-to j e = absurd (no-both (has 0 j) e (has-none j))
-
     becomes-ok : (k : ℕ) (c : Controller) → Sends-ok k (becomes c)
     becomes-ok k c = record { calls = λ l e. unfold becomes sentAfter in e; to = to }
       where
         to : (kind : Kind) (j : ℕ) → has (receiversOf (sendOf kind ((becomes c) .sends))) j ≡ true → (j ≤ n) × (route f kind k j ≡ true)
-        to Vote j e = unfold becomes in none-to j e
-        to Ack j e = unfold becomes in none-to j e
-        to Help j e = unfold becomes in none-to j e
-        to Helped j e = unfold becomes in none-to j e
+        to Vote j e = unfold becomes in none-has j e
+        to Ack j e = unfold becomes in none-has j e
+        to Help j e = unfold becomes in none-has j e
+        to Helped j e = unfold becomes in none-has j e
 
     passed-ok : (k : ℕ) (c : Controller) → Sends-ok k (passedOver c)
     passed-ok k c = record { calls = λ l e. unfold passedOver sentAfter in e; to = to }
       where
         to : (kind : Kind) (j : ℕ) → has (receiversOf (sendOf kind ((passedOver c) .sends))) j ≡ true → (j ≤ n) × (route f kind k j ≡ true)
-        to Vote j e = unfold passedOver in none-to j e
-        to Ack j e = unfold passedOver in none-to j e
-        to Help j e = unfold passedOver in none-to j e
-        to Helped j e = unfold passedOver in none-to j e
+        to Vote j e = unfold passedOver in none-has j e
+        to Ack j e = unfold passedOver in none-has j e
+        to Help j e = unfold passedOver in none-has j e
+        to Helped j e = unfold passedOver in none-has j e
 
     puts-ok : (k : ℕ) (a : Answer) → Sends-ok k a → Sends-ok k (proposeIfSufficient n f a)
     unfolding proposing
@@ -226,18 +223,18 @@ module _ (G H : ℕ → Type 0) (g0 : G 0) where
         where
           to : (kind : Kind) (j : ℕ) → has (receiversOf (sendOf kind ((voteRule n f k w t c) .sends))) j ≡ true → (j ≤ n) × (route f kind k j ≡ true)
           to Vote j e = unfold voteRule in sent-to Vote k j e
-          to Ack j e = unfold voteRule in none-to j e
-          to Help j e = unfold voteRule in none-to j e
-          to Helped j e = unfold voteRule in none-to j e
+          to Ack j e = unfold voteRule in none-has j e
+          to Help j e = unfold voteRule in none-has j e
+          to Helped j e = unfold voteRule in none-has j e
 
       first-ok : (k : ℕ) (c : Controller) → Sends-ok k (firstTimeout n f k c)
       first-ok k c = record { calls = λ l e. unfold firstTimeout sentAfter in e; to = to }
         where
           to : (kind : Kind) (j : ℕ) → has (receiversOf (sendOf kind ((firstTimeout n f k c) .sends))) j ≡ true → (j ≤ n) × (route f kind k j ≡ true)
-          to Vote j e = unfold firstTimeout in none-to j e
+          to Vote j e = unfold firstTimeout in none-has j e
           to Ack j e = unfold firstTimeout in sent-to Ack k j e
-          to Help j e = unfold firstTimeout in none-to j e
-          to Helped j e = unfold firstTimeout in none-to j e
+          to Help j e = unfold firstTimeout in none-has j e
+          to Helped j e = unfold firstTimeout in none-has j e
 
       -- an answer goes back to a caller of the lock, over the way that its call came
       back : (j k : ℕ) → route f Help j k ≡ true → route f Helped k j ≡ true
@@ -252,17 +249,17 @@ module _ (G H : ℕ → Type 0) (g0 : G 0) where
       ready-ok k s next o = record { calls = λ l e. unfold ready sentAfter in e; to = to }
         where
           to : (kind : Kind) (j : ℕ) → has (receiversOf (sendOf kind ((ready s next) .sends))) j ≡ true → (j ≤ n) × (route f kind k j ≡ true)
-          to Vote j e = unfold ready in none-to j e
-          to Ack j e = unfold ready in none-to j e
-          to Help j e = unfold ready in none-to j e
+          to Vote j e = unfold ready in none-has j e
+          to Ack j e = unfold ready in none-has j e
+          to Help j e = unfold ready in none-has j e
           to Helped j e = unfold ready in (o j e .0, back j k (o j e .1))
 
       calls-ok : (k : ℕ) (s : VoteSet) (next : Controller) → CallersIn k next → Sends-ok k (callsHelp n f k s next)
       calls-ok k s next o = record { calls = λ l e. unfold callsHelp sentAfter in refl; to = to }
         where
           to : (kind : Kind) (j : ℕ) → has (receiversOf (sendOf kind ((callsHelp n f k s next) .sends))) j ≡ true → (j ≤ n) × (route f kind k j ≡ true)
-          to Vote j e = unfold callsHelp in none-to j e
-          to Ack j e = unfold callsHelp in none-to j e
+          to Vote j e = unfold callsHelp in none-has j e
+          to Ack j e = unfold callsHelp in none-has j e
           to Help j e = unfold callsHelp in sent-to Help k j e
           to Helped j e = unfold callsHelp in (o j e .0, back j k (o j e .1))
 
@@ -280,12 +277,12 @@ module _ (G H : ℕ → Type 0) (g0 : G 0) where
       answers-ok j k c hi r = record { calls = λ l e. unfold answersCall sentAfter in e; to = to }
         where
           to : (kind : Kind) (x : ℕ) → has (receiversOf (sendOf kind ((answersCall j c) .sends))) x ≡ true → (x ≤ n) × (route f kind k x ≡ true)
-          to Vote x e = unfold answersCall in none-to x e
-          to Ack x e = unfold answersCall in none-to x e
-          to Help x e = unfold answersCall in none-to x e
+          to Vote x e = unfold answersCall in none-has x e
+          to Ack x e = unfold answersCall in none-has x e
+          to Help x e = unfold answersCall in none-has x e
           to Helped x e = unfold answersCall in elim (insert-only 0 j x e) [
             | inl z ↦ rw z (hi, back j k r)
-            | inr z ↦ none-to x z
+            | inr z ↦ none-has x z
           ]
 
       arrives-ok : (kind : Kind) (j k : ℕ) (s : VoteSet) (c : Controller) → j ≤ n → route f kind j k ≡ true → Sends-ok k (arrives kind n f j s c)
@@ -341,13 +338,13 @@ module _ (G H : ℕ → Type 0) (g0 : G 0) where
     renew-in c h = by-cond InRange (isStopped (c .condition)) _ _ (λ e. cleared-in _ c (omega arith) h) (λ e. cleared-in _ c (omega arith) h)
 
     pub unsent-in : (o k : ℕ) → SentIn o k unsentAll
-    unsent-in o k = record { caster = λ e. unfold unsentAll in none-to k e; call = unfold unsentAll in refl; to = to }
+    unsent-in o k = record { caster = λ e. unfold unsentAll in none-has k e; call = unfold unsentAll in refl; to = to }
       where
         to : (kind : Kind) (j : ℕ) → has ((ofKind kind unsentAll) .to) j ≡ true → (1 ≤ o) × (k ≤ n) × (j ≤ n) × (route f kind k j ≡ true)
-        to Vote j e = unfold unsentAll in none-to j e
-        to Ack j e = unfold unsentAll in none-to j e
-        to Help j e = unfold unsentAll in none-to j e
-        to Helped j e = unfold unsentAll in none-to j e
+        to Vote j e = unfold unsentAll in none-has j e
+        to Ack j e = unfold unsentAll in none-has j e
+        to Help j e = unfold unsentAll in none-has j e
+        to Helped j e = unfold unsentAll in none-has j e
 
     opened-in : (v : View) (o : ℕ) → H o → AllIn v → AllIn (openedV n f v o)
     unfolding openedV renewed orderOpened

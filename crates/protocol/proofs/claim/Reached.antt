@@ -11,7 +11,7 @@ use mathlib.Core.Logic.{inl, inr}
 use borrow.Author.Tests.{le-leb, eq-eqb}
 use Rattle.ground.specs.Tests.{no-both, and-l, and-i}
 use Rattle.ground.specs.Mask.{has, within}
-use Rattle.ground.specs.MaskLaws.{has-none}
+use Rattle.ground.specs.MaskLaws.{has-none, none-has}
 use Rattle.ground.specs.Inclusion.{has-within}
 use Rattle.ground.specs.Limit.{limit}
 use Rattle.votes.specs.VoteSets.{empty}
@@ -154,7 +154,7 @@ held-within b i (inr a) h = record {
 }
 held-within b i (inl z) h = subst (λ (x : Bench). HeldWithin (controller x i)) (sym z) (record {
   own = empty-is _ (new .votes);
-  acks = λ j e. absurd (no-both (has 0 j) (ap (λ (m : ℕ). has m j) (sym (new .acks-none)) ∙ e) (has-none j));
+  acks = λ j e. none-has j (ap (λ (m : ℕ). has m j) (sym (new .acks-none)) ∙ e);
   answers = empty-is _ (new .helped);
   help = within-of _ (unfold view benchOf in new-in Positioned Any positioned-0 tt .ctls i .help);
 })

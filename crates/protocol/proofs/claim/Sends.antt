@@ -9,11 +9,11 @@ use native.Mathlib.Decide.{ℕ-discrete}
 use lib.Dec.{eqb}
 use mathlib.Core.Logic.{inl, inr}
 use borrow.Author.Tests.{eqb-true, ne-eqb}
-use Rattle.ground.specs.Tests.{no-both, refuted, by-cond, and-l, and-r, or-l}
+use Rattle.ground.specs.Tests.{no-both, refuted, by-cond, and-l, and-r, or-l, or-second}
 use Rattle.ground.specs.Quantify.{countTo}
 use Rattle.ground.specs.Sizes.{count-union}
 use Rattle.ground.specs.Mask.{has}
-use Rattle.ground.specs.MaskLaws.{has-none, has-or, insert-only}
+use Rattle.ground.specs.MaskLaws.{has-none, has-or, insert-only, none-has}
 use Rattle.ground.specs.Update.{upd, upd-same, upd-other, upd-all}
 use Rattle.votes.specs.declared.VoteSet.{VoteSet}
 use Rattle.model.specs.declared.Kind.{Kind}
@@ -39,15 +39,11 @@ use Rattle.protocol.proofs.view.View.{View, accepts, ask-l, ask-r, part
 use Rattle.protocol.proofs.view.Performed.{commitV, ruleAnswer}
 use Rattle.protocol.proofs.view.RuleCases.{vote-cases, ack-cases, helped-cases, help-cases, restore-cases, sufficient-cases, second-cases, timeout-cases}
 use Rattle.protocol.proofs.invariant.Invariant.{votedBy, ackedBy, frozenBy, Inv}
-use Rattle.protocol.proofs.invariant.Orders.{second}
 
 -- what an answer sends goes to nobody that was sent the kind before, and leaves the set of a kind as it is, where somebody was sent it
 pub record New (l : Sent) (a : Answer) : Type 0 where
   pub fresh : (kind : Kind) (j : ℕ) → has (receiversOf (sendOf kind (a .sends))) j ≡ true → has ((ofKind kind l) .to) j ≡ false
   pub same : (kind : Kind) (j : ℕ) → has ((ofKind kind l) .to) j ≡ true → (ofKind kind (sentAfter l (a .sends))) .votes ≡ (ofKind kind l) .votes
-
-pub nobody : {X : Type 0} (j : ℕ) → has 0 j ≡ true → X
-nobody j e = absurd (no-both (has 0 j) e (has-none j))
 
 becomes-new : (l : Sent) (c : Controller) → New l (becomes c)
 unfolding becomes
@@ -60,10 +56,10 @@ becomes-new l c = record { fresh = fresh; same = same }
     same Helped j e = unfold becomes sentAfter in refl
 
     fresh : (kind : Kind) (j : ℕ) → has (receiversOf (sendOf kind ((becomes c) .sends))) j ≡ true → has ((ofKind kind l) .to) j ≡ false
-    fresh Vote j e = unfold becomes in nobody j e
-    fresh Ack j e = unfold becomes in nobody j e
-    fresh Help j e = unfold becomes in nobody j e
-    fresh Helped j e = unfold becomes in nobody j e
+    fresh Vote j e = unfold becomes in none-has j e
+    fresh Ack j e = unfold becomes in none-has j e
+    fresh Help j e = unfold becomes in none-has j e
+    fresh Helped j e = unfold becomes in none-has j e
 
 passed-new : (l : Sent) (c : Controller) → New l (passedOver c)
 unfolding passedOver becomes
@@ -124,9 +120,9 @@ module _ (n f : ℕ) where
 
         fresh : (kind : Kind) (j : ℕ) → has (receiversOf (sendOf kind ((voteRule n f i w t c) .sends))) j ≡ true → has ((ofKind kind l) .to) j ≡ false
         fresh Vote j e = unvoted r p j
-        fresh Ack j e = unfold voteRule in nobody j e
-        fresh Help j e = unfold voteRule in nobody j e
-        fresh Helped j e = unfold voteRule in nobody j e
+        fresh Ack j e = unfold voteRule in none-has j e
+        fresh Help j e = unfold voteRule in none-has j e
+        fresh Helped j e = unfold voteRule in none-has j e
 
     first-new : runs c ≡ true → phase c ≡ 1 → New l (firstTimeout n f i c)
     first-new r p = record { fresh = fresh; same = same }
@@ -138,10 +134,10 @@ module _ (n f : ℕ) where
         same Helped j e = unfold firstTimeout sentAfter in refl
 
         fresh : (kind : Kind) (j : ℕ) → has (receiversOf (sendOf kind ((firstTimeout n f i c) .sends))) j ≡ true → has ((ofKind kind l) .to) j ≡ false
-        fresh Vote j e = unfold firstTimeout in nobody j e
+        fresh Vote j e = unfold firstTimeout in none-has j e
         fresh Ack j e = unacked r p j
-        fresh Help j e = unfold firstTimeout in nobody j e
-        fresh Helped j e = unfold firstTimeout in nobody j e
+        fresh Help j e = unfold firstTimeout in none-has j e
+        fresh Helped j e = unfold firstTimeout in none-has j e
 
     ready-new : (s : VoteSet) (next : Controller) → runs c ≡ true → phase c ≡ 2 → New l (ready s next)
     ready-new s next r p = record { fresh = fresh; same = same }
@@ -153,9 +149,9 @@ module _ (n f : ℕ) where
         same Helped j e = absurd (no-both _ e (unanswered r p j))
 
         fresh : (kind : Kind) (j : ℕ) → has (receiversOf (sendOf kind ((ready s next) .sends))) j ≡ true → has ((ofKind kind l) .to) j ≡ false
-        fresh Vote j e = unfold ready in nobody j e
-        fresh Ack j e = unfold ready in nobody j e
-        fresh Help j e = unfold ready in nobody j e
+        fresh Vote j e = unfold ready in none-has j e
+        fresh Ack j e = unfold ready in none-has j e
+        fresh Help j e = unfold ready in none-has j e
         fresh Helped j e = unanswered r p j
 
     calls-new : (s : VoteSet) (next : Controller) → runs c ≡ true → phase c ≡ 2 → New l (callsHelp n f i s next)
@@ -168,8 +164,8 @@ module _ (n f : ℕ) where
         same Helped j e = absurd (no-both _ e (unanswered r p j))
 
         fresh : (kind : Kind) (j : ℕ) → has (receiversOf (sendOf kind ((callsHelp n f i s next) .sends))) j ≡ true → has ((ofKind kind l) .to) j ≡ false
-        fresh Vote j e = unfold callsHelp in nobody j e
-        fresh Ack j e = unfold callsHelp in nobody j e
+        fresh Vote j e = unfold callsHelp in none-has j e
+        fresh Ack j e = unfold callsHelp in none-has j e
         fresh Help j e = uncalled r p j
         fresh Helped j e = unanswered r p j
 
@@ -187,11 +183,11 @@ module _ (n f : ℕ) where
         same Helped k e = unfold answersCall sentAfter in inv .owns i .helping .help-copy (omega arith)
 
         fresh : (kind : Kind) (k : ℕ) → has (receiversOf (sendOf kind ((answersCall j c) .sends))) k ≡ true → has ((ofKind kind l) .to) k ≡ false
-        fresh Vote k e = unfold answersCall in nobody k e
-        fresh Ack k e = unfold answersCall in nobody k e
-        fresh Help k e = unfold answersCall in nobody k e
+        fresh Vote k e = unfold answersCall in none-has k e
+        fresh Ack k e = unfold answersCall in none-has k e
+        fresh Help k e = unfold answersCall in none-has k e
         fresh Helped k e = unfold answersCall in elim (insert-only 0 j k e) [
-          | inr z ↦ nobody k z
+          | inr z ↦ none-has k z
           | inl z ↦ rw z (inv .owns i .helping .answered p j ∙ q)
         ]
 
@@ -210,7 +206,7 @@ module _ (n f : ℕ) where
   rule-new b inv (Cast i w t) q = vote-new b inv i w t (search (ask-l, ask-r, and-l, and-r) depth 14) (eqb-true _ _ (search (ask-l, ask-r, and-l, and-r) depth 14))
   rule-new b inv (Deliver i j k) q = arrives-new b inv j k i _
   rule-new b inv (Timeout i) q = timeout-cases (New (b .state .sent i)) n f i (b .ctl i) (λ p. first-new b inv i (search (ask-l, ask-r, and-l, and-r) depth 14) p)
-      (λ e. second-new b inv i (search (ask-l, ask-r, and-l, and-r) depth 14) (eqb-true _ _ (second (eqb (phase (b .ctl i)) 1) _ e (search (ask-l, ask-r, and-l, and-r) depth 14))))
+      (λ e. second-new b inv i (search (ask-l, ask-r, and-l, and-r) depth 14) (eqb-true _ _ (or-second (eqb (phase (b .ctl i)) 1) _ e (search (ask-l, ask-r, and-l, and-r) depth 14))))
   rule-new b inv (Decide i w) q = becomes-new _ _
   rule-new b inv (Stop i) q = becomes-new _ _
   rule-new b inv (Save i) q = passed-new _ _

@@ -6,9 +6,8 @@ use mathlib.Core.List.{List, [], _∷_, _++_}
 use native.Mathlib.Omega.{arith}
 use lib.ListN.{length, replicate}
 use mathlib.Core.Logic.{_⊎_, inl, inr}
-use Rattle.ground.specs.Tests.{split, by-cond, no-both}
-use Rattle.ground.specs.Mask.{has}
-use Rattle.ground.specs.MaskLaws.{has-none}
+use Rattle.ground.specs.Tests.{split, by-cond}
+use Rattle.ground.specs.MaskLaws.{has-none, none-has}
 use Rattle.ground.specs.Lists.{nth}
 use Rattle.votes.specs.VoteSets.{empty}
 use Rattle.votes.specs.declared.VoteSet.{VoteSet}
@@ -169,7 +168,7 @@ never-saved s p e q = let z : _≡_ {A = ℕ} 0 1 = cc in absurd (omega arith)
 module _ (G H : ℕ → Type 0) (g0 : G 0) (h0 : H 0) where
   fresh-controller : (l : List VoteSet) → InRange G H g0 ((freshStation l) .controller)
   unfolding freshStation fresh
-  fresh-controller l = record { low = omega arith; gate = record { target = g0; position = g0 }; help = λ k e. absurd (no-both (has 0 k) e (has-none k)) }
+  fresh-controller l = record { low = omega arith; gate = record { target = g0; position = g0 }; help = λ k e. none-has k e }
 
   pub fresh-in : (locked : Bool) (n f : ℕ) → AllIn G H g0 n f (view (benchOf locked n f))
   unfolding view

@@ -1,7 +1,7 @@
 -- `Strays`, by the cases of `receive` and of each rule.
 use Prim.Native.Nat.{ℕ, suc, _≤_}
 use mathlib.Core.Path.{_≡_, refl, sym, _∙_, ap, subst}
-use mathlib.Core.Bool.{Bool, true, false, not, _&&_, _||_, and-false, true≢false}
+use mathlib.Core.Bool.{Bool, true, false, not, _&&_, _||_, and-false, true≢false, and-true}
 use mathlib.Core.List.{List}
 use native.Mathlib.Omega.{arith}
 use lib.Dec.{eqb, leb}
@@ -247,19 +247,11 @@ module _ (me : Identity) (w : Bool) (t : ℕ) (c : Controller) where
       ack-after : ackOf ((vote me w t c) .controller) j ≡ ackOf c j
       ack-after = ap (λ (a : Acks). nth empty (a .sets) j) acks-are ∙ ap (λ (l : List VoteSet). nth empty l j) (sets-kept (single (me .id) w) (c .acks) (me .n))
 
-      and-yes : (x : Bool) → (x && true) ≡ x
-      and-yes true = refl
-      and-yes false = refl
-
-      and-no : (x : Bool) → (x && false) ≡ false
-      and-no true = refl
-      and-no false = refl
-
       dropped-is : contradicts (ackOf c j) (single (me .id) w) ≡ true → hasAck ((vote me w t c) .controller) j ≡ false
-      dropped-is e = has-after ∙ rw e (and-no (hasAck c j))
+      dropped-is e = has-after ∙ rw e (and-false (hasAck c j))
 
       kept-is : contradicts (ackOf c j) (single (me .id) w) ≡ false → (hasAck ((vote me w t c) .controller) j ≡ hasAck c j) × (ackOf ((vote me w t c) .controller) j ≡ ackOf c j)
-      kept-is e = (has-after ∙ rw e (and-yes (hasAck c j)), ack-after)
+      kept-is e = (has-after ∙ rw e (and-true (hasAck c j)), ack-after)
 
   -- a call that is passed over counts nothing off
   counted-is : c .acks .cnt .0 ≡ countTo (me .n) (hasAck c) → (vote me w t c) .controller .acks .cnt .0 ≡ countTo (me .n) (hasAck ((vote me w t c) .controller))

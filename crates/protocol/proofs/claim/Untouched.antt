@@ -8,7 +8,7 @@ use lib.Dec.{eqb}
 use mathlib.Core.Logic.{inl, inr}
 use Rattle.ground.specs.Tests.{split, no-both, or-l, or-r, and-i, eqb-same}
 use Rattle.ground.specs.Mask.{has}
-use Rattle.ground.specs.MaskLaws.{has-none}
+use Rattle.ground.specs.MaskLaws.{none-has}
 use Rattle.votes.specs.VoteSets.{empty, single, union, unionAll}
 use Rattle.votes.specs.Joining.{contradicts, join, joinAll, agreedOr}
 use Rattle.votes.specs.JoinLaws.{empty-agrees, join-agreed}
@@ -21,12 +21,11 @@ use Rattle.model.specs.declared.Event.{Event}
 use Rattle.model.specs.declared.Event.the-variants.{Lock, Order, Cast, Deliver, Timeout, Decide, Stop, Save, Restore}
 use Rattle.protocol.specs.declared.Answer.{Answer}
 use Rattle.protocol.specs.declared.Bench.{Bench}
-use Rattle.protocol.specs.declared.Facts.{Facts}
 use Rattle.protocol.specs.Controllers.{hasAck}
 use Rattle.protocol.specs.Rules.{ackJoin, helpVotes}
 use Rattle.protocol.specs.Benches.{newBench, benchOf, station, controller, sentBy}
 use Rattle.protocol.specs.Events.{subject, source}
-use Rattle.protocol.specs.Questions.{Reply, accepted, refused, isAccepted, Question, unless, firstNo, mayOpen, questionsOf, factsOf, reply}
+use Rattle.protocol.specs.Questions.{Facts, Reply, accepted, refused, isAccepted, Question, unless, firstNo, mayOpen, questionsOf, factsOf, reply}
 use Rattle.protocol.specs.Steps.{answering, effectOf, putBack, perform, step, run}
 use Rattle.protocol.specs.Claim.{after}
 use Rattle.protocol.specs.NoContradiction.{Agreeing, acksUnion, votesSent, JoinIsUnion, untestedReply, untestedPerform, untestedStep, untestedRun, NoContradiction}
@@ -141,7 +140,7 @@ new-agrees i = record {
     none = freshes false 0 0 i .ctl
 
     nobody : {X : Type 0} (j : ℕ) → hasAck (controller newBench i) j ≡ true → X
-    nobody j e = absurd (no-both (has 0 j) (ap (λ (m : ℕ). has m j) (sym (none .acks-none)) ∙ e) (has-none j))
+    nobody j e = none-has j (ap (λ (m : ℕ). has m j) (sym (none .acks-none)) ∙ e)
 
 held-at : (b : Bench) (i : ℕ) → Reached b → Agreeing (controller b i)
 held-at b i (inl z) = subst (λ (x : Bench). Agreeing (controller x i)) (sym z) (new-agrees i)

@@ -5,7 +5,7 @@ use mathlib.Core.Bool.{Bool, true, false, not, _&&_, cond, false≢true}
 use lib.Dec.{leb, eqb}
 use mathlib.Core.Logic.{_⊎_, inl, inr}
 use borrow.Author.Tests.{leb-true, eqb-true}
-use Rattle.ground.specs.Tests.{no-both, by-cond, and-l, and-r}
+use Rattle.ground.specs.Tests.{no-both, by-cond, and-l, and-r, or-second}
 use Rattle.ground.specs.MaskLaws.{insert-keeps}
 use Rattle.votes.specs.VoteSets.{knows, single}
 use Rattle.votes.specs.JoinLaws.{keeps-known}
@@ -38,7 +38,6 @@ use Rattle.protocol.proofs.view.Performed.{commitV, chosen, savedV, che
 use Rattle.protocol.proofs.invariant.Words.{noting-runs, noting-phase}
 use Rattle.protocol.proofs.invariant.Invariant.{ackOn, ackedBy}
 use Rattle.protocol.proofs.invariant.Commit.{upd-all₂}
-use Rattle.protocol.proofs.invariant.Orders.{second}
 
 pub stopped-idle : (k : Condition) → isStopped k ≡ true → isRunning k ≡ false
 stopped-idle (Running p) e = absurd (false≢true e)
@@ -179,7 +178,7 @@ module _ (n f : ℕ) where
   perform-tame s b (Deliver i j k) g q = commit-tame _ b j _ (arrives-live s _ k i j _ _ _ (leb-true _ _ (search (ask-l, ask-r, and-l, and-r) depth 14)) (leb-true _ _ (search (ask-l, ask-r, and-l, and-r) depth 14)))
   perform-tame s b (Timeout i) g q = commit-tame (Timeout i) b i _ (timeout-cases (KeptBy (Timeout i) i (b .ctl i) (b .state .sent i)) n f i (b .ctl i)
       (λ st. first-live s i _ _ (leb-true _ _ (search (ask-l, ask-r, and-l, and-r) depth 14)) (leb-true _ _ (search (ask-l, ask-r, and-l, and-r) depth 14)) (search (ask-l, ask-r, and-l, and-r) depth 14) st)
-      (λ e. second-live i _ _ (search (ask-l, ask-r, and-l, and-r) depth 14) (eqb-true _ _ (second (eqb (phase (b .ctl i)) 1) _ e (search (ask-l, ask-r, and-l, and-r) depth 14)))))
+      (λ e. second-live i _ _ (search (ask-l, ask-r, and-l, and-r) depth 14) (eqb-true _ _ (or-second (eqb (phase (b .ctl i)) 1) _ e (search (ask-l, ask-r, and-l, and-r) depth 14)))))
   perform-tame s b (Decide i w) g q = decide-tame b i w
   perform-tame s b (Stop i) g q = absurd g
   perform-tame s b (Save i) g q = save-tame b i

@@ -1,7 +1,7 @@
 -- A clean order goes through three parts: before any timeout, before any second timeout, after it.
 use Prim.Native.Nat.{ℕ, suc, _≤_, _<_}
 use mathlib.Core.Path.{_≡_, refl, sym, _∙_, subst}
-use mathlib.Core.Bool.{Bool, true, false, not, _&&_, cond, false≢true}
+use mathlib.Core.Bool.{Bool, true, false, not, _&&_, false≢true}
 use mathlib.Core.List.{List, [], _∷_}
 use native.Mathlib.Omega.{arith}
 use native.Mathlib.Decide.{decLe, ℕ-discrete}
@@ -26,6 +26,7 @@ use Rattle.protocol.specs.Steps.{renewed, orderOpened}
 use Rattle.protocol.proofs.view.View.{View, newOrderState, openedV, accepts, ask-l, ask-r}
 use Rattle.protocol.proofs.view.Performed.{commitV, chosen, savedV, timeoutRule, performV, stepV, runV}
 use Rattle.protocol.proofs.invariant.Invariant.{votedBy, willBy, ackOn, ackedBy, Grows, Inv}
+use Rattle.protocol.proofs.invariant.Arrivals.{stage-bounds}
 use Rattle.protocol.proofs.invariant.Decisions.{Blank, renew-blank}
 use Rattle.protocol.proofs.invariant.Orders.{step-next, perform-next, next-inv, run-inv}
 use Rattle.protocol.proofs.clean.Log.{NotTimeout, In, Voted, VotesIn, AcksIn, Second, CleanStep, Clean, entered, pushV, logV, is-direct, decides-move, decides-stay}
@@ -33,7 +34,7 @@ use Rattle.protocol.proofs.clean.Kept.{PhaseMove, stays, times-out, vot
 use Rattle.protocol.proofs.clean.Added.{NewVote, NewVoteTo, NewAckTo, NewTimeout, New, perform-new}
 
 module _ (n f : ℕ) where
-  route-low : (i j : ℕ) → voteRoute f i j ≡ true → j ≤ suc f
+  pub route-low : (i j : ℕ) → voteRoute f i j ≡ true → j ≤ suc f
   unfolding voteRoute
   route-low i j e = elim (or-e (leb j f) (leb i f && eqb j (suc f)) (and-r (not (eqb i j)) _ e)) [
     | inl q ↦ let h : j ≤ f = leb-true j f q in omega arith
@@ -73,15 +74,11 @@ module _ (n f : ℕ) where
   phase-up e j s s′ m (times-out q p) a h = omega arith
   phase-up e j s s′ m (voted w t q z p) a h = absurd (omega arith)
 
-  cond-bounds : (x : Bool) → (1 ≤ cond x 1 2) × (cond x 1 2 ≤ 2)
-  cond-bounds true = (omega arith, omega arith)
-  cond-bounds false = (omega arith, omega arith)
-
   A-phase : (e : Event) (j s s′ : ℕ) → NotTimeout e → PhaseMove n f e j s s′ → (s ≤ 2 → s′ ≤ 2) × (j ≤ suc f → s ≤ 1 → s′ ≤ 1) × (suc f < j → (1 ≤ s → 2 ≤ s) → 1 ≤ s′ → 2 ≤ s′)
   A-phase e j s s′ nb (stays p) = (λ h. omega arith, λ h k. omega arith, λ h k l. let x : 2 ≤ s = k (omega arith) in omega arith)
   A-phase e j s s′ nb (times-out q p) = absurd (subst NotTimeout q nb)
   A-phase e j s s′ nb (voted w t q z p) = (
-    λ h. omega (arith, cond-bounds (leb j (suc f))),
+    λ h. omega (arith, stage-bounds (leb j (suc f))),
     λ h k. let p′ : s′ ≡ 1 = (rw (le-leb j (suc f) h) at p) in omega arith,
     λ h k l. let p′ : s′ ≡ 2 = (rw (refuted (leb j (suc f)) (λ x. let y : j ≤ suc f = leb-true j (suc f) x in omega arith)) at p) in omega arith,
   )

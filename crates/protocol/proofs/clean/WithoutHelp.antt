@@ -2,14 +2,14 @@
 -- is put, so the arbiter gives none (question 18), and an outcome comes of a second timeout alone, before which every vote and every acknowledgement was delivered.
 use Prim.Native.Nat.{ℕ, _≤_, _<_}
 use mathlib.Core.Path.{_≡_, refl, sym, _∙_, ap, subst}
-use mathlib.Core.Bool.{Bool, true, false, not, _&&_, _||_, false≢true}
+use mathlib.Core.Bool.{Bool, true, false, not, _&&_, false≢true}
 use mathlib.Core.List.{List, [], _∷_}
 use native.Mathlib.Omega.{arith}
 use lib.Dec.{eqb}
 use mathlib.Core.Logic.{_⊎_, inl, inr}
 use borrow.Author.Tests.{leb-true, eqb-true}
 use Rattle.ground.specs.Limit.{limit}
-use Rattle.ground.specs.Tests.{no-both, split, by-cond, and-l, and-r, or-l}
+use Rattle.ground.specs.Tests.{no-both, split, by-cond, and-l, and-r, or-l, or-no, or-second}
 use Rattle.ground.specs.Mask.{has}
 use Rattle.ground.specs.MaskLaws.{has-none}
 use Rattle.ground.specs.Update.{upd-all}
@@ -41,15 +41,11 @@ use Rattle.protocol.proofs.view.RuleCases.{vote-cases, ack-cases, resto
 use Rattle.protocol.proofs.invariant.Invariant.{Inv}
 use Rattle.protocol.proofs.invariant.Words.{none-word}
 use Rattle.protocol.proofs.invariant.Decisions.{Blank, renew-blank}
-use Rattle.protocol.proofs.invariant.Orders.{second, step-next, next-inv}
+use Rattle.protocol.proofs.invariant.Orders.{step-next, next-inv}
 use Rattle.protocol.proofs.claim.Sends.{sent-more}
 use Rattle.protocol.proofs.clean.Log.{In, VotesIn, AcksIn, CleanStep, Clean, entered, pushV, logV}
 use Rattle.protocol.proofs.clean.Steps.{votes-more, acks-more}
 use Rattle.protocol.proofs.clean.Parts.{Good, step-good, Final, final}
-
-neither : (x y : Bool) → x ≡ false → y ≡ false → (x || y) ≡ false
-neither true y p q = p
-neither false y p q = q
 
 not-proposed : (k : Consensus) (w : Bool) → k .«move_proposed» ≡ false → k .«stay_proposed» ≡ false → wasProposed k w ≡ false
 not-proposed k true p q = p
@@ -101,8 +97,8 @@ module _ (n f : ℕ) where
   unfolding commitV
   commit-without-help b log e i a s q p = record {
     sent = λ x y kind m. grows x y kind (elim m [ inl z ↦ subst (WasSent b) (sym z) s | inr z ↦ q .sent x y kind z ]);
-    no-help = upd-all (λ k (l : Sent). (j : ℕ) → has (l .help .to) j ≡ false) (b .state .sent) i l′ (λ j. sent-more n f (b .state .sent i) (a .sends) Help j ∙ neither _ _ (q .no-help i j) (p .no-help j)) (q .no-help);
-    no-helped = upd-all (λ k (l : Sent). (j : ℕ) → has (l .helped .to) j ≡ false) (b .state .sent) i l′ (λ j. sent-more n f (b .state .sent i) (a .sends) Helped j ∙ neither _ _ (q .no-helped i j) (p .no-helped j)) (q .no-helped);
+    no-help = upd-all (λ k (l : Sent). (j : ℕ) → has (l .help .to) j ≡ false) (b .state .sent) i l′ (λ j. sent-more n f (b .state .sent i) (a .sends) Help j ∙ or-no _ _ (q .no-help i j) (p .no-help j)) (q .no-help);
+    no-helped = upd-all (λ k (l : Sent). (j : ℕ) → has (l .helped .to) j ≡ false) (b .state .sent) i l′ (λ j. sent-more n f (b .state .sent i) (a .sends) Helped j ∙ or-no _ _ (q .no-helped i j) (p .no-helped j)) (q .no-helped);
     none-waits = upd-all (λ k (c : Controller). c .help .waiting ≡ false) (b .ctl) i (a .controller) (p .waits) (q .none-waits);
     no-move = rw (q .no-move, p .no-word);
     no-stay = rw (q .no-stay, p .no-word);
@@ -163,7 +159,7 @@ module _ (n f : ℕ) where
       vote-cases (WithoutHelpBy _) _ (b .ctl j) (λ p. becomes-without-help _ _ (record { waits = h .waits; held = h .held })) (passed-without-help _ _ h)
   deliver-without-help b log i j Ack s q = let h : WithoutHelpNow (Deliver i j Ack ∷ log) (b .ctl j) = now b log (Deliver i j Ack) j q in
       ack-cases (WithoutHelpBy _) n f i _ (b .ctl j) (λ p. puts-without-help _ _ (becomes-without-help _ _ (record { waits = h .waits; held = h .held }))) (λ p. passed-without-help _ _ h)
-  -- neither was sent
+  -- or-no was sent
   deliver-without-help b log i j Help s q = absurd (no-both _ s (q .no-help i j))
   deliver-without-help b log i j Helped s q = absurd (no-both _ s (q .no-helped i j))
 
@@ -210,7 +206,7 @@ module _ (n f : ℕ) where
     unfolding accepts firstNo
     timeout-without-help b log i inv good q cl a = timeout-cases (WithoutHelpBy _) n f i (b .ctl i)
         (λ p. first-without-help _ i (b .ctl i) (now b log (Timeout i) i q))
-        (λ p. let z : Final n f f<n 1≤f small b log i = final n f f<n 1≤f small b log i inv good a cl (eqb-true _ _ (second (eqb (phase (b .ctl i)) 1) _ p (search (ask-l, ask-r, and-l, and-r) depth 14))) in
+        (λ p. let z : Final n f f<n 1≤f small b log i = final n f f<n 1≤f small b log i inv good a cl (eqb-true _ _ (or-second (eqb (phase (b .ctl i)) 1) _ p (search (ask-l, ask-r, and-l, and-r) depth 14))) in
         second-without-help _ i (b .ctl i) (z .direct) (λ j. none-called j (split (hasCalled (b .ctl i) j))) (more _ log (record { votes = z .votes; acks = z .acks })))
       where
         none-called : (j : ℕ) → (hasCalled (b .ctl i) j ≡ true) ⊎ (hasCalled (b .ctl i) j ≡ false) → hasCalled (b .ctl i) j ≡ false

@@ -8,8 +8,8 @@ use lib.Dec.{eqb}
 use mathlib.Core.Logic.{_⊎_, inl, inr}
 use borrow.Author.Tests.{leb-true, eqb-true}
 use Rattle.ground.specs.Tests.{no-both, split, by-cond, and-l, and-r}
-use Rattle.ground.specs.MaskLaws.{has-none}
-use Rattle.ground.specs.Mask.{has, width}
+use Rattle.ground.specs.MaskLaws.{none-has}
+use Rattle.ground.specs.Mask.{width}
 use Rattle.votes.specs.VoteSets.{wills, single}
 use Rattle.votes.specs.VoteLaws.{single-wills}
 use Rattle.ground.specs.Update.{upd, upd-all, upd-same, upd-other}
@@ -44,12 +44,12 @@ module _ (n f : ℕ) where
     pub is : e ≡ Cast k true target
     pub accepted : accepts n f b e ≡ true
 
-  record Facts (b : View) (e : Event) (b′ : View) : Type 0 where
+  record StepFacts (b : View) (e : Event) (b′ : View) : Type 0 where
     voted : (k : ℕ) → Willing b′ k → (b′ .order ≡ b .order) × (Willing b k ⊎ VoteOf b e k)
     taken : b′ .order ≡ b .order → (k : ℕ) → Taken (b .ctl k) → Taken (b′ .ctl k)
     moved : (k : ℕ) → ((b′ .ctl k) .gate .position ≡ (b .ctl k) .gate .position) ⊎ Moved (b .ctl k) (b′ .ctl k)
 
-  commit-facts : (b : View) (e : Event) (i : ℕ) (a : Answer) → Framed (b .ctl i) (b .state .sent i) a → Facts b e (commitV b i a)
+  commit-facts : (b : View) (e : Event) (i : ℕ) (a : Answer) → Framed (b .ctl i) (b .state .sent i) a → StepFacts b e (commitV b i a)
   unfolding commitV
   commit-facts b e i a t = record {
     voted = λ k w. (refl, inl (same k .0 ∙ w .0, same k .1 ∙ w .1));
@@ -60,7 +60,7 @@ module _ (n f : ℕ) where
       same : (k : ℕ) → (votedBy k (b .state .sent k) ≡ votedBy k (upd (b .state .sent) i (sentAfter (b .state .sent i) (a .sends)) k)) × (willBy k (b .state .sent k) ≡ willBy k (upd (b .state .sent) i (sentAfter (b .state .sent i) (a .sends)) k))
       same = upd-all (λ k (x : Sent). (votedBy k (b .state .sent k) ≡ votedBy k x) × (willBy k (b .state .sent k) ≡ willBy k x)) (b .state .sent) i (sentAfter (b .state .sent i) (a .sends)) (rw (t .vote) (refl, refl)) (λ k. (refl, refl))
 
-  vote-facts : (b : View) (i : ℕ) (w : Bool) (t : ℕ) → 1 ≤ i → i ≤ width → runs (b .ctl i) ≡ true → accepts n f b (Cast i w t) ≡ true → Facts b (Cast i w t) (commitV b i (voteRule n f i w t (b .ctl i)))
+  vote-facts : (b : View) (i : ℕ) (w : Bool) (t : ℕ) → 1 ≤ i → i ≤ width → runs (b .ctl i) ≡ true → accepts n f b (Cast i w t) ≡ true → StepFacts b (Cast i w t) (commitV b i (voteRule n f i w t (b .ctl i)))
   unfolding commitV voteRule sentAfter
   vote-facts b i w t lo hi r q = record {
     voted = λ k x. (
@@ -81,18 +81,18 @@ module _ (n f : ℕ) where
       cast w q k (inl p) = inr (record { target = t; is = rw (p .0, p .1); accepted = q })
       cast w q k (inr p) = inl p
 
-  order-facts : (b : View) (o : ℕ) → b .order < o → Facts b (Order o) (openedV n f b o)
+  order-facts : (b : View) (o : ℕ) → b .order < o → StepFacts b (Order o) (openedV n f b o)
   unfolding openedV newOrderState orderOpened renewed unsentAll
-  order-facts b o h = record { voted = λ k x. absurd (no-both (has 0 k) (x .0) (has-none k)); taken = λ e. absurd (omega arith); moved = λ k. inl (renew-keeps (b .ctl k) .position) }
+  order-facts b o h = record { voted = λ k x. none-has k (x .0); taken = λ e. absurd (omega arith); moved = λ k. inl (renew-keeps (b .ctl k) .position) }
 
-  save-facts : (b : View) (i : ℕ) → Facts b (Save i) (savedV b i (checkpointAt n f b i))
+  save-facts : (b : View) (i : ℕ) → StepFacts b (Save i) (savedV b i (checkpointAt n f b i))
   unfolding savedV
   save-facts b i = record { voted = λ k x. (refl, inl x); taken = λ e k h. h; moved = λ k. inl refl }
 
-  decide-facts : (b : View) (i : ℕ) (w : Bool) → Facts b (Decide i w) (commitV (chosen b w) i (becomes (conclude (b .ctl i) (wordOf w))))
+  decide-facts : (b : View) (i : ℕ) (w : Bool) → StepFacts b (Decide i w) (commitV (chosen b w) i (becomes (conclude (b .ctl i) (wordOf w))))
   unfolding chosen
   decide-facts b i w =
-      let t : Facts (chosen b w) (Decide i w) (commitV (chosen b w) i (becomes (conclude (b .ctl i) (wordOf w)))) = commit-facts (chosen b w) (Decide i w) i _ (decide-framed w (b .ctl i) (b .state .sent i)) in
+      let t : StepFacts (chosen b w) (Decide i w) (commitV (chosen b w) i (becomes (conclude (b .ctl i) (wordOf w)))) = commit-facts (chosen b w) (Decide i w) i _ (decide-framed w (b .ctl i) (b .state .sent i)) in
       record { voted = λ k x. (t .voted k x .0, elim (t .voted k x .1) [ inl p ↦ inl p | inr v ↦ no-vote k (v .target) (v .is) ]); taken = t .taken; moved = t .moved }
     where
       no-vote : (k t : ℕ) → Decide i w ≡ Cast k true t → Willing b k ⊎ VoteOf b (Decide i w) k
@@ -115,7 +115,7 @@ module _ (n f : ℕ) where
   unfolding accepts firstNo
   timeout-ran b i q = (search (ask-l, ask-r, and-l, and-r) depth 14)
 
-  perform-facts : n ≤ limit → (b : View) (e : Event) → accepts n f b e ≡ true → Facts b e (performV n f b e)
+  perform-facts : n ≤ limit → (b : View) (e : Event) → accepts n f b e ≡ true → StepFacts b e (performV n f b e)
   unfolding performV
   perform-facts s b (Lock a c) q = unfold accepts firstNo in absurd (false≢true (ask-l _ _ _ (ask-r _ _ _ q)))
   perform-facts s b (Order o) q = order-facts b o (later b o q)
@@ -127,9 +127,9 @@ module _ (n f : ℕ) where
   perform-facts s b (Save i) q = save-facts b i
   perform-facts s b (Restore i) q = commit-facts b _ i _ (restore-framed (identityV n f b i) (b .saved i) (b .ctl i) (b .state .sent i))
 
-  step-facts : n ≤ limit → (b : View) (e : Event) → Facts b e (stepV n f b e)
+  step-facts : n ≤ limit → (b : View) (e : Event) → StepFacts b e (stepV n f b e)
   unfolding stepV
-  step-facts s b e = by-cond (Facts b e) (accepts n f b e) (performV n f b e) b (perform-facts s b e) (λ q. record { voted = λ k x. (refl, inl x); taken = λ o k h. h; moved = λ k. inl refl })
+  step-facts s b e = by-cond (StepFacts b e) (accepts n f b e) (performV n f b e) b (perform-facts s b e) (λ q. record { voted = λ k x. (refl, inl x); taken = λ o k h. h; moved = λ k. inl refl })
 
   -- controller k's willing vote was accepted, in the order that is open at the end
   pub record VotedBefore (b : View) (es : List Event) (k : ℕ) : Type 0 where

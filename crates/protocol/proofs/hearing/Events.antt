@@ -8,9 +8,9 @@ use lib.Dec.{eqb}
 use mathlib.Core.Logic.{_⊎_, inl, inr}
 use borrow.Author.Tests.{leb-true, eqb-true, eq-eqb}
 use Rattle.ground.specs.Limit.{limit}
-use Rattle.ground.specs.Tests.{no-both, split, by-cond, and-l, and-r, or-e, or-l, or-r}
+use Rattle.ground.specs.Tests.{no-both, split, by-cond, and-l, and-r, or-e, or-l, or-r, or-second}
 use Rattle.ground.specs.Mask.{has}
-use Rattle.ground.specs.MaskLaws.{insert-only}
+use Rattle.ground.specs.MaskLaws.{insert-only, none-has}
 use Rattle.ground.specs.Update.{upd, upd-same, upd-other, upd-all}
 use Rattle.votes.specs.declared.VoteSet.{VoteSet}
 use Rattle.model.specs.Ranges.{isController, isBackup}
@@ -38,12 +38,11 @@ use Rattle.protocol.proofs.view.Performed.{commitV, chosen, identityV, 
 use Rattle.protocol.proofs.view.RuleCases.{vote-cases, ack-cases, helped-cases, help-cases, restore-cases, sufficient-cases, second-cases, timeout-cases}
 use Rattle.protocol.proofs.invariant.Invariant.{frozenBy, Inv}
 use Rattle.protocol.proofs.invariant.Words.{none-word, noting-runs}
-use Rattle.protocol.proofs.invariant.Orders.{second}
 use Rattle.protocol.proofs.invariant.SecondTimeout.{beyond}
 use Rattle.protocol.proofs.invariant.Decisions.{Blank, renew-blank}
 use Rattle.protocol.proofs.clean.Kept.{stopped-idle}
 use Rattle.protocol.proofs.clean.Log.{entered}
-use Rattle.protocol.proofs.claim.Sends.{nobody, sent-more}
+use Rattle.protocol.proofs.claim.Sends.{sent-more}
 use Rattle.protocol.proofs.hearing.Listening.{came-more, Listening, Follows, listening-on, listening-other}
 use Rattle.protocol.proofs.hearing.RuleSteps.{vote-follows, vote-in-follows, ack-in-follows, helped-in-follows, help-in-follows, decide-follows, first-follows, second-follows}
 
@@ -110,11 +109,11 @@ module _ (n f : ℕ) where
 
     becomes-proper : (c′ : Controller) → ((w : Bool) → c′ .proposal ≡ wordOf w → c .proposal ≡ wordOf w) → Proper v j (becomes c′)
     unfolding becomes
-    becomes-proper c′ h = record { asked = λ i e. nobody i e; put = λ w e. inl (h w e) }
+    becomes-proper c′ h = record { asked = λ i e. none-has i e; put = λ w e. inl (h w e) }
 
     passed-proper : Proper v j (passedOver c)
     unfolding passedOver
-    passed-proper = record { asked = λ i e. nobody i e; put = λ w e. inl e }
+    passed-proper = record { asked = λ i e. none-has i e; put = λ w e. inl e }
 
     settle-proper : (a : Answer) → Proper v j a → Proper v j (proposeIfSufficient n f a)
     unfolding proposing propose
@@ -122,11 +121,11 @@ module _ (n f : ℕ) where
 
     vote-proper : (w : Bool) (t : ℕ) → Proper v j (voteRule n f j w t c)
     unfolding voteRule advance aim learn
-    vote-proper w t = record { asked = λ i e. nobody i e; put = λ w e. inl e }
+    vote-proper w t = record { asked = λ i e. none-has i e; put = λ w e. inl e }
 
     first-proper : Proper v j (firstTimeout n f j c)
     unfolding firstTimeout advance
-    first-proper = record { asked = λ i e. nobody i e; put = λ w e. inl (sym same ∙ e) }
+    first-proper = record { asked = λ i e. none-has i e; put = λ w e. inl (sym same ∙ e) }
       where
         same : (countOwn f j c) .proposal ≡ c .proposal
         same = unfold countOwn keepAck in by-cond (λ (x : Controller). x .proposal ≡ c .proposal) (isBackup f j && not (hasAck c j)) (keepAck c j (c .votes)) c (λ e. refl) (λ e. refl)
@@ -156,7 +155,7 @@ module _ (n f : ℕ) where
     help-in-proper k h = help-cases (Proper v j) k c (λ q. unfold keepsCall in becomes-proper (addCaller c k) (λ w e. unfold addCaller in e)) (λ p q. answers) (λ q. passed-proper)
       where
         answers : Proper v j (answersCall k c)
-        answers = unfold answersCall addCaller in record { asked = λ i e. elim (insert-only 0 k i e) [ inl z ↦ rw z h | inr z ↦ nobody i z ]; put = λ w e. inl e }
+        answers = unfold answersCall addCaller in record { asked = λ i e. elim (insert-only 0 k i e) [ inl z ↦ rw z h | inr z ↦ none-has i z ]; put = λ w e. inl e }
 
     cleared-proper : (k : Condition) → Proper v j (becomes (cleared k c))
     unfolding cleared
@@ -189,7 +188,7 @@ module _ (n f : ℕ) where
         };
         short = λ w. absurd (no-both _ w (b .waiting));
       };
-      asked = λ k i e. nobody i e;
+      asked = λ k i e. none-has i e;
       put = λ i w e. none-word w (sym (unput (v .ctl i)) ∙ e);
     }
       where
@@ -260,7 +259,7 @@ module _ (n f : ℕ) where
         timeout-cases (λ a. Heard (commitV v i a) (Timeout i ∷ log)) n f i (v .ctl i)
         (λ p. commit-heard v log (Timeout i) i _ refl h (first-proper v i) (λ r.
         (ran, λ x. first-follows n f i (v .ctl i) (v .state .sent i) (x .stands) (x .short) small p (inv .owns i .helping .idle (omega arith)))))
-        (λ e. let p : phase (v .ctl i) ≡ 2 = eqb-true _ _ (second (eqb (phase (v .ctl i)) 1) _ e (search (ask-l, ask-r, and-l, and-r) depth 14)) in
+        (λ e. let p : phase (v .ctl i) ≡ 2 = eqb-true _ _ (or-second (eqb (phase (v .ctl i)) 1) _ e (search (ask-l, ask-r, and-l, and-r) depth 14)) in
         commit-heard v log (Timeout i) i _ refl h (second-proper v i (inv .ctls i .calls-ok)) (λ r.
         (ran, λ x. second-follows n f i (v .ctl i) (v .state .sent i) (x .stands) (x .short) small lo hi ran p (beyond n f f<n 1≤f small v inv i lo hi ran p))))
     perform-heard (Decide i w) q = decided-heard i w

@@ -2,7 +2,7 @@
 -- another's answer has come to it, the order goes on to where all premises are met.
 use Prim.Native.Nat.{ℕ, zero, suc, _+_, _≤_, _<_}
 use mathlib.Core.Path.{_≡_, refl, sym, _∙_, ap, subst}
-use mathlib.Core.Bool.{Bool, true, false, not, _&&_}
+use mathlib.Core.Bool.{true, false, not, _&&_}
 use mathlib.Core.List.{List, [], _∷_, _++_}
 use native.Mathlib.Omega.{arith}
 use native.Mathlib.Decide.{ℕ-discrete}
@@ -45,6 +45,7 @@ use Rattle.protocol.proofs.clean.Reached.{begins, shows, fresh-going}
 use Rattle.protocol.proofs.claim.Moments.{logAt, append-assoc, run-append, run-one}
 use Rattle.protocol.proofs.claim.Start.{start, lock-sound}
 use Rattle.protocol.proofs.hearing.Counts.{count-first}
+use Rattle.protocol.proofs.hearing.RuleSteps.{counted}
 use Rattle.protocol.proofs.hearing.Events.{Heard}
 use Rattle.protocol.proofs.hearing.Moments.{HeardAt, heard-at}
 use Rattle.protocol.proofs.hearing.Hears.{hears}
@@ -219,11 +220,7 @@ module _ (n f : ℕ) (sized : sizesInRange n f ≡ true) where
   helped-counts : (j : ℕ) (s : VoteSet) (c : Controller) → 1 ≤ j → j ≤ width → c .help .waiting ≡ true → hasHelped ((helpedArrives n f j s c) .controller) j ≡ true
   helped-counts j s c lo hi w = helped-cases (λ (a : Answer). hasHelped (a .controller) j ≡ true) n f j s c
       (λ p q. sufficient-cases (λ (a : Answer). hasHelped (a .controller) j ≡ true) n f (becomes (keepHelped c j s)) (λ z. unfold proposing propose becomes keepHelped in insert-own (c .helped .from) j lo hi) (λ z. unfold becomes keepHelped in insert-own (c .helped .from) j lo hi))
-      (λ q. unfold passedOver in held (hasHelped c j) (c .help .waiting) w q)
-    where
-      held : (a w : Bool) → w ≡ true → (not a && w) ≡ false → a ≡ true
-      held true w p q = refl
-      held false w p q = absurd (no-both w p q)
+      (λ q. unfold passedOver in counted (hasHelped c j) (c .help .waiting) w q)
 
   -- the last controller votes and has its second timeout, right after the backups were stopped
   module _ (far : suc (suc f) ≤ n) where

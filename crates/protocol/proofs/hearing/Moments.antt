@@ -7,7 +7,7 @@ use native.Mathlib.Omega.{arith}
 use mathlib.Core.Logic.{inl, inr}
 use Rattle.ground.specs.Tests.{no-both, split}
 use Rattle.ground.specs.Mask.{has}
-use Rattle.ground.specs.MaskLaws.{has-none}
+use Rattle.ground.specs.MaskLaws.{none-has}
 use Rattle.ground.specs.Limit.{limit}
 use lib.ListN.{replicate}
 use Rattle.votes.specs.VoteSets.{empty}
@@ -75,7 +75,7 @@ lock-heard n f = record {
     };
     short = λ w. absurd (no-both _ w (b .waiting));
   };
-  asked = λ k i e. absurd (no-both (has 0 i) (nothing k i e) (has-none i));
+  asked = λ k i e. none-has i (nothing k i e);
   put = λ i w e. none-word w (sym (unput n f i) ∙ e);
 }
   where

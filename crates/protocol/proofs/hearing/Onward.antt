@@ -17,7 +17,7 @@ use Rattle.ground.specs.Quantify.{countTo}
 use Rattle.ground.specs.Update.{upd-all, fun-ext}
 use Rattle.votes.specs.declared.VoteSet.{VoteSet}
 use Rattle.model.specs.Ranges.{isController, positionInRange}
-use Rattle.model.specs.RangeLaws.{Ranges, ranges, member}
+use Rattle.model.specs.RangeLaws.{Ranges, ranges, member, Member}
 use Rattle.model.specs.Routes.{route}
 use Rattle.model.specs.Numbers.{wordOf, isNone}
 use Rattle.model.specs.QuestionLaws.{AllYes, all-yes}
@@ -294,16 +294,16 @@ module _ (n f o : ℕ) (f<n : f < n) (1≤f : 1 ≤ f) (small : n ≤ limit) (op
   AllDelivered kind es = (i j : ℕ) → Delivered kind i j es
 
   rows-all : (kind : Kind) (es : List Event) → At es → ((i : ℕ) → 1 ≤ i → i ≤ n → (j : ℕ) → 1 ≤ j → j ≤ n → Delivered kind i j es) → AllDelivered kind es
-  rows-all kind es m h i j e = h i (low i (and-l (isController n i) (isController n j) both)) (high i (and-l (isController n i) (isController n j) both)) j (low j (and-r (isController n i) (isController n j) both)) (high j (and-r (isController n i) (isController n j) both)) e
+  rows-all kind es m h i j e = h i (from .low) (from .high) j (to .low) (to .high) e
     where
       both : (isController n i && isController n j) ≡ true
       both = and-l _ (not (eqb i j)) (differ es m kind i j e)
 
-      low : (k : ℕ) → isController n k ≡ true → 1 ≤ k
-      low k x = member n k x .low
+      from : Member n i
+      from = member n i (and-l (isController n i) (isController n j) both)
 
-      high : (k : ℕ) → isController n k ≡ true → k ≤ n
-      high k x = member n k x .high
+      to : Member n j
+      to = member n j (and-r (isController n i) (isController n j) both)
 
   deliver-all : (S : Kind → Bool) (kind : Kind) → ((k : Kind) → S k ≡ true → still kind k ≡ true) → S kind ≡ true → (es : List Event) → At es → Onto S es (AllDelivered kind)
   deliver-all S kind mild covered es m = let a : Onto S es (Rows S kind mild covered n) = deliver-rows S kind mild covered n es m in

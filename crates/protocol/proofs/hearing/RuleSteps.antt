@@ -36,6 +36,11 @@ help-route : (f i k : ℕ) → (i ≡ k → ⊥) → f < i → f < k → helpRou
 unfolding helpRoute
 help-route f i k d x y = rw (ne-eqb i k d, lt-ltb f i x, lt-ltb f k y)
 
+-- a help answer that is not taken by one that waits was counted before
+pub counted : (a w : Bool) → w ≡ true → (not a && w) ≡ false → a ≡ true
+counted true w p q = refl
+counted false w p q = absurd (no-both w p q)
+
 -- a word put adds nothing, and ends waiting
 adds-put : (i : ℕ) (c : Controller) (o : Outcome) (e : Event) → Adds i c e → Adds i (propose c o) e
 unfolding propose
@@ -142,12 +147,8 @@ module _ (n f : ℕ) where
     -- a help answer: it comes to one past its second timeout
     pub helped-in-follows : (k : ℕ) (x : VoteSet) → 1 ≤ k → k ≤ width → (phase c ≤ 2 → ⊥) → Follows n f (Deliver k i Helped) i c l (helpedArrives n f k x c)
     helped-in-follows k x lo hi late = helped-cases (Follows n f (Deliver k i Helped) i c l) n f k x c
-        (λ p q. settle-follows (Deliver k i Helped) i c l _ kept) (λ q. passed-follows (Deliver k i Helped) i c l s h (λ z. (late, λ w. held (hasHelped c k) (c .help .waiting) w q)))
+        (λ p q. settle-follows (Deliver k i Helped) i c l _ kept) (λ q. passed-follows (Deliver k i Helped) i c l s h (λ z. (late, λ w. counted (hasHelped c k) (c .help .waiting) w q)))
       where
-        held : (a w : Bool) → w ≡ true → (not a && w) ≡ false → a ≡ true
-        held true w p q = refl
-        held false w p q = absurd (no-both w p q)
-
         kept : Nearly n f (Deliver k i Helped) i c l (becomes (keepHelped c k x))
         kept = unfold becomes keepHelped sentAfter in record {
           forth = record { callers = λ k e. e; helped = λ j e. insert-keeps (c .helped .from) k j e; acks = λ k e. e; low = λ x. x; waits = λ x. inr x; outcome = λ x. x };

@@ -10,7 +10,7 @@ use Rattle.ground.specs.Tests.{and-l, and-r, or-e, or-l, or-r, eqb-same}
 use Rattle.ground.specs.Quantify.{allTo, all-at, all-of}
 use Rattle.ground.specs.Mask.{has}
 use Rattle.model.specs.Ranges.{isController}
-use Rattle.model.specs.RangeLaws.{member}
+use Rattle.model.specs.RangeLaws.{member, Member}
 use Rattle.model.specs.Numbers.{isNone, kindNumber}
 use Rattle.model.specs.QuestionLaws.{AllYes, all-yes}
 use Rattle.model.specs.declared.Kind.{Kind}
@@ -179,16 +179,10 @@ module _ (es : List Event) where
   passes-met few-down e = leb-true _ _ e
   passes-met at-stage-3 e = λ i r. eqb-true _ _ (implied _ _ (all-at n _ e i (r .low) (r .high)) (r .running))
   passes-met delivered e = λ kind i j s r.
-      let c : isController n i ≡ true = sender es kind i j s in
-      let x : anyIn (isDelivery i j kind) (logAt es) ≡ true = implied _ _ (kinds-at (λ k. implies (has ((ofKind k (sentBy b i)) .to) j) (anyIn (isDelivery i j k) (logAt es))) (implied _ _ (all-at n _ (all-at n _ e i (low i c) (high i c)) j (r .low) (r .high)) (r .running)) kind) s in
+      let c : Member n i = member n i (sender es kind i j s) in
+      let x : anyIn (isDelivery i j kind) (logAt es) ≡ true = implied _ _ (kinds-at (λ k. implies (has ((ofKind k (sentBy b i)) .to) j) (anyIn (isDelivery i j k) (logAt es))) (implied _ _ (all-at n _ (all-at n _ e i (c .low) (c .high)) j (r .low) (r .high)) (r .running)) kind) s in
       let g : FoundIn (isDelivery i j kind) (logAt es) = found-in (isDelivery i j kind) (logAt es) x in
       in-order es (Deliver i j kind) (subst (λ (y : Event). In y (logAt es)) (the-delivery i j kind (g .event) (g .passes)) (g .entry))
-    where
-      low : (i : ℕ) → isController n i ≡ true → 1 ≤ i
-      low i c = member n i c .low
-
-      high : (i : ℕ) → isController n i ≡ true → i ≤ n
-      high i c = member n i c .high
   passes-met answered e = λ i r p.
       let x : anyIn (isAnswer i) (logAt es) ≡ true = implied _ _ (implied _ _ (all-at n _ e i (r .low) (r .high)) (r .running)) (ap not p) in
       let g : FoundIn (isAnswer i) (logAt es) = found-in (isAnswer i) (logAt es) x in

@@ -11,7 +11,7 @@ use borrow.Author.Tests.{not-true, leb-true, le-leb, eqb-true}
 use Rattle.ground.specs.Tests.{no-both, split, by-cond, and-l, and-r, or-e, or-l, or-r, eqb-same, same-test}
 use Rattle.ground.specs.Quantify.{countTo}
 use Rattle.ground.specs.Mask.{has, insert}
-use Rattle.ground.specs.MaskLaws.{has-none, has-or, insert-own, insert-keeps, insert-only, insert-from}
+use Rattle.ground.specs.MaskLaws.{has-none, has-or, insert-own, insert-keeps, insert-only, insert-from, none-has}
 use Rattle.ground.specs.Collect.{has-collect}
 use Rattle.ground.specs.Update.{upd, upd-same}
 use Rattle.votes.specs.VoteSets.{knows, single}
@@ -52,6 +52,11 @@ pub count-zero : (n : ℕ) → countTo n (has 0) ≡ 0
 unfolding countTo
 count-zero zero = refl
 count-zero (suc n) = rw (has-none (suc n), count-zero n)
+
+-- the stage that a vote leads to is 1 or 2
+pub stage-bounds : (x : Bool) → (1 ≤ cond x 1 2) × (cond x 1 2 ≤ 2)
+stage-bounds true = (omega arith, omega arith)
+stage-bounds false = (omega arith, omega arith)
 
 -- all to whom a kind is sent may be sent it
 collected : (x y z : Bool) → (x && y && z) ≡ true → z ≡ true
@@ -94,7 +99,7 @@ own-cleared n f i k c l p q room = record {
 
 ctl-cleared : (n f : ℕ) (L : ℕ → Sent) (ch : Outcome) (i : ℕ) (k : Condition) (c : Controller) → ((v : Bool) → outcomeIn k ≡ wordOf v → OutcomeGrounds n f L ch v) → HeldSound n f L ch i (cleared k c)
 unfolding cleared
-ctl-cleared n f L ch i k c h = record { votes-ok = empty-ok L; helped-ok = empty-ok L; acks-ok = λ j e. absurd (no-both (has 0 j) e (has-none j)); helps-ok = λ j e. absurd (no-both (has 0 j) e (has-none j)); calls-ok = λ j e. absurd (no-both (has 0 j) e (has-none j)); outcome-ok = h }
+ctl-cleared n f L ch i k c h = record { votes-ok = empty-ok L; helped-ok = empty-ok L; acks-ok = λ j e. none-has j e; helps-ok = λ j e. none-has j e; calls-ok = λ j e. none-has j e; outcome-ok = h }
 
 module _ (n f : ℕ) (small : n ≤ limit) (b : View) (inv : Inv n f b) (i : ℕ) where
   abbrev c : Controller
@@ -322,17 +327,17 @@ module _ (n f : ℕ) (small : n ≤ limit) (b : View) (inv : Inv n f b) (i : ℕ
           sent-ok = vote-lines;
           own-ok = record {
             phased = record {
-              fresh0 = λ x e. absurd (omega (arith, bounds (leb i (suc f))));
+              fresh0 = λ x e. absurd (omega (arith, stage-bounds (leb i (suc f))));
               fresh1 = λ x e. o .phased .fresh1 r (omega arith);
               fresh2 = λ x e. o .phased .fresh2 r (omega arith);
               undecided = λ x e. o .phased .undecided r (omega arith);
               own = λ e. ap (λ (s : VoteSet). knows s i) (joined-is (upd L i lv) (c .votes) (c .votes) (single i w) (k .votes-ok) single-true) ∙ union-knows (c .votes) (single i w) i ∙ or-r (knows (c .votes) i) (knows (single i w) i) own-voted;
               same = λ x e. absurd (no-both (ackedBy i l) e (o .phased .fresh1 r (omega arith)));
-              late = λ e. absurd (omega (arith, bounds (leb i (suc f))));
+              late = λ e. absurd (omega (arith, stage-bounds (leb i (suc f))));
             };
             helping = record {
-              help-copy = λ e. absurd (omega (arith, bounds (leb i (suc f))));
-              answered = λ e. absurd (omega (arith, bounds (leb i (suc f))));
+              help-copy = λ e. absurd (omega (arith, stage-bounds (leb i (suc f))));
+              answered = λ e. absurd (omega (arith, stage-bounds (leb i (suc f))));
               waiter = o .helping .waiter;
               idle = λ e. o .helping .idle (omega arith);
               early = λ e. o .helping .early (omega arith);
@@ -356,10 +361,6 @@ module _ (n f : ℕ) (small : n ≤ limit) (b : View) (inv : Inv n f b) (i : ℕ
           stay-ok = λ e. absurd (false≢true e);
         }
       where
-        bounds : (x : Bool) → (1 ≤ cond x 1 2) × (cond x 1 2 ≤ 2)
-        bounds true = (omega arith, omega arith)
-        bounds false = (omega arith, omega arith)
-
         early : 2 ≤ cond (leb i (suc f)) 1 2 → i ≤ f → ⊥
         early x y = let x′ : 2 ≤ 1 = (rw (le-leb i (suc f) (omega arith)) at x) in omega arith
 

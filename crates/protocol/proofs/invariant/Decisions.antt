@@ -8,7 +8,7 @@ use mathlib.Core.Logic.{inr}
 use Rattle.ground.specs.Tests.{no-both, by-cond}
 use Rattle.ground.specs.Quantify.{countTo}
 use Rattle.ground.specs.Mask.{has}
-use Rattle.ground.specs.MaskLaws.{has-none}
+use Rattle.ground.specs.MaskLaws.{has-none, none-has}
 use Rattle.ground.specs.Update.{upd-all}
 use Rattle.votes.specs.VoteSets.{empty}
 use Rattle.model.specs.Numbers.{wordOf}
@@ -147,7 +147,7 @@ pub blank-inv : (n f o : ℕ) (w : OrderState) (ctl : ℕ → Controller) (saved
     → Inv n f (record { order = o; state = w; ctl = ctl; saved = saved; counts = counts })
 unfolding unsentAll
 blank-inv n f o w ctl saved counts ln pm ps ch bl room old fresh = record {
-  lines = λ k. rw (ln k) (record { ack-ok = λ e. none k e; help-ok = λ e. none k e; ack-in-help = λ e. none k e; vote-to = λ j e. none j e; ack-to = λ j e. none j e; help-to = λ j e. none j e; helped-to = λ j e. none j e; vote-within = λ j e. none j e; vote-only = λ j e. none j e });
+  lines = λ k. rw (ln k) (record { ack-ok = λ e. none-has k e; help-ok = λ e. none-has k e; ack-in-help = λ e. none-has k e; vote-to = λ j e. none-has j e; ack-to = λ j e. none-has j e; help-to = λ j e. none-has j e; helped-to = λ j e. none-has j e; vote-within = λ j e. none-has j e; vote-only = λ j e. none-has j e });
   owns = λ k. let s : phase (ctl k) ≡ 0 = bl k .phase in record {
     phased = record {
       fresh0 = λ e r. rw (ln k) (has-none k);
@@ -175,9 +175,9 @@ blank-inv n f o w ctl saved counts ln pm ps ch bl room old fresh = record {
   ctls = λ k. record {
     votes-ok = rw (bl k .votes) (empty-ok _);
     helped-ok = rw (bl k .helped) (empty-ok _);
-    acks-ok = λ j e. none j (sym (ap (λ (m : ℕ). has m j) (bl k .acks-none)) ∙ e);
-    helps-ok = λ j e. none j (sym (ap (λ (m : ℕ). has m j) (bl k .helps-none)) ∙ e);
-    calls-ok = λ j e. none j (sym (ap (λ (m : ℕ). has m j) (bl k .calls-none)) ∙ e);
+    acks-ok = λ j e. none-has j (sym (ap (λ (m : ℕ). has m j) (bl k .acks-none)) ∙ e);
+    helps-ok = λ j e. none-has j (sym (ap (λ (m : ℕ). has m j) (bl k .helps-none)) ∙ e);
+    calls-ok = λ j e. none-has j (sym (ap (λ (m : ℕ). has m j) (bl k .calls-none)) ∙ e);
     outcome-ok = λ v e. none-word v (sym (bl k .outcome) ∙ e);
   };
   move = λ e. absurd (no-both (w .consensus .«move_proposed») e pm);
@@ -186,9 +186,6 @@ blank-inv n f o w ctl saved counts ln pm ps ch bl room old fresh = record {
   saved-ok = λ k e v x. none-word v (sym (fresh k e) ∙ x);
   chosen = λ v e. none-word v (sym ch ∙ e);
 }
-  where
-    none : {X : Type 0} (j : ℕ) → has 0 j ≡ true → X
-    none j e = absurd (no-both (has 0 j) e (has-none j))
 
 pub opened-inv : (n f : ℕ) (b : View) (o : ℕ) → b .order < o → Inv n f b → Inv n f (openedV n f b o)
 unfolding openedV newOrderState orderOpened renewed

@@ -1,13 +1,13 @@
 -- Every accepted event goes on with the order and keeps its grounds, or opens a later one. So two outcomes of one order are equal.
 use Prim.Native.Nat.{ℕ, _≤_, _<_}
 use mathlib.Core.Path.{_≡_, refl, sym, _∙_}
-use mathlib.Core.Bool.{Bool, true, false, _||_, cond, true≢false, false≢true}
+use mathlib.Core.Bool.{Bool, true, false, _||_, cond, false≢true}
 use mathlib.Core.List.{List, [], _∷_}
 use native.Mathlib.Omega.{arith}
 use lib.Dec.{eqb}
 use mathlib.Core.Logic.{_⊎_, inl, inr}
 use borrow.Author.Tests.{leb-true, eqb-true}
-use Rattle.ground.specs.Tests.{split, and-l, and-r}
+use Rattle.ground.specs.Tests.{split, and-l, and-r, or-second}
 use Rattle.ground.specs.Limit.{limit}
 use Rattle.model.specs.Ranges.{isController}
 use Rattle.model.specs.Routes.{route, helpRoute}
@@ -35,10 +35,6 @@ use Rattle.protocol.proofs.invariant.Commit.{Fits, commit-inv, grown-re
 use Rattle.protocol.proofs.invariant.SecondTimeout.{second-fits}
 use Rattle.protocol.proofs.invariant.Arrivals.{stop-fits, restore-fits, vote-in-fits, ack-in-fits, helped-in-fits, help-in-fits, vote-fits, first-fits}
 use Rattle.protocol.proofs.invariant.Decisions.{chosen-inv, decide-fits, saved-inv, opened-inv}
-
-pub second : (x y : Bool) → x ≡ false → (x || y) ≡ true → y ≡ true
-second true y p q = absurd (true≢false p)
-second false y p q = q
 
 -- one that runs does not stand by
 pub not-both : (k : Condition) → isRunning k ≡ true → isStandby k ≡ false
@@ -92,7 +88,7 @@ module _ (n f : ℕ) (f<n : f < n) (1≤f : 1 ≤ f) (small : n ≤ limit) where
 
   -- a running controller takes the arbiter's word at stage 3
   at-three : (b : View) (i : ℕ) → (standsBy (b .ctl i) || eqb (phase (b .ctl i)) 3) ≡ true → runs (b .ctl i) ≡ true → 3 ≤ phase (b .ctl i)
-  at-three b i e r = let h : phase (b .ctl i) ≡ 3 = eqb-true _ _ (second (standsBy (b .ctl i)) _ (not-both ((b .ctl i) .condition) r) e) in omega arith
+  at-three b i e r = let h : phase (b .ctl i) ≡ 3 = eqb-true _ _ (or-second (standsBy (b .ctl i)) _ (not-both ((b .ctl i) .condition) r) e) in omega arith
 
   pub perform-next : (b : View) (e : Event) → Inv n f b → accepts n f b e ≡ true → Next b (performV n f b e)
   unfolding accepts firstNo performV isController route helpRoute arrives
@@ -105,7 +101,7 @@ module _ (n f : ℕ) (f<n : f < n) (1≤f : 1 ≤ f) (small : n ≤ limit) where
   perform-next b (Deliver i j Helped) inv q = commit-next b j _ inv (helped-in-fits n f small b inv j f<n i (leb-true _ _ (search (ask-l, ask-r, and-l, and-r) depth 14)) (leb-true _ _ (search (ask-l, ask-r, and-l, and-r) depth 14)) (leb-true _ _ (search (ask-l, ask-r, and-l, and-r) depth 14)) (search (ask-l, ask-r, and-l, and-r) depth 14))
   perform-next b (Timeout i) inv q = commit-next b i _ inv (timeout-cases (Fits n f b i) n f i (b .ctl i)
       (λ st. first-fits n f small b inv i (leb-true _ _ (search (ask-l, ask-r, and-l, and-r) depth 14)) (leb-true _ _ (search (ask-l, ask-r, and-l, and-r) depth 14)) (search (ask-l, ask-r, and-l, and-r) depth 14) st)
-      (λ e. second-fits n f f<n 1≤f small b inv i (leb-true _ _ (search (ask-l, ask-r, and-l, and-r) depth 14)) (leb-true _ _ (search (ask-l, ask-r, and-l, and-r) depth 14)) (search (ask-l, ask-r, and-l, and-r) depth 14) (eqb-true _ _ (second (eqb (phase (b .ctl i)) 1) _ e (search (ask-l, ask-r, and-l, and-r) depth 14)))))
+      (λ e. second-fits n f f<n 1≤f small b inv i (leb-true _ _ (search (ask-l, ask-r, and-l, and-r) depth 14)) (leb-true _ _ (search (ask-l, ask-r, and-l, and-r) depth 14)) (search (ask-l, ask-r, and-l, and-r) depth 14) (eqb-true _ _ (or-second (eqb (phase (b .ctl i)) 1) _ e (search (ask-l, ask-r, and-l, and-r) depth 14)))))
   perform-next b (Decide i w) inv q = decide-next b i w inv (at-three b i (search (ask-l, ask-r, and-l, and-r) depth 14)) (sym (proposed-is n f b w) ∙ (search (ask-l, ask-r, and-l, and-r) depth 14)) (search (ask-l, ask-r, and-l, and-r) depth 14)
   perform-next b (Stop i) inv q = commit-next b i _ inv (stop-fits n f small b inv i)
   perform-next b (Save i) inv q = saved-next b i inv

@@ -8,7 +8,7 @@ use borrow.Author.Tests.{not-true}
 use Rattle.ground.specs.Tests.{no-both, and-l, and-r, and-i, or-e, or-l, or-r, same-test, refuted}
 use Rattle.ground.specs.Quantify.{Found, not-all}
 use Rattle.ground.specs.Mask.{has}
-use Rattle.ground.specs.MaskLaws.{has-none}
+use Rattle.ground.specs.MaskLaws.{none-has}
 use Rattle.ground.specs.Lists.{nth}
 use Rattle.votes.specs.VoteSets.{empty, knows, wills, union, unionAll, complete, unanimous}
 use Rattle.votes.specs.VoteLaws.{union-knows, union-wills, knows-in-all, wills-in-all, all-known-by, all-willed-by, complete-knows, unanimous-known, unanimous-willing, votes-unanimous, unanimous-is}
@@ -26,7 +26,7 @@ stay-lacks n s e = not-all n (λ k. knows s k && wills s k) (sym (unanimous-is n
 
 module _ (L : ℕ → Sent) where
   pub empty-ok : Truthful L empty
-  empty-ok = record { cast = λ k e. absurd (no-both (has 0 k) e (has-none k)); true-to = λ k e. absurd (no-both (has 0 k) e (has-none k)); within = λ k e. absurd (no-both (has 0 k) e (has-none k)) }
+  empty-ok = record { cast = λ k e. none-has k e; true-to = λ k e. none-has k e; within = λ k e. none-has k e }
 
   -- the vote set of a vote that was cast
   pub vote-ok : (f i : ℕ) → SentSound f L i (L i) → Truthful L ((L i) .vote .votes)

@@ -105,9 +105,6 @@ module _ (b : Bench) (ok : Sound b) where
   abbrev f : ℕ
   f = b .shared .f
 
-  lows : (i : ℕ) → isController n i ≡ true → 1 ≤ i
-  lows i e = member n i e .low
-
   place : (i : ℕ) → isController n i ≡ true → i ≤ length (b .stations)
   place i e = let p : length (b .stations) ≡ limit = ok .size in let q : n ≤ limit = ranges n f (ok .sized) .small in let h : i ≤ n = member n i e .high in omega arith
 
@@ -161,7 +158,7 @@ module _ (b : Bench) (ok : Sound b) where
 
   -- an event of one controller
   view-one : (e : Event) → isController n (subject e) ≡ true → view (performOne b e) ≡ playOneV n f (view b) e
-  view-one e m = view-put-back b (subject e) (lows (subject e) m) (place (subject e) m) (effect (b .shared) e (sentBy b (source e)) (station b (subject e))) ∙ same
+  view-one e m = view-put-back b (subject e) (member n (subject e) m .low) (place (subject e) m) (effect (b .shared) e (sentBy b (source e)) (station b (subject e))) ∙ same
     where
       same : putBackV (view b) (subject e) (effect (b .shared) e (sentBy b (source e)) (station b (subject e))) ≡ playOneV n f (view b) e
       same = unfold view in rw (ok .locked)

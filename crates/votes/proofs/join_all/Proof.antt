@@ -1,5 +1,6 @@
 -- `votes::join_all` meets its contract. The invariant: after k senders the vote sets of those of 1..k agree, and the set is their join. The array has no more
--- than 16, so the senders after that add nothing.
+-- than the limit, so the senders after that add nothing.
+use Rattle.ground.specs.Limit.{limit}
 use Rattle.votes.proofs.Computed.{skipped, added, joined-all, contradicted-all}
 use Prim.Native.Nat.{ℕ, _+_, _-_, _≤_, min}
 use mathlib.Core.Path.{_≡_, sym, _∙_, ap}
@@ -63,7 +64,7 @@ unfolding nth
 returns c =
     let start = c .before .before .before .before .before .before .before .before .before .before .args in
     let loop = c .before .before .before .before .before .before .before .loop in
-    sym (contradicted-all (loop .k + 1) (start .m) 16 (start .from) (start .t3) (search needs) (omega arith)
+    sym (contradicted-all (loop .k + 1) (start .m) limit (start .from) (start .t3) (search needs) (omega arith)
     (added _ _ _ _ _ (sym (c .before .before .before .before .has .ensures) ∙ not-false _ (c .before .before .before .if1 .left)) (loop .inv .1) (sym (c .enum-told .given .1) ∙ c .before .before .join .ensures)))
 
 loop-less-2 : tie.Need-loop-less-2 Inv-loop μ-loop
@@ -80,9 +81,9 @@ loop-again-2 c = (
 returns-2 : tie.Need-returns-2 Inv-loop μ-loop
 returns-2 c =
     let start = c .before .before .before .before .args in
-    let e : c .before .loop .k ≡ min (start .m) 16 = omega arith in
+    let e : c .before .loop .k ≡ min (start .m) limit = omega arith in
     sym (c .before .loop .inv .1)
-    ∙ (ap (λ (x : ℕ). joinAll x (start .from) (start .t3)) e ∙ joined-all (start .m) 16 (start .from) (start .t3) (search needs))
+    ∙ (ap (λ (x : ℕ). joinAll x (start .from) (start .t3)) e ∙ joined-all (start .m) limit (start .from) (start .t3) (search needs))
 
 pub join-all-spec : {M : Type 1} → statement M
 join-all-spec =

@@ -1,12 +1,13 @@
 -- `bench_report::lines::put_decade` meets its contract. The invariant: the decade's first lines are written.
 use Prim.Native.Nat.{_≤_, _-_}
 use native.Mathlib.Omega.{arith}
+use native.Mathlib.Numerals.{add-one-dec}
 use Rattle.text.specs.Text.{lines}
 use Rattle.text.specs.Writing.{Put}
 use Rattle.text.specs.WritingLaws.{put-none, put-line, put-lines, put-then, put-length}
 use Rattle.bench_report.specs.Lines.{decadeLine}
 use Rattle.bench_report.specs.Room.{answer-length}
-use Rattle.bench_report.proofs.Decades.{nearer, reach}
+use Rattle.bench_report.proofs.Decades.{reach}
 use Rattle.bench_report.proofs.lines.put_decade.Statement.{statement}
 use Rattle.bench_report.proofs.lines.put_decade.Tie as tie
 
@@ -51,7 +52,7 @@ add-ones : tie.Need-add-ones Inv-loop μ-loop
 add-ones c = omega arith
 
 loop-less : tie.Need-loop-less Inv-loop μ-loop
-loop-less c = nearer _ _ (c .before .before .before .before .before .before .before .before .before .loop-test .taken)
+loop-less c = add-one-dec _ _ (c .before .before .before .before .before .before .before .before .before .loop-test .taken)
 
 loop-again : tie.Need-loop-again Inv-loop μ-loop
 loop-again c =

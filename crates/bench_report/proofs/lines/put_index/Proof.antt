@@ -1,4 +1,4 @@
--- `bench_report::lines::put_index` meets its contract.
+-- By how many digits the number has: each way puts its digits one by one, and these are its decimal digits.
 use native.Mathlib.Omega.{arith}
 use borrow.Author.Needs.{needs}
 use Rattle.text.specs.WritingLaws.{put-text, put-then}

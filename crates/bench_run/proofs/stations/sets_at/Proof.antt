@@ -3,22 +3,23 @@ use Prim.Native.Nat.{_≤_, _-_}
 use mathlib.Core.Path.{refl}
 use native.Mathlib.Omega.{arith}
 use borrow.Author.Needs.{needs}
+use Rattle.ground.specs.Limit.{limit}
 use Rattle.bench_run.specs.Tables.{wordRows, setFrom, setColumn, setsFrom}
 use Rattle.bench_run.proofs.Filling.{Filled, none-filled, one-filled, all-filled}
 use Rattle.bench_run.proofs.stations.sets_at.Statement.{statement}
 use Rattle.bench_run.proofs.stations.sets_at.Tie as tie
 
 abbrev Inv-loop : tie.InvT-loop
-Inv-loop w at sets₀ j₀ sets j = (j ≤ 16) × Filled (λ k. setFrom (wordRows w at) (setColumn k)) 16 j sets
+Inv-loop w at sets₀ j₀ sets j = (j ≤ limit) × Filled (λ k. setFrom (wordRows w at) (setColumn k)) limit j sets
 
 abbrev μ-loop : tie.MeasureT-loop
-μ-loop w at sets₀ j₀ sets j = 16 - j
+μ-loop w at sets₀ j₀ sets j = limit - j
 
 empty-set-requires : tie.Need-empty-set-requires Inv-loop μ-loop
 empty-set-requires c κs = search needs
 
 loop-holds : tie.Need-loop-holds Inv-loop μ-loop
-loop-holds c = (omega arith, none-filled _ 16 _ refl)
+loop-holds c = (omega arith, none-filled _ limit _ refl)
 
 mul-set-at : tie.Need-mul-set-at Inv-loop μ-loop
 mul-set-at c = search needs
@@ -42,11 +43,11 @@ loop-less : tie.Need-loop-less Inv-loop μ-loop
 loop-less c = omega arith
 
 loop-again : tie.Need-loop-again Inv-loop μ-loop
-loop-again c = (omega arith, one-filled _ 16 _ _ _ (c .before .loop-test .taken) (c .before .before .loop .inv .1) (c .set-at .ensures))
+loop-again c = (omega arith, one-filled _ limit _ _ _ (c .before .loop-test .taken) (c .before .before .loop .inv .1) (c .set-at .ensures))
 
 returns : tie.Need-returns Inv-loop μ-loop
 unfolding setsFrom
-returns c = all-filled _ 16 _ _ (c .loop-test .left) (c .before .loop .inv .1)
+returns c = all-filled _ limit _ _ (c .loop-test .left) (c .before .loop .inv .1)
 
 pub sets-at-spec : {M : Type 1} → statement M
 sets-at-spec =

@@ -4,6 +4,7 @@ use mathlib.Core.Path.{refl}
 use native.Mathlib.Omega.{arith}
 use lib.ListN.{replicate}
 use borrow.Author.Needs.{needs}
+use Rattle.ground.specs.Limit.{limit}
 use Rattle.bench_run.specs.Tables.{stationsOf}
 use Rattle.bench_run.specs.Changes.{stationIn}
 use Rattle.bench_run.proofs.Filling.{Filled, none-filled, one-filled, all-filled}
@@ -11,16 +12,16 @@ use Rattle.bench_run.proofs.stations.stations_of.Statement.{statement}
 use Rattle.bench_run.proofs.stations.stations_of.Tie as tie
 
 abbrev Inv-loop : tie.InvT-loop
-Inv-loop b w stations₀ i₀ stations i = (i ≤ 16) × Filled (stationIn b w) 16 i stations
+Inv-loop b w stations₀ i₀ stations i = (i ≤ limit) × Filled (stationIn b w) limit i stations
 
 abbrev μ-loop : tie.MeasureT-loop
-μ-loop b w stations₀ i₀ stations i = 16 - i
+μ-loop b w stations₀ i₀ stations i = limit - i
 
 station-at-requires : tie.Need-station-at-requires Inv-loop μ-loop
 station-at-requires c κs = search needs
 
 loop-holds : tie.Need-loop-holds Inv-loop μ-loop
-loop-holds c = (omega arith, one-filled _ 16 0 (replicate 16 (c .station-at .result)) _ (omega arith) (none-filled _ 16 _ refl) (c .station-at .ensures))
+loop-holds c = (omega arith, one-filled _ limit 0 (replicate limit (c .station-at .result)) _ (omega arith) (none-filled _ limit _ refl) (c .station-at .ensures))
 
 station-at-requires-2 : tie.Need-station-at-requires-2 Inv-loop μ-loop
 station-at-requires-2 c κs = search needs
@@ -38,11 +39,11 @@ loop-less : tie.Need-loop-less Inv-loop μ-loop
 loop-less c = omega arith
 
 loop-again : tie.Need-loop-again Inv-loop μ-loop
-loop-again c = (omega arith, one-filled _ 16 _ _ _ (c .before .loop-test .taken) (c .before .before .loop .inv .1) (c .station-at2 .ensures))
+loop-again c = (omega arith, one-filled _ limit _ _ _ (c .before .loop-test .taken) (c .before .before .loop .inv .1) (c .station-at2 .ensures))
 
 returns : tie.Need-returns Inv-loop μ-loop
 unfolding stationsOf
-returns c = all-filled _ 16 _ _ (c .loop-test .left) (c .before .loop .inv .1)
+returns c = all-filled _ limit _ _ (c .loop-test .left) (c .before .loop .inv .1)
 
 pub stations-of-spec : {M : Type 1} → statement M
 stations-of-spec =

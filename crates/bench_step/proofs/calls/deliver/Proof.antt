@@ -1,14 +1,12 @@
 -- A delivery: the controller's answer on the station as it is read; its refusal is the last of the questions.
 use mathlib.Core.Path.{_≡_, refl, _∙_}
-use lib.ListN.{length, length-map}
-use Rattle.ground.specs.Limit.{limit}
 use Rattle.model.specs.declared.Event.{Event}
 use Rattle.model.specs.declared.Event.the-variants.{Deliver}
 use Rattle.protocol.specs.Events.{answerTo}
 use Rattle.protocol.specs.Questions.{number, firstNo, questionsOf}
 use Rattle.protocol.specs.Steps.{effectOf, effect}
 use Rattle.bench_step.proofs.StationsRead.{stationRead, sentRead}
-use Rattle.bench_step.proofs.StepLaws.{factsRead, one-first, one-settled}
+use Rattle.bench_step.proofs.StepLaws.{factsRead, one-first, one-finished}
 use borrow.Author.Needs.{needs}
 use Rattle.bench_step.proofs.calls.deliver.Statement.{statement}
 use Rattle.bench_step.proofs.calls.deliver.Tie as tie
@@ -16,16 +14,13 @@ use Rattle.bench_step.proofs.calls.deliver.Tie as tie
 abbrev event : tie.Start → Event
 event s = Deliver (s .args .from) (s .args .to) (s .args .kind)
 
-sixteen : (s : tie.Start) → length (s .args .b .stations) ≡ limit
-sixteen s = simp length-map at (s .good .0 .1 .1 .1 .0 .1 .0 .1)
-
 asked : (c : tie.After-deliver-question) → let s = c .before .before .before .before .before .before .before .before .before in c .deliver-question .result ≡ number (firstNo (questionsOf (factsRead (s .args .b) (event s)) (event s)))
 unfolding answerTo
-asked c = rw (c .deliver-question .ensures, c .before .condition-of .ensures, c .before .before .is-contradicted .ensures, c .before .before .before .receive .ensures, c .before .before .before .before .message .ensures, c .before .before .before .before .before .identity .ensures, c .before .before .before .before .before .before .of-kind .ensures, c .before .before .before .before .before .before .before .station-at2 .ensures, c .before .before .before .before .before .before .before .before .station-at .ensures)
+asked c = rw (c .deliver-question .ensures, c .before .condition-of .ensures, c .before .before .is-contradicted .ensures, c .before .before .before .receive .ensures, c .before .before .before .before .message-to .ensures, c .before .before .before .before .before .identity .ensures, c .before .before .before .before .before .before .of-kind .ensures, c .before .before .before .before .before .before .before .station-at2 .ensures .0, c .before .before .before .before .before .before .before .before .station-at .ensures .0)
 
 leaves : (c : tie.After-answering) → let s = c .before .before .before .before .before .before .before .before .before .before in c .answering .result ≡ effect (s .args .b .shared) (event s) (sentRead (s .args .b) (event s)) (stationRead (s .args .b) (s .args .to))
 unfolding effectOf answerTo
-leaves c = rw (c .answering .ensures, c .before .before .before .before .receive .ensures, c .before .before .before .before .before .message .ensures, c .before .before .before .before .before .before .identity .ensures, c .before .before .before .before .before .before .before .of-kind .ensures, c .before .before .before .before .before .before .before .before .station-at2 .ensures, c .before .before .before .before .before .before .before .before .before .station-at .ensures)
+leaves c = rw (c .answering .ensures, c .before .before .before .before .receive .ensures, c .before .before .before .before .before .message-to .ensures, c .before .before .before .before .before .before .identity .ensures, c .before .before .before .before .before .before .before .of-kind .ensures, c .before .before .before .before .before .before .before .before .station-at2 .ensures .0, c .before .before .before .before .before .before .before .before .before .station-at .ensures .0)
 
 station-at-requires : tie.Need-station-at-requires
 station-at-requires c κs = search needs
@@ -39,8 +34,8 @@ of-kind-requires c κs = search needs
 identity-requires : tie.Need-identity-requires
 identity-requires c κs = search needs
 
-message-requires : tie.Need-message-requires
-message-requires c κs = search needs
+message-to-requires : tie.Need-message-to-requires
+message-to-requires c κs = search needs
 
 receive-requires : tie.Need-receive-requires
 receive-requires c κs = search needs
@@ -57,13 +52,13 @@ deliver-question-requires c κs = search needs
 answering-requires : tie.Need-answering-requires
 answering-requires c κs = search needs
 
-settle-requires : tie.Need-settle-requires
-settle-requires c κs = let s = c .before .before .before .before .before .before .before .before .before .before in one-first (s .args .b) (event s) (sixteen s) _ (asked (c .before)) refl
+finish-requires : tie.Need-finish-requires
+finish-requires c κs = let s = c .before .before .before .before .before .before .before .before .before .before in one-first (s .args .b) (event s) (c .before .before .before .before .before .before .before .before .before .station-at .ensures .1) _ (asked (c .before)) refl
 
 returns : tie.Need-returns
 returns c =
     let s = c .before .before .before .before .before .before .before .before .before .before .before in
-    c .settle .ensures ∙ one-settled (s .args .b) (event s) (sixteen s) _ (asked (c .before .before)) refl _ (leaves (c .before))
+    c .finish .ensures ∙ one-finished (s .args .b) (event s) (c .before .before .before .before .before .before .before .before .before .before .station-at .ensures .1) _ (asked (c .before .before)) refl _ (leaves (c .before))
 
 pub deliver-spec : {M : Type 1} → statement M
 deliver-spec =
@@ -73,11 +68,11 @@ deliver-spec =
     station-at-requires-2
     of-kind-requires
     identity-requires
-    message-requires
+    message-to-requires
     receive-requires
     is-contradicted-requires
     condition-of-requires
     deliver-question-requires
     answering-requires
-    settle-requires
+    finish-requires
     returns)

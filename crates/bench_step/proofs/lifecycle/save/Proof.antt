@@ -1,14 +1,12 @@
 -- A save: its questions and its controller's checkpoint, on the station as it is read.
 use mathlib.Core.Path.{_≡_, refl, _∙_}
-use lib.ListN.{length, length-map}
-use Rattle.ground.specs.Limit.{limit}
 use Rattle.model.specs.declared.Event.{Event}
 use Rattle.model.specs.declared.Event.the-variants.{Save}
 use Rattle.protocol.specs.Events.{answerTo}
 use Rattle.protocol.specs.Questions.{number, firstNo, questionsOf}
 use Rattle.protocol.specs.Steps.{effectOf, effect}
 use Rattle.bench_step.proofs.StationsRead.{stationRead, sentRead}
-use Rattle.bench_step.proofs.StepLaws.{factsRead, one-first, one-settled}
+use Rattle.bench_step.proofs.StepLaws.{factsRead, one-first, one-finished}
 use borrow.Author.Needs.{needs}
 use Rattle.bench_step.proofs.lifecycle.save.Statement.{statement}
 use Rattle.bench_step.proofs.lifecycle.save.Tie as tie
@@ -16,15 +14,12 @@ use Rattle.bench_step.proofs.lifecycle.save.Tie as tie
 abbrev event : tie.Start → Event
 event s = Save (s .args .id)
 
-sixteen : (s : tie.Start) → length (s .args .b .stations) ≡ limit
-sixteen s = simp length-map at (s .good .0 .1 .1 .1 .0 .1 .0 .1)
-
 asked : (c : tie.After-present-question) → let s = c .before .before .before in c .present-question .result ≡ number (firstNo (questionsOf (factsRead (s .args .b) (event s)) (event s)))
-asked c = rw (c .present-question .ensures .1, c .before .condition-of .ensures, c .before .before .station-at .ensures)
+asked c = rw (c .present-question .ensures .1, c .before .condition-of .ensures, c .before .before .station-at .ensures .0)
 
-leaves : (c : tie.After-keeping) → let s = c .before .before .before .before .before .before in c .keeping .result ≡ effect (s .args .b .shared) (event s) (sentRead (s .args .b) (event s)) (stationRead (s .args .b) (s .args .id))
+leaves : (c : tie.After-with-checkpoint) → let s = c .before .before .before .before .before .before in c .with-checkpoint .result ≡ effect (s .args .b .shared) (event s) (sentRead (s .args .b) (event s)) (stationRead (s .args .b) (s .args .id))
 unfolding effectOf answerTo
-leaves c = rw (c .keeping .ensures, c .before .save .ensures .answer, c .before .before .identity .ensures, c .before .before .before .before .before .station-at .ensures)
+leaves c = rw (c .with-checkpoint .ensures, c .before .save .ensures .answer, c .before .before .identity .ensures, c .before .before .before .before .before .station-at .ensures .0)
 
 station-at-requires : tie.Need-station-at-requires
 station-at-requires c κs = search needs
@@ -41,16 +36,16 @@ identity-requires c κs = search needs
 save-requires : tie.Need-save-requires
 save-requires c κs = search needs
 
-keeping-requires : tie.Need-keeping-requires
-keeping-requires c κs = search needs
+with-checkpoint-requires : tie.Need-with-checkpoint-requires
+with-checkpoint-requires c κs = search needs
 
-settle-requires : tie.Need-settle-requires
-settle-requires c κs = let s = c .before .before .before .before .before .before in one-first (s .args .b) (event s) (sixteen s) _ (asked (c .before .before .before)) refl
+finish-requires : tie.Need-finish-requires
+finish-requires c κs = let s = c .before .before .before .before .before .before in one-first (s .args .b) (event s) (c .before .before .before .before .before .station-at .ensures .1) _ (asked (c .before .before .before)) refl
 
 returns : tie.Need-returns
 returns c =
     let s = c .before .before .before .before .before .before .before in
-    c .settle .ensures ∙ one-settled (s .args .b) (event s) (sixteen s) _ (asked (c .before .before .before .before)) refl _ (leaves (c .before))
+    c .finish .ensures ∙ one-finished (s .args .b) (event s) (c .before .before .before .before .before .before .station-at .ensures .1) _ (asked (c .before .before .before .before)) refl _ (leaves (c .before))
 
 pub save-spec : {M : Type 1} → statement M
 save-spec =
@@ -61,6 +56,6 @@ save-spec =
     present-question-requires
     identity-requires
     save-requires
-    keeping-requires
-    settle-requires
+    with-checkpoint-requires
+    finish-requires
     returns)

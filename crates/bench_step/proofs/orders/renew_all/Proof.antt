@@ -7,19 +7,19 @@ use native.Mathlib.Omega.{arith}
 use lib.ListN.{length}
 use Rattle.protocol.specs.Benches.{freshStation, fresh, unsentAll}
 use Rattle.protocol.specs.Steps.{renewed}
-use Rattle.bench_step.proofs.Maps.{mapTo, map-none, map-more, map-all}
+use Rattle.ground.specs.Firsts.{mapFirst, first-none, first-more, first-map}
 use borrow.Author.Needs.{needs}
 use Rattle.bench_step.proofs.orders.renew_all.Statement.{statement}
 use Rattle.bench_step.proofs.orders.renew_all.Tie as tie
 
 abbrev Inv-loop : tie.InvT-loop
-Inv-loop all₀ at₀ all at = (at ≤ limit) × ((length all₀ ≡ limit) × (all ≡ mapTo renewed at all₀))
+Inv-loop all₀ at₀ all at = (at ≤ limit) × ((length all₀ ≡ limit) × (all ≡ mapFirst renewed at all₀))
 
 abbrev μ-loop : tie.MeasureT-loop
 μ-loop all₀ at₀ all at = limit - at
 
 loop-holds : tie.Need-loop-holds Inv-loop μ-loop
-loop-holds c = (omega arith, (search needs, map-none renewed _))
+loop-holds c = (omega arith, (search needs, first-none renewed _))
 
 mul-s : tie.Need-mul-s Inv-loop μ-loop
 mul-s c = search needs
@@ -46,12 +46,12 @@ loop-again : tie.Need-loop-again Inv-loop μ-loop
 unfolding freshStation fresh unsentAll
 loop-again c =
     let l = c .before .before .before .loop in
-    (omega arith, (l .inv .1 .0, rw (c .renewed .ensures, l .inv .1 .1) (map-more renewed (l .at) (c .before .before .before .before .args .stations) (freshStation []) (omega arith))))
+    (omega arith, (l .inv .1 .0, rw (c .renewed .ensures, l .inv .1 .1) (first-more renewed (l .at) (c .before .before .before .before .args .stations) (freshStation []) (omega arith))))
 
 returns : tie.Need-returns Inv-loop μ-loop
 returns c =
     let l = c .before .loop in
-    l .inv .1 .1 ∙ map-all renewed (l .at) (c .before .before .args .stations) (omega arith)
+    l .inv .1 .1 ∙ first-map renewed (l .at) (c .before .before .args .stations) (omega arith)
 
 pub renew-all-spec : {M : Type 1} → statement M
 renew-all-spec =

@@ -10,18 +10,23 @@ use borrow.Author.Needs.{needs}
 use Rattle.bench_step.proofs.stations.station_at.Statement.{statement}
 use Rattle.bench_step.proofs.stations.station_at.Tie as tie
 
+all-stations : (s : tie.Start) → length (s .args .t1 .stations) ≡ limit
+all-stations s = simp length-map at (s .good .0 .1 .1 .1 .0 .1 .0 .1)
+
 fresh-station-requires : tie.Need-fresh-station-requires
 fresh-station-requires c κs = search needs
 
 returns : tie.Need-returns
 unfolding nth
-returns c = let z : c .before .before .args .i ≡ 0 = omega arith in c .fresh-station .ensures ∙ sym (rw z)
+returns c = let z : c .before .before .args .i ≡ 0 = omega arith in (c .fresh-station .ensures ∙ sym (rw z), all-stations (c .before .before))
 
 fresh-station-requires-2 : tie.Need-fresh-station-requires-2
 fresh-station-requires-2 c κs = search needs
 
 returns-2 : tie.Need-returns-2
-returns-2 c = let l : length (c .before .before .before .args .t1 .stations) ≡ limit = simp length-map at (c .before .before .before .good .0 .1 .1 .1 .0 .1 .0 .1) in c .fresh-station2 .ensures ∙ sym (nth-past _ _ _ (omega arith))
+returns-2 c =
+    let l = all-stations (c .before .before .before) in
+    (c .fresh-station2 .ensures ∙ sym (nth-past _ _ _ (omega (arith, l))), l)
 
 cast-at : tie.Need-cast-at
 cast-at c = search needs
@@ -34,7 +39,9 @@ element-copy-out-result c = search needs
 
 returns-3 : tie.Need-returns-3
 unfolding freshStation fresh unsentAll
-returns-3 c = let l : length (c .before .before .before .args .t1 .stations) ≡ limit = simp length-map at (c .before .before .before .good .0 .1 .1 .1 .0 .1 .0 .1) in sym (nth-within _ (freshStation []) _ _ (omega arith) (omega arith) ∙ nth-at (freshStation []) _ _ (omega arith))
+returns-3 c =
+    let l = all-stations (c .before .before .before) in
+    (sym (nth-within _ (freshStation []) _ _ (omega arith) (omega (arith, l)) ∙ nth-at (freshStation []) _ _ (omega arith)), l)
 
 pub station-at-spec : {M : Type 1} → statement M
 station-at-spec =

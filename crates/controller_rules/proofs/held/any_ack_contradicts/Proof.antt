@@ -1,10 +1,11 @@
 -- The loop over 1 to n stops at the first acknowledgement that is held and contradicts; so far none did.
 use Prim.Native.Nat.{ℕ, suc, _≤_, _-_}
 use mathlib.Core.Path.{_≡_, refl, sym, _∙_, ap}
-use mathlib.Core.Bool.{Bool, true, false, _&&_, _||_}
+use mathlib.Core.Bool.{Bool, false, _&&_}
 use native.Mathlib.Omega.{arith}
 use native.Mathlib.Numerals.{add-one}
 use borrow.Author.Needs.{needs}
+use Rattle.ground.specs.Tests.{or-no}
 use Rattle.ground.specs.Mask.{has}
 use Rattle.ground.specs.Lists.{nth}
 use Rattle.ground.specs.Quantify.{anyTo, any-of}
@@ -24,10 +25,6 @@ Inv-loop n a s j₀ j = (j ≤ n) × (anyTo j (against a s) ≡ false)
 
 abbrev μ-loop : tie.MeasureT-loop
 μ-loop n a s j₀ j = n - j
-
-or-no : (x y : Bool) → x ≡ false → y ≡ false → (x || y) ≡ false
-or-no true y p q = p
-or-no false y p q = q
 
 loop-holds : tie.Need-loop-holds Inv-loop μ-loop
 unfolding anyTo

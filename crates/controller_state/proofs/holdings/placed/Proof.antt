@@ -3,6 +3,7 @@ use mathlib.Core.Path.{_≡_}
 use native.Mathlib.Omega.{arith}
 use lib.ListN.{length}
 use lib.Seq.{set-out}
+use Rattle.ground.specs.Limit.{limit}
 use Rattle.ground.specs.Lists.{put}
 use borrow.Author.Needs.{needs}
 use Rattle.controller_state.proofs.holdings.placed.Statement.{statement}
@@ -15,7 +16,7 @@ returns : tie.Need-returns
 unfolding put
 returns c =
     let start = c .before .before .args in
-    let held : length (start .sets) ≡ 16 = c .before .before .good .0 .1 .0 .1 in
+    let held : length (start .sets) ≡ limit = c .before .before .good .0 .1 .0 .1 in
     simp (set-out (start .sets) (start .j - 1) (start .s) (omega arith))
 
 mul-next : tie.Need-mul-next

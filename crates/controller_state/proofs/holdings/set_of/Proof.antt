@@ -1,6 +1,7 @@
 use mathlib.Core.Path.{_≡_, sym, _∙_}
 use native.Mathlib.Omega.{arith}
 use lib.ListN.{length}
+use Rattle.ground.specs.Limit.{limit}
 use Rattle.ground.specs.Lists.{nth, nth-at, nth-past}
 use Rattle.votes.specs.VoteSets.{empty}
 use borrow.Author.Needs.{needs}
@@ -20,7 +21,7 @@ empty-set-requires-2 c κs = search needs
 returns-2 : tie.Need-returns-2
 returns-2 c =
     let start = c .before .before .before .args in
-    let held : length (start .t1) ≡ 16 = c .before .before .before .good .0 .1 .0 .1 in
+    let held : length (start .t1) ≡ limit = c .before .before .before .good .0 .1 .0 .1 in
     c .empty-set2 .ensures ∙ sym (nth-past empty (start .t1) (start .j) (omega arith))
 
 cast-at : tie.Need-cast-at

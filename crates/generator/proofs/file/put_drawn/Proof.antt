@@ -1,7 +1,8 @@
 use native.Mathlib.Omega.{arith}
 use borrow.Author.Needs.{needs}
 use Rattle.text.specs.WritingLaws.{put-length}
-use Rattle.generator.specs.File.{drawnFrom, recordsOf}
+use Rattle.event_record.specs.Events.{recordsOf}
+use Rattle.generator.specs.File.{drawnFrom}
 use Rattle.generator.proofs.Remaining.{Remaining, none-yet, one-more, none-left}
 use Rattle.generator.proofs.file.put_drawn.Statement.{statement}
 use Rattle.generator.proofs.file.put_drawn.Tie as tie

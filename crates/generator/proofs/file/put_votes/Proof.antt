@@ -3,7 +3,8 @@ use native.Mathlib.Omega.{arith}
 use borrow.Author.Needs.{needs}
 use Rattle.text.specs.Writing.{Put}
 use Rattle.text.specs.WritingLaws.{put-then, put-text, put-length}
-use Rattle.generator.specs.File.{votesTo, recordsOf}
+use Rattle.event_record.specs.Events.{recordsOf}
+use Rattle.generator.specs.File.{votesTo}
 use Rattle.generator.specs.FileLaws.{one-vote-more}
 use Rattle.generator.proofs.Votes.{put-no-votes, put-votes-to}
 use Rattle.generator.proofs.file.put_votes.Statement.{statement}

@@ -7,11 +7,11 @@ use borrow.Author.Tests.{ne-eqb}
 use Rattle.ground.specs.Limit.{limit}
 use Rattle.ground.specs.Lists.{put}
 use borrow.Author.Needs.{needs}
-use Rattle.bench_step.proofs.effects.settle.Statement.{statement}
-use Rattle.bench_step.proofs.effects.settle.Tie as tie
+use Rattle.bench_step.proofs.effects.finish.Statement.{statement}
+use Rattle.bench_step.proofs.effects.finish.Tie as tie
 
-sixteen : (s : tie.Start) → length (s .args .b .stations) ≡ limit
-sixteen s = simp length-map at (s .good .0 .1 .1 .1 .0 .1 .0 .1)
+all-stations : (s : tie.Start) → length (s .args .b .stations) ≡ limit
+all-stations s = simp length-map at (s .good .0 .1 .1 .1 .0 .1 .0 .1)
 
 returns : tie.Need-returns
 returns c = rw (ne-eqb (c .before .args .answer) 0 (c .if1 .taken))
@@ -26,7 +26,7 @@ returns-2 : tie.Need-returns-2
 unfolding put
 returns-2 c =
     let s = c .before .before .before .before in
-    rw (c .before .before .before .if1 .left, set-out (s .args .b .stations) (s .args .id - 1) (s .args .t .station) (rw (sixteen s) (c .if2 .taken)))
+    rw (c .before .before .before .if1 .left, set-out (s .args .b .stations) (s .args .id - 1) (s .args .t .station) (rw (all-stations s) (c .if2 .taken)))
 
 mul-stations : tie.Need-mul-stations
 mul-stations c = search needs
@@ -38,7 +38,7 @@ returns-3 : tie.Need-returns-3
 unfolding put
 returns-3 c = rw (c .before .before .before .before .if1 .left)
 
-pub settle-spec : {M : Type 1} → statement M
-settle-spec =
+pub finish-spec : {M : Type 1} → statement M
+finish-spec =
     tie.close
     (tie.spec returns sub-at cast-at returns-2 mul-stations array-set-from-stations returns-3)
