@@ -72,7 +72,7 @@ pub record WaitedList (n f : ℕ) : Type 0 where
   pub list : MetList n f
   pub who : ℕ
   pub other : ℕ
-  pub apart : other ≡ who → ⊥
+  pub different : other ≡ who → ⊥
   pub answer : InOrder (list .events) (Deliver other who Helped)
   pub waited : (controller (after (answer .before)) who) .help .waiting ≡ true
   pub unheard : hasHelped (controller (after (answer .before)) who) other ≡ false

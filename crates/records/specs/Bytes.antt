@@ -56,6 +56,6 @@ bytesOfWidths [] vs = []
 bytesOfWidths (w ∷ ws) [] = []
 bytesOfWidths (w ∷ ws) (v ∷ vs) = bytesOfWidth w v ++ bytesOfWidths ws vs
 
-abbrev pub sizes : List Width → ℕ
-sizes [] = 0
-sizes (w ∷ ws) = size w + sizes ws
+abbrev pub totalWidth : List Width → ℕ
+totalWidth [] = 0
+totalWidth (w ∷ ws) = size w + totalWidth ws

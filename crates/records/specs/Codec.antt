@@ -7,7 +7,7 @@ use mathlib.Core.List.{List, [], _∷_, _++_}
 use lib.Dec.{eqb}
 use lib.ListN.{length}
 use Rattle.model.specs.Questions.{Reply, accepted, refused, Question, ask, firstNo}
-use Rattle.records.specs.Bytes.{number2, bytes2, Width, numbersAt, bytesOfWidths, sizes}
+use Rattle.records.specs.Bytes.{number2, bytes2, Width, numbersAt, bytesOfWidths, totalWidth}
 
 -- "Each record has a two-byte mark of its own kind"; a record without one can be described too
 pub data Mark : Type 0 where
@@ -56,7 +56,7 @@ pub record Codec (A R : Type 0) : Type 0 where
 
 module _ {A R : Type 0} (c : Codec A R) where
   abbrev pub recordLength : ℕ
-  recordLength = markLength (c .mark) + sizes (c .widths)
+  recordLength = markLength (c .mark) + totalWidth (c .widths)
 
   -- what stands in the fields of a record, and the value of it
   abbrev pub fieldsOn : List ℕ → List ℕ

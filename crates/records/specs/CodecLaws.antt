@@ -12,7 +12,7 @@ use lib.ListN.{length, drop, getD, length-append, drop-of-length-le}
 use lib.Seq.{getD-append-add, drop-cons}
 use Rattle.model.specs.Questions.{Reply, accepted, refused, Question, firstNo}
 use Rattle.model.specs.QuestionLaws.{AllYes, all-yes, yes-all}
-use Rattle.records.specs.Bytes.{byte, number2, bytes2, bytes4, AllBytes, Width, one, two, four, size, numberAt, bytesOfWidth, numbersAt, bytesOfWidths, sizes}
+use Rattle.records.specs.Bytes.{byte, number2, bytes2, bytes4, AllBytes, Width, one, two, four, size, numberAt, bytesOfWidth, numbersAt, bytesOfWidths, totalWidth}
 use Rattle.records.specs.ByteLaws.{number-of-two, number-of-four, of-two, of-four}
 use Rattle.records.specs.Codec.{Mark, marked, unmarked, markBytes, markLength, markQuestion, Reading, isRecord, isRefusal, Codec, recordLength, fieldsOn, valueOn, bytesOf, readQuestions, returned, reads, writeReply, written, writes}
 use Rattle.records.specs.Promises.{In32Bits, answerBy, Promises}
@@ -67,12 +67,12 @@ numbers-back (w ∷ ws) (v ∷ vs) f pre at e =
     ap (λ (s : List ℕ). numbersAt ws s (at + size w)) (sym (append-assoc pre b rest)) ∙ numbers-back ws vs (f .1) (pre ++ b) (at + size w) (omega arith) in
     λ i. here i ∷ others i
 
-length-of-widths : (ws : List Width) (vs : List ℕ) → Fit ws vs → length (bytesOfWidths ws vs) ≡ sizes ws
+length-of-widths : (ws : List Width) (vs : List ℕ) → Fit ws vs → length (bytesOfWidths ws vs) ≡ totalWidth ws
 length-of-widths [] [] f = refl
 length-of-widths [] (v ∷ vs) f = absurd f
 length-of-widths (w ∷ ws) [] f = absurd f
 length-of-widths (w ∷ ws) (v ∷ vs) f =
-    let e : length (bytesOfWidths ws vs) ≡ sizes ws = length-of-widths ws vs (f .1) in
+    let e : length (bytesOfWidths ws vs) ≡ totalWidth ws = length-of-widths ws vs (f .1) in
     let k : length (bytesOfWidth w v) ≡ size w = length-of-width w v in
     let l : length (bytesOfWidth w v ++ bytesOfWidths ws vs) ≡ length (bytesOfWidth w v) + length (bytesOfWidths ws vs) = length-append (bytesOfWidth w v) (bytesOfWidths ws vs) in
     omega arith
@@ -92,7 +92,7 @@ number-same four s at all h =
     ∙ (ap (λ (l : List ℕ). byte s at ∷ byte s (at + 1) ∷ l) (next s (at + 2) (at + 2 + 1) (omega arith) (omega arith))
     ∙ (ap (λ (l : List ℕ). byte s at ∷ l) (next s (at + 1) (at + 2) (omega arith) (omega arith)) ∙ next s at (at + 1) refl (omega arith))))
 
-numbers-same : (ws : List Width) (s : List ℕ) (at : ℕ) → AllBytes s → length s ≡ at + sizes ws → bytesOfWidths ws (numbersAt ws s at) ≡ drop at s
+numbers-same : (ws : List Width) (s : List ℕ) (at : ℕ) → AllBytes s → length s ≡ at + totalWidth ws → bytesOfWidths ws (numbersAt ws s at) ≡ drop at s
 numbers-same [] s at all h = sym (drop-of-length-le s {i = at} (omega arith))
 numbers-same (w ∷ ws) s at all h =
     ap (λ (l : List ℕ). bytesOfWidth w (numberAt w s at) ++ l) (numbers-same ws s (at + size w) all (omega arith)) ∙ number-same w s at all (omega arith)
@@ -171,7 +171,7 @@ module _ {A R : Type 0} (c : Codec A R) (law : Lawful c) where
       let fit : Fit (c .widths) (c .fields a) = law .fit a h yes in
       let vs : fieldsOn c s ≡ c .fields a = numbers-back (c .widths) (c .fields a) fit (markBytes (c .mark)) (markLength (c .mark)) (mark-length (c .mark)) in
       let back : valueOn c s ≡ a = ap (c .value) vs ∙ law .value-of-fields a in
-      let l : length rest ≡ sizes (c .widths) = length-of-widths (c .widths) (c .fields a) fit in
+      let l : length rest ≡ totalWidth (c .widths) = length-of-widths (c .widths) (c .fields a) fit in
       let m : markLength (c .mark) ≡ length (markBytes (c .mark)) = mark-length (c .mark) in
       let whole : length (markBytes (c .mark) ++ rest) ≡ length (markBytes (c .mark)) + length rest = length-append (markBytes (c .mark)) rest in
       let lengths : eqb (length s) (recordLength c) ≡ true = eq-eqb (length s) (recordLength c) (omega arith) in

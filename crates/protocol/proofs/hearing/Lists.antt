@@ -290,11 +290,11 @@ module _ (n f : ℕ) (sized : sizesInRange n f ≡ true) where
     runs₂ : (k : ℕ) → f < k → k ≤ n → runs ((viewAt s₂) .ctl k) ≡ true
     runs₂ k lo hi = later₂ .running k ∙ all-stopped .halted .runs k lo hi
 
-    apart : n ≡ suc f → ⊥
-    apart q = omega arith
+    not-second : n ≡ suc f → ⊥
+    not-second q = omega arith
 
     called : has ((ofKind Help ((viewAt s₂) .state .sent n)) .to) (suc f) ≡ true
-    called = later₂ .moment .heard .listening n (omega arith) (omega arith) (runs₂ n (omega arith) (omega arith)) .stands .waits waits .called (suc f) (omega arith) (omega arith) apart
+    called = later₂ .moment .heard .listening n (omega arith) (omega arith) (runs₂ n (omega arith) (omega arith)) .stands .waits waits .called (suc f) (omega arith) (omega arith) not-second
 
     call-accepted : accepts n f (viewAt s₂) call ≡ true
     call-accepted = deliver-accepted n f 1 (range .high) (range .low) (range .small) (omega arith) s₂ (later₂ .moment) Help n (suc f) called (runs₂ (suc f) (omega arith) (omega arith))
@@ -318,7 +318,7 @@ module _ (n f : ℕ) (sized : sizesInRange n f ≡ true) where
     runs₄ k lo hi = later₄ .running k ∙ runs₂ k lo hi
 
     same₄ : (viewAt s₄) .ctl n ≡ (viewAt s₂) .ctl n
-    same₄ = raised .holds .others n (ne-eqb n (suc f) apart) ∙ unmoved n f 1 (range .high) (range .low) (range .small) (omega arith) s₂ (later₂ .moment) call tt call-accepted n (ne-eqb n (suc f) apart)
+    same₄ = raised .holds .others n (ne-eqb n (suc f) not-second) ∙ unmoved n f 1 (range .high) (range .low) (range .small) (omega arith) s₂ (later₂ .moment) call tt call-accepted n (ne-eqb n (suc f) not-second)
 
     waits₄ : ((viewAt s₄) .ctl n) .help .waiting ≡ true
     waits₄ = ap (λ (c : Controller). c .help .waiting) same₄ ∙ waits
@@ -359,7 +359,7 @@ module _ (n f : ℕ) (sized : sizesInRange n f ≡ true) where
       list = met-from s₅ stopped₅;
       who = n;
       other = suc f;
-      apart = λ q. apart (sym q);
+      different = λ q. not-second (sym q);
       answer = record {
         before = s₄;
         rest = on s₅ stopped₅ .more;
