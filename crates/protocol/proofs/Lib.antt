@@ -1,3 +1,5 @@
+-- The trials, computed.
+pub mod Computed
 pub mod view
 pub mod invariant
 pub mod gates

@@ -33,5 +33,10 @@ pub mod Strays
 pub mod Alone
 -- "Trials"
 pub mod Rows
+pub mod RowWords
+pub mod RuleTrials
+pub mod StandbyTrials
+pub mod QuestionTrials
+pub mod EarlyCallTrials
 pub mod StrayTrials
 pub mod Trials

@@ -235,9 +235,9 @@ pub fn controller_alone()
     ensures { λ _. ⌜ ControllerAlone ⌝ }
 {}
 
-// The starred trials of document 01, run by the definitions: every row of the table in specs/Trials.antt shows what the document says of it. And the
-// messages that an event sends, in their sequence, on some lists; the answers and the count of gates still open, event by event, on one; and what one
-// controller, alone, answers to stray messages (specs/StrayTrials.antt).
+// The starred trials of document 01, run by the definitions: every row of the table in specs/Trials.antt shows what the document says of it. And the other
+// tables: rules and one standing by, where a row alone tells right from wrong (RuleTrials, StandbyTrials); the numbers that events give (QuestionTrials); help
+// calls that come early, and messages in their sequence (EarlyCallTrials); the count of gates still open; stray messages (StrayTrials).
 pub fn trials_hold()
     ensures { λ _. ⌜ TrialsHold ⌝ }
 {}
