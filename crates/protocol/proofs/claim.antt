@@ -7,6 +7,7 @@ pub mod Reach
 pub mod Sends
 pub mod Counted
 pub mod OpenGates
+pub mod Checkpoints
 pub mod Ranges
 pub mod Clear
 pub mod Reached

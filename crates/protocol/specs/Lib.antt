@@ -27,6 +27,7 @@ pub mod Termination
 -- what else holds of every list
 pub mod SentOnce
 pub mod OpenCount
+pub mod KeptCheckpoints
 pub mod Reach
 pub mod NoContradiction
 pub mod Strays

@@ -1,6 +1,7 @@
 // The state of the controllers and of the bench. The rules over it stand in specs/, and so does the claim about them.
 ghost use Rattle.protocol.specs.Alone.{ControllerAlone};
 ghost use Rattle.protocol.specs.Claim.{Demand3};
+ghost use Rattle.protocol.specs.KeptCheckpoints.{KeptCheckpoints};
 ghost use Rattle.protocol.specs.NoContradiction.{NoContradiction};
 ghost use Rattle.protocol.specs.CleanMessages.{CleanMessages};
 ghost use Rattle.protocol.specs.NotHollow.{NotHollow};
@@ -212,6 +213,11 @@ pub fn sent_once()
 // The number of gates still open that the bench keeps is the full count, after every list of events, and question 13 goes by it as document 01 says.
 pub fn open_count()
     ensures { λ _. ⌜ OpenCount ⌝ }
+{}
+
+// After an accepted save a controller's checkpoint (document 01: its card) is what was shown of it then, until its next accepted one; before the first it has none.
+pub fn kept_checkpoints()
+    ensures { λ _. ⌜ KeptCheckpoints ⌝ }
 {}
 
 // Stages, positions and vote sets stay in range, and what is sent or saved passes the questions of its record and is read back as it was.

@@ -34,7 +34,7 @@ use Rattle.protocol.proofs.view.View.{View, openedV, accepts}
 use Rattle.protocol.proofs.view.Performed.{commitV, chosen, savedV, ruleAnswer, performV, place, stepV}
 use Rattle.protocol.proofs.view.Simulation.{view, Sound, rule-sim, reply-sim, step-steps, step-sim}
 use Rattle.protocol.proofs.invariant.Arrivals.{count-zero}
-use Rattle.protocol.proofs.claim.Moments.{accepted-is, lock-refused, run-append}
+use Rattle.protocol.proofs.claim.Moments.{accepted-is, lock-refused, run-append, refused-step}
 use Rattle.protocol.proofs.claim.Start.{unlocked, freshes}
 use Rattle.protocol.proofs.claim.Sends.{Stays, New, rule-new, messageCountV, commit-counted, commit-kept}
 use Rattle.protocol.proofs.claim.Reach.{Reached, step-reached, reached}
@@ -154,9 +154,6 @@ new-counted kind (Restore i) q = absurd (no-both _ q (unlocked (Restore i) tt))
 accepted-counted : (kind : Kind) (b : Bench) (e : Event) → Reached b → isAccepted (reply b e) ≡ true → messageCount (step b e) kind ≡ countAccepted kind b e (messageCount b kind)
 accepted-counted kind b e (inl z) q = subst (λ (x : Bench). messageCount (step x e) kind ≡ countAccepted kind x e (messageCount x kind)) (sym z) (new-counted kind e (ap (λ (x : Bench). isAccepted (reply x e)) (sym z) ∙ q))
 accepted-counted kind b e (inr a) q = step-counted b a kind e (sym (reply-sim b (a) e) ∙ q)
-
-refused-step : (b : Bench) (e : Event) → isAccepted (reply b e) ≡ false → step b e ≡ b
-refused-step b e q = unfold step in rw q
 
 run-counted : (kind : Kind) (es : List Event) (b : Bench) → Reached b → messageCount (run b es) kind ≡ countSends kind b es (messageCount b kind)
 unfolding run countSends

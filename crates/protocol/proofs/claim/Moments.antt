@@ -74,6 +74,10 @@ pub run-cons : (e : Event) (es : List Event) (b : Bench) → run b (e ∷ es) �
 unfolding run
 run-cons e es b = refl
 
+-- a refused event leaves the bench
+pub refused-step : (b : Bench) (e : Event) → isAccepted (reply b e) ≡ false → step b e ≡ b
+refused-step b e q = unfold step in rw q
+
 pub log-append : (es es′ : List Event) (b : Bench) (log : List Event) → logOf b log (es ++ es′) ≡ logOf (run b es) (logOf b log es) es′
 unfolding logOf run
 log-append [] es′ b log = refl
