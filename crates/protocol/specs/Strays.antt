@@ -10,6 +10,7 @@ use Rattle.ground.specs.Quantify.{countTo}
 use Rattle.votes.specs.VoteSets.{knows, wills, single}
 use Rattle.votes.specs.Joining.{contradicts}
 use Rattle.votes.specs.declared.VoteSet.{VoteSet}
+use Rattle.model.specs.Routes.{route}
 use Rattle.model.specs.declared.Kind.the-variants.{Ack}
 use Rattle.model.specs.declared.Outcome.the-variants.{None}
 use Rattle.model.specs.declared.Message.{Message}
@@ -19,7 +20,7 @@ use Rattle.protocol.specs.declared.Controller.{Controller}
 use Rattle.protocol.specs.declared.Answer.{Answer}
 use Rattle.protocol.specs.Controllers.{runs, phase, hasAck, ackOf}
 use Rattle.protocol.specs.Rules.{nothing, receptionNumber, isTaken, passedOver}
-use Rattle.protocol.specs.Calls.{validIdentity, vote, addressed, arrives, receive}
+use Rattle.protocol.specs.Calls.{validIdentity, vote, arrives, receive}
 
 -- a vote set contradicts one that is held: the own vote set, the join of the help answers, or an acknowledgement
 pub data OneHeld (n : ℕ) (c : Controller) (s : VoteSet) : Type 0 where
@@ -27,9 +28,19 @@ pub data OneHeld (n : ℕ) (c : Controller) (s : VoteSet) : Type 0 where
   answers : contradicts (c .helped .votes) s ≡ true → OneHeld n c s
   ack : (j : ℕ) → 1 ≤ j → j ≤ n → hasAck c j ≡ true → contradicts (ackOf c j) s ≡ true → OneHeld n c s
 
--- a message that comes to a running controller, is meant for it, and is one that reading lets through
-abbrev pub Comes : Identity → Message → Controller → Type 0
-Comes me m c = (validIdentity me && runs c && addressed me m && suits m) ≡ true
+-- a message that comes to a running controller of a lock, in an order: of this order, n and f, meant for it; its sender a controller of the lock that may send it
+-- (question 10, "May the kind travel so, by the rules above?"), and its vote set one that reading lets through (question 9)
+pub record Comes (me : Identity) (m : Message) (c : Controller) : Type 0 where
+  pub valid : validIdentity me ≡ true
+  pub running : runs c ≡ true
+  pub order : m .order ≡ me .order
+  pub n : m .n ≡ me .n
+  pub f : m .f ≡ me .f
+  pub to : m .to ≡ me .id
+  pub from-low : 1 ≤ m .from
+  pub from-high : m .from ≤ me .n
+  pub travels : route (me .f) (m .kind) (m .from) (me .id) ≡ true
+  pub suited : suits m ≡ true
 
 -- document 01's rule for it, without the test
 abbrev pub untested : Identity → Message → Controller → Answer
@@ -40,7 +51,12 @@ abbrev pub MayVote : Identity → Controller → Type 0
 MayVote me c = (validIdentity me && runs c && eqb (phase c) 0) ≡ true
 
 pub record Strays : Type 0 where
-  -- "a controller passes over any of another order, n or f, or meant for another controller" (document 01), and any whose vote set does not suit its kind
+  -- "a controller passes over any of another order, n or f, or meant for another controller" (document 01)
+  pub another-order : (me : Identity) (m : Message) (c : Controller) → (m .order ≡ me .order → ⊥) → receive me m c ≡ passedOver c
+  pub another-n : (me : Identity) (m : Message) (c : Controller) → (m .n ≡ me .n → ⊥) → receive me m c ≡ passedOver c
+  pub another-f : (me : Identity) (m : Message) (c : Controller) → (m .f ≡ me .f → ⊥) → receive me m c ≡ passedOver c
+  pub another-receiver : (me : Identity) (m : Message) (c : Controller) → (m .to ≡ me .id → ⊥) → receive me m c ≡ passedOver c
+  -- and whatever else does not come: also any that may not travel so, or whose vote set does not suit its kind
   pub not-coming : (me : Identity) (m : Message) (c : Controller) → (Comes me m c → ⊥) → receive me m c ≡ passedOver c
   -- "Refused by the controller: 24, a delivered sheet that contradicts one held": where it would be taken, and contradicts one
   pub refused : (me : Identity) (m : Message) (c : Controller) → Comes me m c → isTaken ((untested me m c) .reception) ≡ true → OneHeld (me .n) c (m .votes)

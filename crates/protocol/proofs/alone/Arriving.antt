@@ -13,7 +13,6 @@ use Rattle.votes.specs.VoteSets.{knows, wills}
 use Rattle.votes.specs.VoteLaws.{union-knows}
 use Rattle.votes.specs.Joining.{contradicts, join, agreedOr}
 use Rattle.votes.specs.declared.VoteSet.{VoteSet}
-use Rattle.model.specs.RangeLaws.{member}
 use Rattle.model.specs.declared.Kind.{Kind}
 use Rattle.model.specs.declared.Kind.the-variants.{Vote, Ack, Help, Helped}
 use Rattle.model.specs.declared.Message.{Message}
@@ -21,13 +20,13 @@ use Rattle.message_record.specs.Messages.{bitsInRange, suits}
 use Rattle.protocol.specs.declared.Identity.{Identity}
 use Rattle.protocol.specs.declared.Controller.{Controller}
 use Rattle.protocol.specs.declared.Answer.{Answer}
-use Rattle.protocol.specs.Controllers.{runs, phase, hasAck, ackOf, learn}
+use Rattle.protocol.specs.Controllers.{phase, hasAck, ackOf, learn}
 use Rattle.protocol.specs.Rules.{isTaken, passedOver, contradicted, becomes, proposing, proposeIfSufficient, keepsCall, answersCall}
-use Rattle.protocol.specs.Calls.{validIdentity, addressed, arrives, contradictsHeld, tested, receive}
+use Rattle.protocol.specs.Calls.{arrives, contradictsHeld, tested, receive}
 use Rattle.protocol.specs.Strays.{own, answers, ack, Comes, untested}
 use Rattle.protocol.proofs.view.RuleCases.{vote-cases, ack-cases, helped-cases, help-cases, sufficient-cases}
 use Rattle.protocol.proofs.view.Held.{found-held}
-use Rattle.protocol.proofs.claim.Strayed.{small-of, sender, suited, unknown}
+use Rattle.protocol.proofs.claim.Strayed.{asked, comes-is, small-of, unknown}
 use Rattle.protocol.proofs.alone.Telling.{told-or, or-tells, Extended, extended}
 use Rattle.protocol.proofs.alone.Sound.{Sound, Leaves, passed-leaves, put-sound, called-sound, kept-sound, joined-sound}
 
@@ -55,16 +54,10 @@ module _ (me : Identity) (m : Message) (c : Controller) (k : Comes me m c) (o : 
   s = m .votes
 
   small : n ≤ limit
-  small = small-of me (and-l (validIdentity me) _ (and-l (validIdentity me && runs c) _ (and-l (validIdentity me && runs c && addressed me m) _ k)))
-
-  from-low : 1 ≤ m .from
-  from-low = member _ _ (sender me m c k .0) .low
-
-  from-high : m .from ≤ n
-  from-high = member _ _ (sender me m c k .0) .high
+  small = small-of me (k .valid)
 
   formed : (j : ℕ) → wills s j ≡ true → knows s j ≡ true
-  formed = within-has (s .willing) (s .known) (unfold suits in and-r (bitsInRange m) _ (and-l (bitsInRange m && within (m .votes .willing) (m .votes .known)) _ (suited me m c k)))
+  formed = within-has (s .willing) (s .known) (unfold suits in and-r (bitsInRange m) _ (and-l (bitsInRange m && within (m .votes .willing) (m .votes .known)) _ (k .suited)))
 
   told : contradictsHeld n c s ≡ false → Extended (c .votes) (c .helped .votes) (c .acks) s
   told e = let r : Free n c s = free-of n c s e in
@@ -99,12 +92,12 @@ module _ (me : Identity) (m : Message) (c : Controller) (k : Comes me m c) (o : 
   unfolding arrives
   arrives-owed Vote z = vote-cases Owed s c (λ h. unfold becomes in record { is = λ e. record { sound = learned-sound z e } }) passed-owed
   arrives-owed Ack z = ack-cases Owed n (me .f) (m .from) s c
-      (λ h. taken-owed _ (λ e. let x : Extended (c .votes) (c .helped .votes) (c .acks) s = told e in kept-sound n i c small (m .from) s from-low from-high (x .word) (x .held) (x .new) (o .counted) (o .phased) h)) (λ h. passed-owed)
+      (λ h. taken-owed _ (λ e. let x : Extended (c .votes) (c .helped .votes) (c .acks) s = told e in kept-sound n i c small (m .from) s (k .from-low) (k .from-high) (x .word) (x .held) (x .new) (o .counted) (o .phased) h)) (λ h. passed-owed)
   arrives-owed Help z = help-cases Owed (m .from) c (λ p. unfold keepsCall becomes in record { is = λ e. record { sound = called-sound n i c (m .from) o } })
       (λ p q. unfold answersCall in record { is = λ e. record { sound = called-sound n i c (m .from) o } }) (λ q. passed-owed)
   arrives-owed Helped z = helped-cases Owed n (me .f) (m .from) s c
       (λ h w. taken-owed _ (λ e. let x : Extended (c .votes) (c .helped .votes) (c .acks) s = told e in
-      joined-sound n i c small (m .from) s from-low from-high (x .word) (x .held) (x .new) (o .counted) (o .phased) h (late w))) (λ q. passed-owed)
+      joined-sound n i c small (m .from) s (k .from-low) (k .from-high) (x .word) (x .held) (x .new) (o .counted) (o .phased) h (late w))) (λ q. passed-owed)
     where
       late : c .help .waiting ≡ true → 3 ≤ phase c
       late w = elim (split (leb (phase c) 2)) [
@@ -118,7 +111,7 @@ refused-leaves n i c o = record { sound = o }
 
 pub receive-leaves : (me : Identity) (m : Message) (c : Controller) → Sound (me .n) (me .id) c → Leaves (me .n) (me .id) (receive me m c)
 unfolding receive tested
-receive-leaves me m c o = by-cond (Leaves (me .n) (me .id)) (validIdentity me && runs c && addressed me m && suits m) _ _
+receive-leaves me m c o = by-cond (Leaves (me .n) (me .id)) (asked me m c) _ _
     (λ k. by-cond (Leaves (me .n) (me .id)) (isTaken ((untested me m c) .reception) && contradictsHeld (me .n) c (m .votes)) _ _
-    (λ q. refused-leaves (me .n) (me .id) c o) (λ q. arrives-owed me m c k o (m .kind) refl .is q))
+    (λ q. refused-leaves (me .n) (me .id) c o) (λ q. arrives-owed me m c (comes-is me m c k) o (m .kind) refl .is q))
     (λ k. passed-leaves (me .n) (me .id) c o)

@@ -6,7 +6,7 @@ use mathlib.Core.List.{List}
 use native.Mathlib.Omega.{arith}
 use lib.Dec.{eqb, leb}
 use mathlib.Core.Logic.{inl, inr}
-use borrow.Author.Tests.{eqb-true, eqb-false, ne-eqb, not-true}
+use borrow.Author.Tests.{eqb-true, eqb-false, eq-eqb, ne-eqb, not-true}
 use Rattle.ground.specs.Limit.{limit}
 use Rattle.ground.specs.Tests.{split, no-both, refuted, by-cond, and-l, and-r}
 use Rattle.ground.specs.Quantify.{countTo}
@@ -21,8 +21,7 @@ use Rattle.votes.specs.Joining.{contradicts, agreedOr}
 use Rattle.votes.specs.JoinLaws.{join-agreed, join-refused}
 use Rattle.votes.specs.declared.VoteSet.{VoteSet}
 use Rattle.votes.specs.declared.Joined.{Joined}
-use Rattle.model.specs.Ranges.{isController}
-use Rattle.model.specs.RangeLaws.{ranges, member}
+use Rattle.model.specs.RangeLaws.{ranges, member, is-member}
 use Rattle.model.specs.Routes.{route, voteRoute}
 use Rattle.model.specs.declared.Kind.{Kind}
 use Rattle.model.specs.declared.Kind.the-variants.{Vote, Ack, Help, Helped}
@@ -46,9 +45,32 @@ use Rattle.protocol.proofs.claim.Dropped.{sets-kept, drops, drop-counte
 
 -- a message ----------------------------------------------------------------------------
 
+-- the test that a controller makes of it asks just that it comes
+abbrev pub asked : Identity → Message → Controller → Bool
+asked me m c = validIdentity me && runs c && addressed me m && suits m
+
+pub comes-is : (me : Identity) (m : Message) (c : Controller) → asked me m c ≡ true → Comes me m c
+unfolding addressed
+comes-is me m c e = record {
+  valid = search (and-l, and-r) depth 14;
+  running = search (and-l, and-r) depth 14;
+  order = eqb-true _ _ (search (and-l, and-r) depth 14);
+  n = eqb-true _ _ (search (and-l, and-r) depth 14);
+  f = eqb-true _ _ (search (and-l, and-r) depth 14);
+  to = eqb-true _ _ (search (and-l, and-r) depth 14);
+  from-low = member (me .n) (m .from) (search (and-l, and-r) depth 14) .low;
+  from-high = member (me .n) (m .from) (search (and-l, and-r) depth 14) .high;
+  travels = search (and-l, and-r) depth 14;
+  suited = search (and-l, and-r) depth 14;
+}
+
+is-asked : (me : Identity) (m : Message) (c : Controller) → Comes me m c → asked me m c ≡ true
+unfolding addressed
+is-asked me m c k = rw (k .valid, k .running, k .suited, eq-eqb _ _ (k .order), eq-eqb _ _ (k .n), eq-eqb _ _ (k .f), eq-eqb _ _ (k .to), is-member (me .n) (m .from) (k .from-low) (k .from-high), k .travels)
+
 not-coming-is : (me : Identity) (m : Message) (c : Controller) → (Comes me m c → ⊥) → receive me m c ≡ passedOver c
 unfolding receive
-not-coming-is me m c h = rw (refuted (validIdentity me && runs c && addressed me m && suits m) h)
+not-coming-is me m c h = rw (refuted (asked me m c) (λ e. h (comes-is me m c e)))
 
 -- a rule that does not take a message passes it over, with nothing changed
 record Passed (c : Controller) (a : Answer) : Type 0 where
@@ -70,16 +92,16 @@ arrives-passed Helped n f j s c = helped-cases (Passed c) n f j s c (λ p h. cou
 
 passed-is : (me : Identity) (m : Message) (c : Controller) → Comes me m c → isTaken ((untested me m c) .reception) ≡ false → receive me m c ≡ passedOver c
 unfolding receive tested
-passed-is me m c k t = rw (k, t) (arrives-passed (m .kind) (me .n) (me .f) (m .from) (m .votes) c .is t)
+passed-is me m c k t = rw (is-asked me m c k, t) (arrives-passed (m .kind) (me .n) (me .f) (m .from) (m .votes) c .is t)
 
 refused-is : (me : Identity) (m : Message) (c : Controller) → Comes me m c → isTaken ((untested me m c) .reception) ≡ true → OneHeld (me .n) c (m .votes)
     → receptionNumber ((receive me m c) .reception) ≡ 24
 unfolding receive tested contradicted
-refused-is me m c k t h = rw (k, t, found-held (me .n) c (m .votes) h)
+refused-is me m c k t h = rw (is-asked me m c k, t, found-held (me .n) c (m .votes) h)
 
 received-is : (me : Identity) (m : Message) (c : Controller) → Comes me m c → (OneHeld (me .n) c (m .votes) → ⊥) → receive me m c ≡ untested me m c
 unfolding receive tested
-received-is me m c k h = rw (k, refuted (contradictsHeld (me .n) c (m .votes)) (λ e. h (held-found (me .n) c (m .votes) e)), and-false)
+received-is me m c k h = rw (is-asked me m c k, refuted (contradictsHeld (me .n) c (m .votes)) (λ e. h (held-found (me .n) c (m .votes) e)), and-false)
 
 -- No rule refuses: a refusal comes of the test alone, and changes nothing.
 abbrev Unchanged : Controller → Answer → Type 0
@@ -101,7 +123,7 @@ arrives-answered kind n f j s c = record { is = λ e. absurd (no-both (isContrad
 
 receive-answered : (me : Identity) (m : Message) (c : Controller) → Answered c (receive me m c)
 unfolding receive tested
-receive-answered me m c = by-cond (Answered c) (validIdentity me && runs c && addressed me m && suits m) _ _
+receive-answered me m c = by-cond (Answered c) (asked me m c) _ _
     (λ e. by-cond (Answered c) (isTaken ((untested me m c) .reception) && contradictsHeld (me .n) c (m .votes)) _ _ (λ q. record { is = λ z. refl }) (λ q. arrives-answered (m .kind) (me .n) (me .f) (m .from) (m .votes) c))
     (λ e. unfold passedOver in record { is = taken-not })
 
@@ -111,9 +133,9 @@ record Refusal (me : Identity) (m : Message) (c : Controller) (a : Answer) : Typ
 
 receive-refusal : (me : Identity) (m : Message) (c : Controller) → Refusal me m c (receive me m c)
 unfolding receive tested
-receive-refusal me m c = by-cond (Refusal me m c) (validIdentity me && runs c && addressed me m && suits m) _ _
+receive-refusal me m c = by-cond (Refusal me m c) (asked me m c) _ _
     (λ e. by-cond (Refusal me m c) (isTaken ((untested me m c) .reception) && contradictsHeld (me .n) c (m .votes)) _ _
-    (λ q. record { why = λ z. (e, and-l (isTaken ((untested me m c) .reception)) _ q, held-found (me .n) c (m .votes) (and-r (isTaken ((untested me m c) .reception)) _ q)) })
+    (λ q. record { why = λ z. (comes-is me m c e, and-l (isTaken ((untested me m c) .reception)) _ q, held-found (me .n) c (m .votes) (and-r (isTaken ((untested me m c) .reception)) _ q)) })
     (λ q. record { why = λ z. absurd (no-both (isContradicted ((untested me m c) .reception)) (refused-by ((untested me m c) .reception) z) (arrives-unrefused (m .kind) (me .n) (me .f) (m .from) (m .votes) c .is)) }))
     (λ e. unfold passedOver in record { why = λ z. taken-not z })
 
@@ -156,10 +178,6 @@ puts-same : (n f i : ℕ) (c c′ : Controller) → SameOn i c (becomes c′) �
 unfolding becomes proposing propose
 puts-same n f i c c′ h = sufficient-cases (SameOn i c) n f _ (λ q. record { known = h .known; willing = h .willing }) (λ q. h)
 
-sender-of : (me : Identity) (m : Message) → addressed me m ≡ true → (isController (me .n) (m .from) ≡ true) × (route (me .f) (m .kind) (m .from) (me .id) ≡ true)
-unfolding addressed
-sender-of me m e = (search (and-l, and-r) depth 8, search (and-l, and-r) depth 8)
-
 pub small-of : (me : Identity) → validIdentity me ≡ true → me .n ≤ limit
 unfolding validIdentity
 small-of me e = ranges (me .n) (me .f) (search (and-l, and-r)) .small
@@ -172,37 +190,20 @@ module _ (me : Identity) (m : Message) (c : Controller) (k : Comes me m c) where
   abbrev s : VoteSet
   s = m .votes
 
-  valid : validIdentity me ≡ true
-  valid = and-l (validIdentity me) _ (and-l (validIdentity me && runs c) _ (and-l (validIdentity me && runs c && addressed me m) _ k))
-
-  meant : addressed me m ≡ true
-  meant = and-r (validIdentity me && runs c) _ (and-l (validIdentity me && runs c && addressed me m) _ k)
-
-  pub suited : suits m ≡ true
-  suited = and-r (validIdentity me && runs c && addressed me m) _ k
-
-  pub sender : (isController (me .n) (m .from) ≡ true) × (route (me .f) (m .kind) (m .from) i ≡ true)
-  sender = sender-of me m meant
-
-  small : me .n ≤ limit
-  small = small-of me valid
-
   from-range : (1 ≤ m .from) × (m .from ≤ width)
-  from-range =
-      let r = member (me .n) (m .from) (sender .0) in
-      (r .low, let y : me .n ≤ limit = small in omega (arith, r .high))
+  from-range = (k .from-low, let y : me .n ≤ limit = small-of me (k .valid) in omega (arith, k .from-high))
 
   pub unknown : m .kind ≡ Vote → knows s i ≡ false
   unknown e = ap (λ (x : ℕ). has x i) just ∙ has-insert 0 (m .from) i (from-range .0) (from-range .1) ∙ upd-other (has 0) (m .from) true i (ne-eqb i (m .from) (λ z. eqb-false (m .from) i other (sym z))) ∙ has-none i
     where
       just : s .known ≡ insert 0 (m .from)
-      just = eqb-true _ _ (unfold suits knowsForKind in (rw e at (and-r (bitsInRange m && within (m .votes .willing) (m .votes .known)) _ suited)))
+      just = eqb-true _ _ (unfold suits knowsForKind in (rw e at (and-r (bitsInRange m && within (m .votes .willing) (m .votes .known)) _ (k .suited))))
 
       other : eqb (m .from) i ≡ false
-      other = not-true _ (unfold route voteRoute in (and-l (not (eqb (m .from) i)) _ (rw e at (sender .1))))
+      other = not-true _ (unfold route voteRoute in (and-l (not (eqb (m .from) i)) _ (rw e at (k .travels))))
 
   unwilled : m .kind ≡ Vote → wills s i ≡ false
-  unwilled e = refuted (wills s i) (λ x. no-both (knows s i) (within-has (s .willing) (s .known) (unfold suits in and-r (bitsInRange m) _ (and-l (bitsInRange m && within (m .votes .willing) (m .votes .known)) _ suited)) i x) (unknown e))
+  unwilled e = refuted (wills s i) (λ x. no-both (knows s i) (within-has (s .willing) (s .known) (unfold suits in and-r (bitsInRange m) _ (and-l (bitsInRange m && within (m .votes .willing) (m .votes .known)) _ (k .suited))) i x) (unknown e))
 
   arrives-same : (kind : Kind) → m .kind ≡ kind → SameOn i c (arrives kind (me .n) (me .f) (m .from) s c)
   unfolding arrives
@@ -213,8 +214,8 @@ module _ (me : Identity) (m : Message) (c : Controller) (k : Comes me m c) where
 
 receive-same : (me : Identity) (m : Message) (c : Controller) → SameOn (me .id) c (receive me m c)
 unfolding receive tested
-receive-same me m c = by-cond (SameOn (me .id) c) (validIdentity me && runs c && addressed me m && suits m) _ _
-    (λ e. by-cond (SameOn (me .id) c) (isTaken ((untested me m c) .reception) && contradictsHeld (me .n) c (m .votes)) _ _ (λ q. refused-same (me .id) c) (λ q. arrives-same me m c e (m .kind) refl))
+receive-same me m c = by-cond (SameOn (me .id) c) (asked me m c) _ _
+    (λ e. by-cond (SameOn (me .id) c) (isTaken ((untested me m c) .reception) && contradictsHeld (me .n) c (m .votes)) _ _ (λ q. refused-same (me .id) c) (λ q. arrives-same me m c (comes-is me m c e) (m .kind) refl))
     (λ e. passed-same (me .id) c)
 
 -- the own vote -----------------------------------------------------------------------------
@@ -268,19 +269,14 @@ ack-taken n f j s c h e = rw (h, e) (sufficient-cases (λ (a : Answer). isTaken 
 again-is : (me : Identity) (w : Bool) (t : ℕ) (c : Controller) (m : Message) → MayVote me c → contradicts (ackOf c (m .from)) (single (me .id) w) ≡ true
     → m .kind ≡ Ack → Comes me m ((vote me w t c) .controller) → isTaken ((untested me m ((vote me w t c) .controller)) .reception) ≡ true
 unfolding arrives
-again-is me w t c m ok e k h = rw k (ack-taken (me .n) (me .f) (m .from) (m .votes) _ (dropped-is me w t c ok (m .from) low high e) (early-after me w t c ok))
-  where
-    from-is : isController (me .n) (m .from) ≡ true
-    from-is = sender me m ((vote me w t c) .controller) h .0
-
-    low : 1 ≤ m .from
-    low = member (me .n) (m .from) from-is .low
-
-    high : m .from ≤ me .n
-    high = member (me .n) (m .from) from-is .high
+again-is me w t c m ok e k h = rw k (ack-taken (me .n) (me .f) (m .from) (m .votes) _ (dropped-is me w t c ok (m .from) (h .from-low) (h .from-high) e) (early-after me w t c ok))
 
 pub strays : Strays
 strays = record {
+  another-order = λ me m c h. not-coming-is me m c (λ k. h (k .order));
+  another-n = λ me m c h. not-coming-is me m c (λ k. h (k .n));
+  another-f = λ me m c h. not-coming-is me m c (λ k. h (k .f));
+  another-receiver = λ me m c h. not-coming-is me m c (λ k. h (k .to));
   not-coming = not-coming-is;
   refused = refused-is;
   refused-only = λ me m c. receive-refusal me m c .why;
