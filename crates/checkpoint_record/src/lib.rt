@@ -7,10 +7,11 @@ use records::number4;
 use records::outcome_of;
 use records::write_record;
 ghost use mathlib.Core.Path.{_≡_};
+ghost use mathlib.Core.List.{[], _∷_};
 ghost use lib.ListN.{length};
 ghost use Rattle.model.specs.Questions.{firstNo, number};
 ghost use Rattle.records.specs.Codec.{recordLength, valueOn, bytesOf, reads, writeReply, writes};
-ghost use Rattle.records.specs.Promises.{Promises};
+ghost use Rattle.records.specs.Promises.{Promises, AskedInSequence};
 ghost use Rattle.checkpoint_record.specs.Checkpoints.{aboutCheckpoint, answerOf, checkpoints};
 
 // A record, or the number of the first question that was answered "no".
@@ -116,4 +117,9 @@ pub fn answer_of(read: ReadCheckpoint) -> u8
 // What is promised of these records: reading answers as the questions do, both round trips, and a refused write's buffer.
 pub fn round_trips()
     ensures { λ _. ⌜ Promises checkpoints ⌝ }
+{}
+
+// In which sequence the questions are put: to a record that is read; to a buffer and a checkpoint to be written into it.
+pub fn asked_in_sequence()
+    ensures { λ _. ⌜ AskedInSequence checkpoints (1 ∷ 2 ∷ 3 ∷ 4 ∷ 7 ∷ 8 ∷ 11 ∷ []) (1 ∷ 4 ∷ 7 ∷ 8 ∷ 11 ∷ []) ⌝ }
 {}

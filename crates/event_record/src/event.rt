@@ -10,10 +10,11 @@ use records::low_byte;
 use records::number4;
 use records::write_record;
 ghost use mathlib.Core.Path.{_≡_};
+ghost use mathlib.Core.List.{[], _∷_};
 ghost use lib.ListN.{length};
 ghost use Rattle.model.specs.Questions.{number};
 ghost use Rattle.records.specs.Codec.{fieldsOn, writeReply, writes};
-ghost use Rattle.records.specs.Promises.{Promises};
+ghost use Rattle.records.specs.Promises.{Promises, AskedInSequence};
 ghost use Rattle.event_record.specs.Events.{answerOf, fieldsIn, fieldsOf, events, eventLength, readEvent, eventBytes};
 
 // The fields as they stand on the record.
@@ -155,4 +156,9 @@ pub fn answer_of(read: ReadEvent) -> u8
 // What is promised of these records: reading answers as the questions do, both round trips, and a refused write's buffer.
 pub fn round_trips()
     ensures { λ _. ⌜ Promises events ⌝ }
+{}
+
+// In which sequence the questions are put: "Reading an event record puts 1 to 3", and writing asks 1 of the buffer.
+pub fn asked_in_sequence()
+    ensures { λ _. ⌜ AskedInSequence events (1 ∷ 2 ∷ 3 ∷ []) (1 ∷ []) ⌝ }
 {}

@@ -3,6 +3,7 @@ mod event;
 mod kinds;
 
 pub use event::answer_of;
+pub use event::asked_in_sequence;
 pub use event::fields_of;
 pub use event::read_event;
 pub use event::round_trips;

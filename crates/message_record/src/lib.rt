@@ -13,10 +13,11 @@ use records::number4;
 use records::write_record;
 use votes::VoteSet;
 ghost use mathlib.Core.Path.{_≡_};
+ghost use mathlib.Core.List.{[], _∷_};
 ghost use lib.ListN.{length};
 ghost use Rattle.model.specs.Questions.{number};
 ghost use Rattle.records.specs.Codec.{recordLength, valueOn, bytesOf, reads, writeReply, writes};
-ghost use Rattle.records.specs.Promises.{Promises};
+ghost use Rattle.records.specs.Promises.{Promises, AskedInSequence};
 ghost use Rattle.message_record.specs.Messages.{answerOf, messages};
 
 // A record, or the number of the first question that was answered "no".
@@ -114,4 +115,9 @@ pub fn answer_of(read: ReadMessage) -> u8
 // What is promised of these records: reading answers as the questions do, both round trips, and a refused write's buffer.
 pub fn round_trips()
     ensures { λ _. ⌜ Promises messages ⌝ }
+{}
+
+// In which sequence the questions are put: to a record that is read; to a buffer and a message to be written into it.
+pub fn asked_in_sequence()
+    ensures { λ _. ⌜ AskedInSequence messages (1 ∷ 2 ∷ 3 ∷ 4 ∷ 7 ∷ 8 ∷ 9 ∷ 10 ∷ []) (1 ∷ 4 ∷ 7 ∷ 8 ∷ 9 ∷ 10 ∷ []) ⌝ }
 {}

@@ -1,7 +1,7 @@
 -- Document 01, "Questions put to a record or event": how an answer comes of a list of them.
 use Prim.Native.Nat.{ℕ}
 use mathlib.Core.Bool.{Bool, true, false}
-use mathlib.Core.List.{List, [], _∷_}
+use mathlib.Core.List.{List, [], _∷_, map}
 
 -- accepted, or refused with the number of the first question answered "no"
 pub data Reply : Type 0 where
@@ -24,6 +24,10 @@ pub record Question : Type 0 where
 
 abbrev pub ask : ℕ → Bool → Question
 ask q t = record { number = q; yes = t }
+
+-- the numbers of questions, in their sequence
+abbrev pub numbersAsked : List Question → List ℕ
+numbersAsked qs = map (λ q. q .number) qs
 
 -- "The first "no" gives its number."
 unfoldable pub unless : ℕ → Bool → Reply → Reply

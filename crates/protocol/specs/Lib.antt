@@ -12,6 +12,7 @@ pub mod Benches
 pub mod Events
 pub mod Questions
 pub mod QuestionLaws
+pub mod AskedInSequence
 pub mod Steps
 -- "The bench program": what is shown
 pub mod Display

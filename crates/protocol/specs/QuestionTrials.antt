@@ -1,5 +1,5 @@
 -- Trials of the questions: an event beside the number that it gives, 0 where it is accepted. Document 01, "Questions put to a record or event": "In this sequence,
--- each where it applies. .. The first "no" gives its number." (QuestionSequence has the sequence of every kind's numbers.)
+-- each where it applies. .. The first "no" gives its number." (AskedInSequence has the numbers of every kind in their sequence.)
 use Prim.Native.Nat.{ℕ}
 use mathlib.Core.Bool.{Bool, true, false, _&&_}
 use mathlib.Core.List.{List, [], _∷_, _++_}

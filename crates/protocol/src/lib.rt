@@ -1,5 +1,6 @@
 // The state of the controllers and of the bench. The rules over it stand in specs/, and so does the claim about them.
 ghost use Rattle.protocol.specs.Alone.{ControllerAlone};
+ghost use Rattle.protocol.specs.AskedInSequence.{AskedInSequence};
 ghost use Rattle.protocol.specs.Claim.{Demand3};
 ghost use Rattle.protocol.specs.KeptCheckpoints.{KeptCheckpoints};
 ghost use Rattle.protocol.specs.NoContradiction.{NoContradiction};
@@ -213,6 +214,11 @@ pub fn sent_once()
 // The number of gates still open that the bench keeps is the full count, after every list of events, and question 13 goes by it as document 01 says.
 pub fn open_count()
     ensures { λ _. ⌜ OpenCount ⌝ }
+{}
+
+// The numbers of the questions that the bench puts to each kind of event, in their sequence, of every bench.
+pub fn asked_in_sequence()
+    ensures { λ _. ⌜ ((b : Bench) → AskedInSequence b) ⌝ }
 {}
 
 // After an accepted save a controller's checkpoint (document 01: its card) is what was shown of it then, until its next accepted one; before the first it has none.

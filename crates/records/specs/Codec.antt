@@ -83,8 +83,11 @@ module _ {A R : Type 0} (c : Codec A R) where
   reads s = returned (firstNo (readQuestions s)) (valueOn s)
 
   -- writing asks 1 of the buffer; there is no mark to ask 2 of, and kinds, outcomes and flags are listed ones
+  abbrev pub writeQuestions : List ℕ → A → List Question
+  writeQuestions out a = ask 1 (eqb (length out) recordLength) ∷ c .asked a
+
   unfoldable pub writeReply : List ℕ → A → Reply
-  writeReply out a = firstNo (ask 1 (eqb (length out) recordLength) ∷ c .asked a)
+  writeReply out a = firstNo (writeQuestions out a)
 
   -- a buffer after writing: the record's bytes, or what it held before
   abbrev pub written : Reply → A → List ℕ → List ℕ

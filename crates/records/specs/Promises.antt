@@ -2,9 +2,9 @@
 use Prim.Native.Nat.{ℕ, _<_, _^_}
 use mathlib.Core.Path.{_≡_}
 use mathlib.Core.List.{List, [], _∷_}
-use Rattle.model.specs.Questions.{Reply, accepted, refused, firstNo}
+use Rattle.model.specs.Questions.{Reply, accepted, refused, numbersAsked, firstNo}
 use Rattle.records.specs.Bytes.{AllBytes, Width, one, two, four}
-use Rattle.records.specs.Codec.{Reading, isRecord, isRefusal, Codec, bytesOf, valueOn, readQuestions, reads, writeReply, writes}
+use Rattle.records.specs.Codec.{Reading, isRecord, isRefusal, Codec, bytesOf, valueOn, readQuestions, reads, writeQuestions, writeReply, writes}
 
 -- the code holds what stands in four bytes as a number of 32 bits
 abbrev pub In32Bits : List Width → List ℕ → Type 0
@@ -28,3 +28,8 @@ pub record Promises {A R : Type 0} (c : Codec A R) : Type 0 where
   pub writes-back : (s : List ℕ) (a : A) → AllBytes s → reads c s ≡ c .read a → bytesOf c a ≡ s
   -- "a refused write leaves its buffer untouched"
   pub untouched : (out : List ℕ) (a : A) (q : ℕ) → writeReply c out a ≡ refused q → writes c out a ≡ out
+
+-- "In this sequence, each where it applies": the numbers of the questions that reading puts, and of those that writing does
+pub record AskedInSequence {A R : Type 0} (c : Codec A R) (reading writing : List ℕ) : Type 0 where
+  pub at-reading : (s : List ℕ) → numbersAsked (readQuestions c s) ≡ reading
+  pub at-writing : (out : List ℕ) (a : A) → numbersAsked (writeQuestions c out a) ≡ writing
