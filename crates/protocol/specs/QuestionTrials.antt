@@ -47,12 +47,13 @@ schedules =
     ∷ gives (Restore 0) 5 ∷ [])
     -- "4. Are n and f in range?" before "6. Is no lock set up yet? (lock)"
     ∷ (locked ++ (gives (Lock 17 1) 4 ∷ gives (Lock 3 1) 6 ∷ gives (Lock 2 1) 6 ∷ []))
-    -- "7. Are controller numbers in 1 to n, sender and receiver different?" of every event with a controller, of a delivery's sender as of its receiver; before 10, 11 and 14
+    -- "7. Are controller numbers in 1 to n, sender and receiver different?" of every event with a controller, of a delivery's sender as of its receiver;
+    -- before 10, 11 and 14
     ∷ (locked ++ (gives (Cast 0 true 20001) 7 ∷ gives (Cast 4 true 20001) 7 ∷ gives (Deliver 0 1 Vote) 7 ∷ gives (Deliver 4 1 Vote) 7 ∷ gives (Deliver 1 0 Ack) 7
     ∷ gives (Deliver 1 4 Ack) 7 ∷ gives (Deliver 2 2 Help) 7 ∷ gives (Timeout 0) 7 ∷ gives (Timeout 4) 7 ∷ gives (Decide 0 true) 7 ∷ gives (Decide 4 true) 7
     ∷ gives (Stop 0) 7 ∷ gives (Stop 4) 7 ∷ gives (Save 0) 7 ∷ gives (Save 4) 7 ∷ gives (Restore 0) 7 ∷ gives (Restore 4) 7 ∷ []))
-    -- "10. May the kind travel so, by the rules above?" of every kind; before 14, which is what the others give. A vote goes "to every other controller of 1 to f; a holder
-    -- also sends one to f + 1"
+    -- "10. May the kind travel so, by the rules above?" of every kind; before 14, which is what the others give.
+    -- A vote goes "to every other controller of 1 to f; a holder also sends one to f + 1"
     ∷ (locked ++ sixWays Vote 14 10 14 10 14 10)
     -- an acknowledgement of a holder "to all others", of f + 1 "to the holders only"
     ∷ (locked ++ sixWays Ack 14 14 14 10 10 10)

@@ -22,12 +22,14 @@ late = Lock 3 1 ∷ Order 1 ∷ Cast 1 true 10 ∷ Cast 2 true 20 ∷ Cast 3 tru
 
 unfoldable pub ruleTrials : List Trial
 ruleTrials =
-    -- **Waiting**: "it puts a word: of the join of acknowledgements if it holds any, else of the join of help answers." 4 has 1's acknowledgement and its own answer, two of three
+    -- **Waiting**: "it puts a word: of the join of acknowledgements if it holds any, else of the join of help answers."
+    -- 4 has 1's acknowledgement and its own answer, two of three
     silent incomplete (allAccepted 11) (C 2 None 0 ∷ C 1 None 0 ∷ C 2 None 0 ∷ C 3 None 0 ∷ []) (T 4 3 2 0) (held 1 0 ∷ held 0 0 ∷ held 0 0 ∷ waits 1 1 ∷ [])
     -- 2's answer is the third; with the answers, all are known to be willing: but it holds an acknowledgement, by which 4 is not known, and puts Stay
     ∷ putting Stay (incomplete ++ (Timeout 2 ∷ Timeout 2 ∷ Deliver 4 2 Help ∷ Deliver 2 4 Helped ∷ [])) (allAccepted 15)
     (C 2 None 0 ∷ C 3 None 0 ∷ C 2 None 0 ∷ C 3 None 0 ∷ []) (T 4 4 4 1) (held 1 0 ∷ calledBy (4 ∷ []) (waits 0 1) ∷ held 0 0 ∷ proposed Stay 1 2 ∷ [])
-    -- **Bell at stage 2**: "Otherwise, if at least one is held, it puts the word of their join to the arbiter": of all that are held, that of f + 1 too. 1's own knows 1 alone, 2's knows both
+    -- **Bell at stage 2**: "Otherwise, if at least one is held, it puts the word of their join to the arbiter": of all that are held, that of f + 1 too.
+    -- 1's own knows 1 alone, 2's knows both
     ∷ putting Move (Lock 2 1 ∷ Order 1 ∷ Cast 1 true 500 ∷ Cast 2 true 250 ∷ Deliver 1 2 Vote ∷ Timeout 1 ∷ Timeout 2 ∷ Deliver 2 1 Ack ∷ Timeout 1 ∷ []) (allAccepted 9)
     (C 3 None 0 ∷ C 2 None 0 ∷ []) (T 2 2 0 0) (proposed Move 2 0 ∷ held 0 0 ∷ [])
     -- "After a word or an outcome, more of either is passed over." 2's acknowledgement comes to 1 after its word

@@ -1,5 +1,5 @@
--- Trials of stray messages (document 02, U7): what one controller, alone in its cabinet, answers to each of a list of calls, and how many acknowledgements and
--- help answers it has counted after them.
+-- Trials of stray messages (document 02, U7; document 01, **New order**): what one controller, alone in its cabinet, answers to each of a list of calls, and
+-- how many acknowledgements and help answers it has counted after them.
 use Prim.Native.Nat.{ℕ}
 use mathlib.Core.Bool.{Bool, true, false, _&&_}
 use mathlib.Core.List.{List, [], _∷_}
@@ -40,6 +40,10 @@ to1 kind from known willing = receiving (message 5 1 kind from 1 known willing)
 abbrev to5 : Kind → ℕ → ℕ → ℕ → Call
 to5 kind from known willing = receiving (message 5 1 kind from 5 known willing)
 
+-- an acknowledgement of 2 that knows 2, with this n, f, receiver and order
+abbrev ofTwo : ℕ → ℕ → ℕ → ℕ → Call
+ofTwo n f to order = receiving (record { kind = Ack; n = n; f = f; from = 2; to = to; order = order; votes = record { known = 2; willing = 2 } })
+
 unfoldable pub strays : List StrayTrial
 strays =
     -- "24, a delivered sheet that contradicts one held". A vote against the own vote set (3 was willing), and against an acknowledgement (2's has 3 willing)
@@ -78,4 +82,11 @@ strays =
     ∷ waiting (to5 Helped 3 4 4 ∷ to5 Help 4 0 0 ∷ to5 Help 2 4 0 ∷ []) (0 ∷ 0 ∷ 0 ∷ []) 0 2
     -- a vote set that does not suit its kind is passed over, though it contradicts: 3's vote that knows 2 as well
     ∷ backup (to1 Vote 2 2 2 ∷ to1 Vote 3 6 4 ∷ []) (0 ∷ 0 ∷ []) 0 0
+    -- Document 01: "a controller passes over any of another order, n or f, or meant for another controller". 2's acknowledgement is counted,
+    ∷ backup (ofTwo 5 1 1 1 ∷ []) (0 ∷ []) 1 0
+    -- and not one of order 2, of n = 4, of f = 2, or for 3
+    ∷ backup (ofTwo 5 1 1 2 ∷ []) (0 ∷ []) 0 0
+    ∷ backup (ofTwo 4 1 1 1 ∷ []) (0 ∷ []) 0 0
+    ∷ backup (ofTwo 5 2 1 1 ∷ []) (0 ∷ []) 0 0
+    ∷ backup (ofTwo 5 1 3 1 ∷ []) (0 ∷ []) 0 0
     ∷ []
