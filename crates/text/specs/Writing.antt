@@ -2,7 +2,7 @@
 use Prim.Native.Nat.{ℕ, _+_, _-_, _^_, _≤_, min}
 use mathlib.Core.Path.{_≡_}
 use mathlib.Core.Bool.{cond}
-use mathlib.Core.List.{List, _++_}
+use mathlib.Core.List.{List, [], _++_}
 use lib.Dec.{leb}
 use lib.ListN.{length, take, drop}
 use lib.Seq.{sets}
@@ -25,6 +25,10 @@ fitted text out = cond (leb (length text) (length out)) (text ++ drop (length te
 -- its length; or 0
 unfoldable pub fittedLength : List ℕ → List ℕ → ℕ
 fittedLength text out = cond (leb (length text) (length out)) (length text) 0
+
+-- The text at the front of an array of 22 bytes, up to a place in it; nothing, where the array has no such place.
+unfoldable pub lineTo : List ℕ → ℕ → List ℕ
+lineTo line end = cond (leb end 22) (take end line) []
 
 -- What is promised of a program's whole output `text` in a lent buffer, and of the length r that is answered. That r counts bytes of the buffer follows; it is
 -- said so that whoever lends `&buffer[..r]` on needs no proof of it.

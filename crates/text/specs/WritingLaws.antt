@@ -13,7 +13,7 @@ use lib.ListN.{length, set, take, drop, length-append, length-drop, replicate, l
 use lib.Seq.{sets, sets-eq, set-out, length-sets, length-take-le, take-append-seam}
 use Rattle.ground.specs.Tests.{by-cond, split}
 use Rattle.text.specs.Text.{lines}
-use Rattle.text.specs.Writing.{Put, fitted, fittedLength, Rendered, highest}
+use Rattle.text.specs.Writing.{Put, fitted, fittedLength, lineTo, Rendered, highest}
 
 sets-then : (s t l : List ℕ) (i : ℕ) → sets (sets l i s) (i + length s) t ≡ sets l i (s ++ t)
 sets-then [] t l i = rw add-zero
@@ -135,9 +135,10 @@ read-front {l} {m} {r} {text} h p =
     let e : r ≡ length text = measured (omega (arith, p .buffer)) p in
     (e, rw (e, p .bytes, front text l h) (take-append-seam text (drop (length text) l)))
 
--- the same of an array of its own: a line that is made there, and then lent on
-pub own-line : (n : ℕ) (text : List ℕ) {m : List ℕ} {r : ℕ} → length text ≤ n → Put (replicate n 0) m 0 r text → (take r m ≡ text) × (r ≤ n)
-own-line n text h p =
-    let l : length (replicate {A = ℕ} n 0) ≡ n = length-replicate n 0 in
+-- the same of an array of its own: a line that is made there is the text that was put
+pub line-put : (text : List ℕ) {line : List ℕ} {end : ℕ} → length text ≤ 22 → Put (replicate 22 0) line 0 end text → lineTo line end ≡ text
+unfolding lineTo
+line-put text {line} {end} h p =
+    let l : length (replicate {A = ℕ} 22 0) ≡ 22 = length-replicate {A = ℕ} 22 0 in
     let w = read-front (omega (arith, l)) p in
-    (w .1, omega (arith, w .0))
+    rw (le-leb end 22 (omega (arith, w .0))) (w .1)

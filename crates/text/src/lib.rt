@@ -2,11 +2,9 @@
 // buffer's end is left out, so that a buffer of no bytes serves to measure a text. A `write` function writes a whole text to the front of
 // the buffer and answers its length; or, where the buffer is too short, nothing and 0.
 ghost use mathlib.Core.Path.{_≡_};
-ghost use mathlib.Core.List.{List, _∷_, [], _++_};
-ghost use Prim.Native.Nat.{ℕ, _≤_};
-ghost use lib.ListN.{length, replicate};
+ghost use mathlib.Core.List.{_∷_, [], _++_};
 ghost use Rattle.text.specs.Text.{ascii, decimal, signed, refusal};
-ghost use Rattle.text.specs.Writing.{Put, fitted, fittedLength};
+ghost use Rattle.text.specs.Writing.{Put, fitted, fittedLength, lineTo};
 
 // No index is higher.
 const HIGHEST: usize = 0xFFFF_FFFF_FFFF_FFFF;
@@ -89,14 +87,15 @@ pub fn write_bytes(out: &mut [u8], bytes: &[u8]) -> usize
 // A line of two numbers is no longer.
 pub const LINE: usize = 22;
 
-// A line that was put at the front of an array of its own, whole or not at all.
+// A line that was put at the front of an array of its own, whole or not at all. An array has no place past its end: for such an `end` nothing is written.
 pub fn write_line(out: &mut [u8], line: [u8; LINE], end: usize) -> usize
-    ensures { λ r. ⌜ ((text : List ℕ) → length text ≤ 22 → Put (replicate 22 0) line 0 end text → (r ≡ fittedLength text (now (out .entry))) × (now (out .exit) ≡ fitted text (now (out .entry)))) ⌝ }
+    ensures { λ r. ⌜ r ≡ fittedLength (lineTo line end) (now (out .entry)) ⌝ }
+    ensures { λ r. ⌜ now (out .exit) ≡ fitted (lineTo line end) (now (out .entry)) ⌝ }
 {
-    if LINE < end {
-        return 0;
+    if end <= LINE {
+        return write_bytes(&mut *out, &line[..end]);
     }
-    write_bytes(&mut *out, &line[..end])
+    0
 }
 
 // A line with a dash and the number of a refusal: the one line of a program that refuses its whole input.

@@ -1,5 +1,5 @@
 -- `dues_output::write_totals` meets its contract.
-use Rattle.text.specs.WritingLaws.{put-then}
+use Rattle.text.specs.WritingLaws.{put-then, line-put, same-fitted}
 use Rattle.dues.specs.Printed.{totalsLine}
 use Rattle.dues.specs.PrintedLaws.{totals-length}
 use borrow.Author.Needs.{needs}
@@ -37,7 +37,7 @@ returns c =
     let second = last .before .before .before in
     let first = second .before .before .before in
     let t = first .before .before .before .args .t in
-    written .write-line .ensures (totalsLine t) (totals-length t) (put-then (first .put-number .ensures) (put-then (second .put-field .ensures) (last .put-byte .ensures)))
+    same-fitted _ (line-put (totalsLine t) (totals-length t) (put-then (first .put-number .ensures) (put-then (second .put-field .ensures) (last .put-byte .ensures)))) (written .write-line .ensures)
 
 pub write-totals-spec : {M : Type 1} → statement M
 write-totals-spec =
