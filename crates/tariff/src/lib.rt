@@ -3,6 +3,7 @@ mod charge;
 mod lookup;
 
 pub use charge::shares_of;
+pub use lookup::bands_in_order;
 
 // A band of the tariff: the highest length of its boats, in cm, and their charge, in pence.
 pub(crate) struct Band {

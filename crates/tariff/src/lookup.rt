@@ -1,10 +1,12 @@
 // The tariff, and the lookup in it.
 use crate::Band;
 ghost use mathlib.Core.Path.{_≡_};
-ghost use Rattle.tariff.specs.Tariff.{fullCharge, tariff};
+ghost use Rattle.tariff.specs.Tariff.{fullCharge, tariff, InOrder};
+
+const BANDS: usize = 6;
 
 // Six limits in cm, in rising order, and their charges in pence.
-const TARIFF: [Band; 6] = [
+const TARIFF: [Band; BANDS] = [
     Band {
         limit: 500,
         charge: 310,
@@ -36,7 +38,7 @@ pub(crate) fn full_charge(length: u32) -> u32
     ensures { λ r. ⌜ r ≡ fullCharge tariff length ⌝ }
 {
     let mut i: usize = 0;
-    while i < 6 {
+    while i < BANDS {
         let band = TARIFF[i];
         if length <= band.limit {
             return band.charge;
@@ -45,3 +47,8 @@ pub(crate) fn full_charge(length: u32) -> u32
     }
     0
 }
+
+// The limits rise, by one test over the whole tariff; so each band's charge is that of the lengths above the limit before it and up to its own.
+pub fn bands_in_order()
+    ensures { λ _. ⌜ InOrder tariff ⌝ }
+{}

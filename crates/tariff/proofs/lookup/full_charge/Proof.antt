@@ -2,17 +2,17 @@
 use Prim.Native.Nat.{_≤_, _-_}
 use mathlib.Core.Path.{_≡_, refl, sym, _∙_}
 use native.Mathlib.Omega.{arith}
-use lib.ListN.{drop}
+use lib.ListN.{length, drop}
 use Rattle.tariff.specs.Tariff.{tariff, fullCharge}
 use Rattle.tariff.specs.TariffLaws.{found-here, found-later}
 use Rattle.tariff.proofs.lookup.full_charge.Statement.{statement}
 use Rattle.tariff.proofs.lookup.full_charge.Tie as tie
 
 abbrev Inv-loop : tie.InvT-loop
-Inv-loop length i₀ i = (i ≤ 6) × (fullCharge tariff length ≡ fullCharge (drop i tariff) length)
+Inv-loop cm i₀ i = (i ≤ length tariff) × (fullCharge tariff cm ≡ fullCharge (drop i tariff) cm)
 
 abbrev μ-loop : tie.MeasureT-loop
-μ-loop length i₀ i = 6 - i
+μ-loop cm i₀ i = length tariff - i
 
 loop-holds : tie.Need-loop-holds Inv-loop μ-loop
 loop-holds c = (omega arith, refl)
@@ -41,7 +41,7 @@ loop-again c =
 
 returns-2 : tie.Need-returns-2 Inv-loop μ-loop
 unfolding fullCharge
-returns-2 c = let e : c .before .loop .i ≡ 6 = omega arith in sym (c .before .loop .inv .1 ∙ rw e)
+returns-2 c = let e : c .before .loop .i ≡ length tariff = omega arith in sym (c .before .loop .inv .1 ∙ rw e)
 
 pub full-charge-spec : {M : Type 1} → statement M
 full-charge-spec =
