@@ -40,7 +40,11 @@ nthOf [] k = AllSent
 nthOf (m ∷ ms) zero = Next m
 nthOf (m ∷ ms) (suc k) = nthOf ms k
 
--- what that says, as values: one message, or none
+-- what that says in document 01's terms: 0, since nothing is asked of it and so nothing refused; and, as values, one message or none
+abbrev pub toSendNumber : ToSend → ℕ
+toSendNumber AllSent = 0
+toSendNumber (Next m) = 0
+
 abbrev pub toSendValues : ToSend → List Message
 toSendValues AllSent = []
 toSendValues (Next m) = m ∷ []
@@ -48,4 +52,5 @@ toSendValues (Next m) = m ∷ []
 -- what is promised of the message that has k before it: as values, the list's k-th, from 0 on, or none where there are not so many
 pub record NthMessageOf (me : Identity) (sends : Sends) (k : ℕ) (r : ToSend) : Type 0 where
   pub answer : r ≡ nthOf (messagesOf me sends) k
+  pub number : toSendNumber r ≡ 0
   pub values : toSendValues r ≡ take 1 (drop k (messagesOf me sends))

@@ -17,7 +17,7 @@ use Rattle.protocol.specs.declared.Identity.{Identity}
 use Rattle.protocol.specs.declared.Sends.{Sends}
 use Rattle.protocol.specs.declared.ToSend.{ToSend}
 use Rattle.protocol.specs.declared.ToSend.the-variants.{AllSent, Next}
-use Rattle.protocol.specs.Sequence.{members, messagesOf, nthOf, toSendValues, NthMessageOf}
+use Rattle.protocol.specs.Sequence.{members, messagesOf, nthOf, toSendNumber, toSendValues, NthMessageOf}
 
 -- as many members as the set has of 1 to m
 pub members-size : (m set : ℕ) → length (members m set) ≡ countTo m (has set)
@@ -84,6 +84,10 @@ nth-end g [] k h = refl
 nth-end g (x ∷ xs) zero h = absurd (omega arith)
 nth-end g (x ∷ xs) (suc k) h = nth-end g xs k (omega arith)
 
+number-of : (r : ToSend) → toSendNumber r ≡ 0
+number-of AllSent = refl
+number-of (Next m) = refl
+
 values-of : (ms : List Message) (k : ℕ) → toSendValues (nthOf ms k) ≡ take 1 (drop k ms)
 unfolding nthOf
 values-of [] zero = refl
@@ -92,4 +96,4 @@ values-of (m ∷ ms) zero = refl
 values-of (m ∷ ms) (suc k) = values-of ms k
 
 pub nth-message-of : (me : Identity) (sends : Sends) (k : ℕ) (r : ToSend) → r ≡ nthOf (messagesOf me sends) k → NthMessageOf me sends k r
-nth-message-of me sends k r e = rw e (record { answer = refl; values = values-of (messagesOf me sends) k })
+nth-message-of me sends k r e = rw e (record { answer = refl; number = number-of (nthOf (messagesOf me sends) k); values = values-of (messagesOf me sends) k })
