@@ -1,14 +1,13 @@
 -- What the dues program prints: the upper and the lower total, or "-" and the number with which the sheet is refused.
 use Prim.Native.Nat.{ℕ}
-use mathlib.Core.Bool.{cond}
+use mathlib.Core.Bool.{Bool}
 use mathlib.Core.List.{List, [], _∷_}
-use lib.Dec.{ltb}
-use lib.ListN.{length}
 use Rattle.text.specs.Text.{decimal, line, refusal}
 use Rattle.tariff.specs.declared.Shares.{Shares}
 use Rattle.dues.specs.declared.Answer.{Answer}
 use Rattle.dues.specs.declared.Answer.the-variants.{Totals, Refused}
 use Rattle.dues.specs.Sheet.{duesFor}
+use Rattle.dues.specs.Pieces.{longDues}
 
 abbrev pub totalsLine : Shares → List ℕ
 totalsLine t = line (decimal (t .upper) ∷ decimal (t .lower) ∷ [])
@@ -17,12 +16,9 @@ unfoldable pub answerLine : Answer → List ℕ
 answerLine (Totals t) = totalsLine t
 answerLine (Refused q) = refusal q
 
--- so many bytes the program holds. A longer sheet has more than 1,000 lockages: 22
-abbrev pub held : ℕ
-held = 65536
-
-unfoldable pub heldAnswer : List ℕ → Answer
-heldAnswer s = cond (ltb held (length s)) (Refused 22) (duesFor s)
-
+-- of a whole sheet; and of one that came in pieces, from what is kept and the last piece
 abbrev pub outputOf : List ℕ → List ℕ
-outputOf s = answerLine (heldAnswer s)
+outputOf s = answerLine (duesFor s)
+
+abbrev pub longOutput : Bool → List ℕ → List ℕ
+longOutput all s = answerLine (longDues all s)

@@ -1,10 +1,14 @@
 // A sheet of lockages: the questions put to it, what the two owners get of it, and what is printed of that.
 mod output;
+mod pieces;
 mod sheet;
 
-pub use output::HELD;
 pub use output::LONGEST_OUTPUT;
 pub use output::render;
+pub use output::render_long;
+pub use pieces::PIECE;
+pub use pieces::in_pieces;
+pub use pieces::kept_after;
 pub use sheet::dues;
 use tariff::Shares;
 

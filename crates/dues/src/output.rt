@@ -1,5 +1,6 @@
 // What the dues program prints, in a lent buffer.
 use crate::Answer;
+use crate::pieces::long_dues;
 use crate::sheet::dues;
 use tariff::Shares;
 use text::LINE;
@@ -10,10 +11,7 @@ use text::write_line;
 use text::write_refusal;
 ghost use mathlib.Core.Path.{_≡_};
 ghost use Rattle.text.specs.Writing.{fitted, fittedLength, Rendered};
-ghost use Rattle.dues.specs.Printed.{totalsLine, heldAnswer, outputOf};
-
-// So many bytes the program holds; a longer sheet it refuses with 22.
-pub const HELD: usize = 65536;
+ghost use Rattle.dues.specs.Printed.{totalsLine, answerLine, outputOf, longOutput};
 
 // No output is longer: `always-fits`, in specs/PrintedLaws.
 pub const LONGEST_OUTPUT: usize = LINE;
@@ -30,22 +28,26 @@ fn write_totals(out: &mut [u8], t: Shares) -> usize
     write_line(&mut *out, line, end)
 }
 
-// The answer to a sheet that the program holds.
-fn held_answer(s: &[u8]) -> Answer
-    ensures { λ r. ⌜ r ≡ heldAnswer (now (s .entry)) ⌝ }
+fn write_answer(out: &mut [u8], answer: Answer) -> usize
+    ensures { λ r. ⌜ r ≡ fittedLength (answerLine answer) (now (out .entry)) ⌝ }
+    ensures { λ r. ⌜ now (out .exit) ≡ fitted (answerLine answer) (now (out .entry)) ⌝ }
 {
-    if HELD < s.len() {
-        return Answer::Refused(22);
+    match answer {
+        Answer::Totals(t) => write_totals(&mut *out, t),
+        Answer::Refused(q) => write_refusal(&mut *out, q as u32),
     }
-    dues(s)
 }
 
 // Writes the program's whole output for a sheet to the front of the buffer and answers its length; 0, and nothing written, if it does not fit.
 pub fn render(s: &[u8], out: &mut [u8]) -> usize
     ensures { λ r. ⌜ Rendered (outputOf (now (s .entry))) (now (out .entry)) (now (out .exit)) r ⌝ }
 {
-    match held_answer(s) {
-        Answer::Totals(t) => write_totals(&mut *out, t),
-        Answer::Refused(q) => write_refusal(&mut *out, q as u32),
-    }
+    write_answer(&mut *out, dues(s))
+}
+
+// The same for a sheet in pieces, from what is kept of those before and the last one: `in_pieces` says that this is the output for the whole sheet.
+pub fn render_long(kept: bool, s: &[u8], out: &mut [u8]) -> usize
+    ensures { λ r. ⌜ Rendered (longOutput kept (now (s .entry))) (now (out .entry)) (now (out .exit)) r ⌝ }
+{
+    write_answer(&mut *out, long_dues(kept, s))
 }

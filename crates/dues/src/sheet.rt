@@ -73,6 +73,14 @@ fn check_all(s: &[u8]) -> Checks
     }
 }
 
+// Is every lockage of a sheet listed?
+pub(crate) fn all_listed(s: &[u8]) -> bool
+    ensures { λ r. ⌜ r ≡ every listed (lockages (now (s .entry))) ⌝ }
+{
+    let checks = check_all(s);
+    checks.listed
+}
+
 // A call and no `&&`, so that a loop has one way through.
 fn both(a: bool, b: bool) -> bool
     ensures { λ r. ⌜ r ≡ (a && b) ⌝ }

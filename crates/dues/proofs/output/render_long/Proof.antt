@@ -1,0 +1,25 @@
+-- `dues::render_long` meets its contract.
+use Rattle.text.specs.WritingLaws.{same-fitted, rendered}
+use mathlib.Core.Path.{ap}
+use Rattle.dues.specs.Printed.{answerLine}
+use borrow.Author.Needs.{needs}
+use Rattle.dues.proofs.output.render_long.Statement.{statement}
+use Rattle.dues.proofs.output.render_long.Tie as tie
+
+long-dues-requires : tie.Need-long-dues-requires
+long-dues-requires c κs = search needs
+
+write-answer-requires : tie.Need-write-answer-requires
+write-answer-requires c κs = search needs
+
+same-length : tie.Need-same-length
+same-length c = search needs
+
+returns : tie.Need-returns
+returns c =
+    let written = c .before .before in
+    rendered _ _ (same-fitted _ (ap answerLine (written .before .long-dues .ensures)) (written .write-answer .ensures))
+
+pub render-long-spec : {M : Type 1} → statement M
+render-long-spec =
+    tie.close (tie.spec long-dues-requires write-answer-requires same-length returns)

@@ -1,0 +1,70 @@
+// Standard input and output of a program. Where one fails, a line on standard error says which, and the system's word for it.
+ghost use Prim.Native.Nat.{_+_, _≤_};
+ghost use lib.ListN.{length};
+ghost use Rattle.io.specs.Counts.{Counts};
+use libc::STDIN_FILENO;
+use libc::STDOUT_FILENO;
+
+// How many bytes were read, and whether reading failed before the buffer was full or the input at its end.
+pub struct Input {
+    pub count: usize,
+    pub failed: bool,
+}
+
+// Reads standard input until the buffer is full, the input ends or reading fails. Which of these it is, and the bytes, are the system's to say; in each
+// case the count is of bytes at the buffer's front.
+pub fn read_input(buf: &mut [u8]) -> Input
+    ensures { λ r. ⌜ Counts (r .count) (now (buf .exit)) ⌝ }
+{
+    let mut count: usize = 0;
+    while count < buf.len() {
+        let more = read_on(&mut *buf, count);
+        if more.failed {
+            return Input {
+                count,
+                failed: true,
+            };
+        }
+        if more.count == 0 {
+            return Input {
+                count,
+                failed: false,
+            };
+        }
+        count += more.count;
+    }
+    Input {
+        count,
+        failed: false,
+    }
+}
+
+// One read, into the buffer from a place on.
+fn read_on(buf: &mut [u8], from: usize) -> Input
+    requires { ⌜ from ≤ length (now buf) ⌝ }
+    ensures { λ r. ⌜ from + r .count ≤ length (now (buf .exit)) ⌝ }
+{
+    let part = &mut buf[from..];
+    let got = libc::read(STDIN_FILENO, part);
+    if got < 0 {
+        os::fail(b"standard input");
+        return Input {
+            count: 0,
+            failed: true,
+        };
+    }
+    let count = io::count(got, part);
+    Input {
+        count,
+        failed: false,
+    }
+}
+
+// Writes a text to standard output and answers whether all of it was taken, which is the system's to say.
+pub fn write_output(text: &[u8]) -> bool {
+    let written = io::write_all(STDOUT_FILENO, text);
+    if !written {
+        os::fail(b"standard output");
+    }
+    written
+}
