@@ -3,6 +3,11 @@
 set -euo pipefail
 cd "$(dirname "$0")/.."
 ref=target/reference
+for tool in rt rustc; do
+    command -v "$tool" > /dev/null || { echo "benchmark: $tool is not on the PATH" >&2; exit 1; }
+done
+mkdir -p target
+echo "benchmark: the bench is proved and built first, which takes some minutes where nothing was proved yet" >&2
 rt staticlib bench_output > target/staticlib.log 2>&1 || { tail -n 5 target/staticlib.log >&2; exit 1; }
 reference/build.sh
 rustc --edition 2021 -O -L native=target/staticlib --extern reference="$ref/libreference.rlib" -o "$ref/benchmark" benchmark/main.rs

@@ -6,8 +6,6 @@ pub mod tally;
 pub const LOCKAGE_LENGTH: usize = 4;
 /// "A sheet of up to 1,000 lockages"
 pub const MAX_LOCKAGES: usize = 1_000;
-/// The program holds this many bytes; a longer sheet gets 22.
-pub const HELD: usize = 65_536;
 
 /// "length (2), outcome as on a card, 1 for such a return or 0"
 #[derive(Clone, Copy, Debug, PartialEq, Eq)]
@@ -105,12 +103,7 @@ pub fn dues(sheet: &[u8]) -> Result<Totals, u8> {
 
 /// What the program prints.
 pub fn dues_line(sheet: &[u8]) -> String {
-    let answer = if sheet.len() > HELD {
-        Err(22)
-    } else {
-        dues(sheet)
-    };
-    match answer {
+    match dues(sheet) {
         Ok(Totals { upper, lower }) => format!("{upper} {lower}\n"),
         Err(number) => format!("- {number}\n"),
     }

@@ -1,7 +1,9 @@
 //! What a set of sheets meets.
 
-use super::{dues, lockages, Lockage, HELD, MAX_LOCKAGES};
+use super::{dues, lockages, Lockage, MAX_LOCKAGES};
 
+/// Sheets that are longer count as long ones.
+const LONG: usize = 65_536;
 const LIMITS: [u16; 6] = [500, 800, 1_200, 1_600, 2_000, 2_500];
 
 #[derive(Clone, Debug, Default)]
@@ -10,7 +12,7 @@ pub struct Tally {
     empty: u64,
     most: u64,
     refused: [u64; 3],
-    longer: u64,
+    long: [u64; 3],
     one_with_three: u64,
     three_with_22: u64,
     three_too_many: u64,
@@ -25,23 +27,25 @@ pub struct Tally {
 
 impl Tally {
     pub fn add(&mut self, sheet: &[u8]) {
-        if sheet.len() > HELD {
-            self.longer += 1;
-            return;
-        }
         let rows = lockages(sheet);
+        let long = u64::from(sheet.len() > LONG);
         match dues(sheet) {
             Ok(_) => self.add_totals(&rows),
             Err(1) => {
                 self.refused[0] += 1;
+                self.long[0] += long;
                 self.one_with_three += u64::from(rows.iter().any(|row| row.outcome > 2));
             }
             Err(3) => {
                 self.refused[1] += 1;
+                self.long[1] += long;
                 self.three_with_22 += u64::from(rows.iter().any(|row| row.length == 0));
                 self.three_too_many += u64::from(rows.len() > MAX_LOCKAGES);
             }
-            Err(_) => self.add_22(&rows),
+            Err(_) => {
+                self.long[2] += long;
+                self.add_22(&rows);
+            }
         }
     }
 
@@ -107,7 +111,18 @@ impl Tally {
                 "refused with 22 for lockages that pay nothing".to_string(),
                 self.unpaid_length,
             ),
-            ("longer than the program holds".to_string(), self.longer),
+            (
+                "longer than 65,536 bytes, refused with 1".to_string(),
+                self.long[0],
+            ),
+            (
+                "longer than 65,536 bytes, refused with 3".to_string(),
+                self.long[1],
+            ),
+            (
+                "longer than 65,536 bytes, refused with 22".to_string(),
+                self.long[2],
+            ),
             ("lockages that pay nothing".to_string(), self.unpaid),
         ];
         for (band, limit) in LIMITS.into_iter().enumerate() {

@@ -1,6 +1,6 @@
 //! Sheets of lockages.
 
-use crate::dues::{Lockage, HELD, MAX_LOCKAGES};
+use crate::dues::{Lockage, MAX_LOCKAGES};
 use crate::rng::Rng;
 
 const EDGES: [u16; 14] = [
@@ -13,7 +13,8 @@ pub fn sheet(rng: &mut Rng, place: usize) -> Vec<u8> {
         0 => 0,
         1 => MAX_LOCKAGES,
         2 => MAX_LOCKAGES + 1,
-        3 => HELD / 4 + rng.between(0, 1),
+        // Sheets that a program may not hold at once: a little below, at and above one to three times 65,536 bytes.
+        3 | 5 | 6 | 7 => 16_384 * rng.between(1, 3) - 1 + rng.between(0, 2),
         4 => rng.between(900, 1_100),
         _ => rng.between(0, 12),
     };

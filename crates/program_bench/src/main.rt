@@ -1,15 +1,19 @@
 // The bench program: a schedule on standard input, the report on standard output.
 use bench_report::LONGEST_OUTPUT;
 use bench_report::LONGEST_SCHEDULE;
-use libc::STDIN_FILENO;
-use libc::STDOUT_FILENO;
+use streams::read_input;
+use streams::write_output;
 
 fn main() {
     // one byte more than a schedule may have, so that a longer one is known by it
     let mut input = [0u8; LONGEST_SCHEDULE + 1];
-    let n = io::read_full(STDIN_FILENO, &mut input);
+    let got = read_input(&mut input);
+    if got.failed {
+        return;
+    }
+    let n = got.count;
     // it holds every output of every input: `bench_output::always_prints`, by which the proof of this function goes
     let mut text = [0u8; LONGEST_OUTPUT];
     let length = bench_output::render(&input[..n], &mut text);
-    io::write_all(STDOUT_FILENO, &text[..length]);
+    write_output(&text[..length]);
 }

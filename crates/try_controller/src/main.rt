@@ -8,7 +8,6 @@ use command::identity_after;
 use command::is_command;
 use command::saved_by;
 use controller_state::fresh;
-use libc::STDIN_FILENO;
 use print::flush;
 use print::put_line;
 use protocol::Controller;
@@ -65,8 +64,10 @@ fn main() {
     let mut t = begin();
     let mut k: u32 = 0;
     while k < 100000 {
-        let n = io::read_full(STDIN_FILENO, &mut input);
+        let got = streams::read_input(&mut input);
+        let n = got.count;
         t = chunk(&input[..n], t, &mut out);
+        // where reading failed, what came before it is answered
         if n < 65520 {
             flush(&out, t.waiting);
             return;

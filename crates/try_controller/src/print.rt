@@ -4,7 +4,6 @@ use controller_state::is_standby;
 use controller_state::is_stopped;
 use controller_state::outcome_in;
 use controller_state::phase_in;
-use libc::STDOUT_FILENO;
 use model::Message;
 use model::Outcome;
 use model::kind_number;
@@ -160,7 +159,7 @@ fn put_messages(out: &mut [u8], at: usize, me: Identity, sends: Sends) -> usize 
 // The first n bytes go to standard output.
 pub(crate) fn flush(out: &[u8], n: usize) {
     if n <= out.len() {
-        io::write_all(STDOUT_FILENO, &out[..n]);
+        streams::write_output(&out[..n]);
     }
 }
 

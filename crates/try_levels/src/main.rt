@@ -1,19 +1,27 @@
 // Reads pairs of ranges, sixteen bytes each with nothing between, and prints of each what the levels program prints, a short last one
 // included. Another implementation prints the same.
 use levels_text::ROOM;
+use streams::read_input;
+use streams::write_output;
 
 const PAIR: usize = 16;
 
 // Answers the next pair, and whether there may be another.
 fn round() -> bool {
     let mut pair = [0u8; PAIR];
-    let n = io::read_full(libc::STDIN_FILENO, &mut pair);
+    let got = read_input(&mut pair);
+    if got.failed {
+        return false;
+    }
+    let n = got.count;
     if n == 0 {
         return false;
     }
     let mut text = [0u8; ROOM];
     let length = levels_text::render(&pair[..n], &mut text);
-    io::write_all(libc::STDOUT_FILENO, &text[..length]);
+    if !write_output(&text[..length]) {
+        return false;
+    }
     n == PAIR
 }
 

@@ -63,14 +63,16 @@ fn glyph(digit: u8) -> u8 {
     b'?'
 }
 
-fn show(text: [u8; 80], used: usize) {
+fn show(text: [u8; 80], used: usize) -> bool {
     if used <= 80 {
-        io::write_all(libc::STDOUT_FILENO, &text[..used]);
+        return streams::write_output(&text[..used]);
     }
+    false
 }
 
-pub(crate) fn print(line: Line) {
+// Prints a line, and answers whether all of it was taken.
+pub(crate) fn print(line: Line) -> bool {
     let ended = put(line, b'\n');
     let text = ended.text;
-    show(text, ended.used);
+    show(text, ended.used)
 }

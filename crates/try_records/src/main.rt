@@ -34,23 +34,31 @@ fn line_of(frame: &[u8]) -> Line
     writing::line_of(what, &frame[2..], &mut out[..size])
 }
 
-fn run(s: &[u8]) {
+// The frames of a chunk, one after the other; whether all lines were taken.
+fn run(s: &[u8]) -> bool {
     let mut at = 0;
     while FRAME <= s.len() - at {
         let end = at + FRAME;
-        line::print(line_of(&s[at..end]));
+        if !line::print(line_of(&s[at..end])) {
+            return false;
+        }
         at = end;
     }
+    true
 }
 
 // Reads and runs as many frames as there are at once, and answers whether there may be more.
 fn round() -> bool {
     let mut buf = [0u8; CHUNK];
-    let got = io::read_full(libc::STDIN_FILENO, &mut buf);
-    if got <= CHUNK {
-        run(&buf[..got]);
+    let got = streams::read_input(&mut buf);
+    if got.failed {
+        return false;
     }
-    got == CHUNK
+    let n = got.count;
+    if !run(&buf[..n]) {
+        return false;
+    }
+    n == CHUNK
 }
 
 // A proved loop has to end, so the rounds are counted down, from a number that no input uses up.

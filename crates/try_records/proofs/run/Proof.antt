@@ -44,6 +44,9 @@ loop-again c = omega arith
 returns : tie.Need-returns Inv-loop μ-loop
 returns c = tt
 
+returns-2 : tie.Need-returns-2 Inv-loop μ-loop
+returns-2 c = tt
+
 pub run-spec : {M : Type 1} → statement M
 run-spec =
     tie.close
@@ -58,6 +61,7 @@ run-spec =
     part-line-of-end
     line-of-requires
     print-requires
+    returns
     loop-less
     loop-again
-    returns)
+    returns-2)
