@@ -15,6 +15,10 @@ slice-aggregate-read-input c = search needs
 read-input-requires : tie.Need-read-input-requires
 read-input-requires c κs = search needs
 
+-- nothing is printed where reading failed
+returns : tie.Need-returns
+returns c = search needs
+
 array-share-prefix-input : tie.Need-array-share-prefix-input
 array-share-prefix-input c = search needs
 
@@ -40,8 +44,8 @@ slice-aggregate-write-output c = sym (length-take-le _ _ (fits (c .before .befor
 write-output-requires : tie.Need-write-output-requires
 write-output-requires c κs = search needs
 
-returns : tie.Need-returns
-returns c = search needs
+returns-2 : tie.Need-returns-2
+returns-2 c = search needs
 
 pub main-spec : {M : Type 1} → statement M
 main-spec =
@@ -49,6 +53,7 @@ main-spec =
     (tie.spec
     slice-aggregate-read-input
     read-input-requires
+    returns
     array-share-prefix-input
     slice-aggregate-render
     slice-aggregate-render-2
@@ -56,4 +61,4 @@ main-spec =
     array-share-prefix-text
     slice-aggregate-write-output
     write-output-requires
-    returns)
+    returns-2)
