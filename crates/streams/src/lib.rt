@@ -1,7 +1,9 @@
 // Standard input and output of a program. Where one fails, a line on standard error says which, and the system's word for it.
 ghost use Prim.Native.Nat.{_+_, _≤_};
+ghost use mathlib.Core.Path.{_≡_};
 ghost use lib.ListN.{length};
 ghost use Rattle.io.specs.Counts.{Counts};
+ghost use Rattle.streams.specs.Streams.{EitherWay};
 use libc::STDIN_FILENO;
 use libc::STDOUT_FILENO;
 
@@ -12,9 +14,10 @@ pub struct Input {
 }
 
 // Reads standard input until the buffer is full, the input ends or reading fails. Which of these it is, and the bytes, are the system's to say; in each
-// case the count is of bytes at the buffer's front.
+// case the count is of bytes at the buffer's front, and the buffer is as long as it was.
 pub fn read_input(buf: &mut [u8]) -> Input
     ensures { λ r. ⌜ Counts (r .count) (now (buf .exit)) ⌝ }
+    ensures { λ r. ⌜ EitherWay (r .failed) × (length (now (buf .exit)) ≡ length (now (buf .entry))) ⌝ }
 {
     let mut count: usize = 0;
     while count < buf.len() {
@@ -61,7 +64,9 @@ fn read_on(buf: &mut [u8], from: usize) -> Input
 }
 
 // Writes a text to standard output and answers whether all of it was taken, which is the system's to say.
-pub fn write_output(text: &[u8]) -> bool {
+pub fn write_output(text: &[u8]) -> bool
+    ensures { λ r. ⌜ EitherWay r ⌝ }
+{
     let written = io::write_all(STDOUT_FILENO, text);
     if !written {
         os::fail(b"standard output");

@@ -6,6 +6,7 @@ use native.Mathlib.Omega.{arith}
 use lib.ListN.{length}
 use lib.Seq.{length-take-le}
 use Rattle.io.specs.Counts.{Counts}
+use Rattle.streams.specs.Streams.{either-way}
 use borrow.Author.Needs.{needs}
 use Rattle.streams.proofs.read_input.Statement.{statement}
 use Rattle.streams.proofs.read_input.Tie as tie
@@ -29,13 +30,13 @@ same-length : tie.Need-same-length Inv-loop μ-loop
 same-length c = search needs
 
 returns : tie.Need-returns Inv-loop μ-loop
-returns c = counted _ _ (omega arith)
+returns c = (counted _ _ (omega arith), (either-way _, omega arith))
 
 same-length-2 : tie.Need-same-length-2 Inv-loop μ-loop
 same-length-2 c = search needs
 
 returns-2 : tie.Need-returns-2 Inv-loop μ-loop
-returns-2 c = counted _ _ (omega arith)
+returns-2 c = (counted _ _ (omega arith), (either-way _, omega arith))
 
 add-count : tie.Need-add-count Inv-loop μ-loop
 add-count c = search needs
@@ -50,7 +51,7 @@ same-length-3 : tie.Need-same-length-3 Inv-loop μ-loop
 same-length-3 c = search needs
 
 returns-3 : tie.Need-returns-3 Inv-loop μ-loop
-returns-3 c = counted _ _ (omega arith)
+returns-3 c = (counted _ _ (omega arith), (either-way _, omega arith))
 
 pub read-input-spec : {M : Type 1} → statement M
 read-input-spec =

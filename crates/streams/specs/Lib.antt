@@ -1,0 +1,2 @@
+-- what holds of whatever the system says
+pub mod Streams
