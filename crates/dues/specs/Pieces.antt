@@ -1,34 +1,48 @@
--- A sheet that comes in pieces, and is longer than the program holds: what it keeps of the pieces, and the answer after the last.
+-- A sheet that comes in pieces, of which the program holds one at a time: what it keeps of those before the last, and the answer after the last.
 use Prim.Native.Nat.{ℕ, _%_, _<_}
 use mathlib.Core.Path.{_≡_}
-use mathlib.Core.Bool.{Bool, cond, _&&_}
-use mathlib.Core.List.{List, _++_}
+use mathlib.Core.Bool.{Bool, true, false, cond, _&&_}
+use mathlib.Core.List.{List, [], _∷_, _++_}
 use lib.ListN.{length}
+use Rattle.dues.specs.declared.Kept.{Kept}
 use Rattle.dues.specs.declared.Answer.{Answer}
 use Rattle.dues.specs.declared.Answer.the-variants.{Refused}
-use Rattle.dues.specs.Sheet.{count, lockages, every, listed, whole, duesFor}
+use Rattle.dues.specs.Sheet.{lockages, every, listed, whole, duesFor}
 
--- the bytes of a piece; the last one may have fewer
+-- the bytes of a piece: whole lockages, and more than 1,000 of them; the last piece has fewer
 abbrev pub pieceLength : ℕ
 pieceLength = 65536
 
--- Of the bytes before the last piece, which are whole lockages and more than 1,000, it is kept whether all are listed.
-pub record Kept (before : List ℕ) (all : Bool) : Type 0 where
-  pub pieces : length before % 4 ≡ 0
-  pub many : 1000 < count before
-  pub answer : all ≡ every listed (lockages before)
+-- kept is whether there were pieces, and whether all their lockages are listed; before the first piece,
+abbrev pub nothingKept : Kept
+nothingKept = record { some = false; listed = true }
 
--- what is kept after one piece more
-abbrev pub keptAfter : Bool → List ℕ → Bool
-keptAfter all s = all && every listed (lockages s)
+-- after one piece more,
+abbrev pub keptWith : Kept → List ℕ → Kept
+keptWith k s = record { some = true; listed = k .listed && every listed (lockages s) }
 
--- the answer to the whole sheet, from what is kept and the last piece
+-- and after these
+unfoldable pub keptOf : Kept → List (List ℕ) → Kept
+keptOf k [] = k
+keptOf k (s ∷ pieces) = keptOf (keptWith k s) pieces
+
+-- the answer to a sheet of more than 1,000 lockages, from whether those before its last piece are listed, and the last piece: 1, 3 or 22, in this sequence
 unfoldable pub longDues : Bool → List ℕ → Answer
-longDues all s = cond (whole s) (cond (keptAfter all s) (Refused 22) (Refused 3)) (Refused 1)
+longDues all s = cond (whole s) (cond (all && every listed (lockages s)) (Refused 22) (Refused 3)) (Refused 1)
+
+-- the answer after the last piece
+unfoldable pub lastAnswer : Kept → List ℕ → Answer
+lastAnswer k s = cond (k .some) (longDues (k .listed) s) (duesFor s)
+
+-- the bytes of these pieces, one after the other; and that each is a whole one
+unfoldable pub joined : List (List ℕ) → List ℕ
+joined [] = []
+joined (s ∷ pieces) = s ++ joined pieces
+
+abbrev pub EachWhole : List (List ℕ) → Type 0
+EachWhole [] = Unit {0}
+EachWhole (s ∷ pieces) = (length s ≡ pieceLength) × EachWhole pieces
 
 -- That this is the answer to the sheet, however many pieces it comes in.
 pub record InPieces : Type 0 where
-  -- the first piece is long enough by itself
-  pub first : (s : List ℕ) → length s ≡ pieceLength → Kept s (every listed (lockages s))
-  pub next : (before s : List ℕ) (all : Bool) → Kept before all → length s ≡ pieceLength → Kept (before ++ s) (keptAfter all s)
-  pub last : (before s : List ℕ) (all : Bool) → Kept before all → longDues all s ≡ duesFor (before ++ s)
+  pub answer : (pieces : List (List ℕ)) (last : List ℕ) → EachWhole pieces → lastAnswer (keptOf nothingKept pieces) last ≡ duesFor (joined pieces ++ last)

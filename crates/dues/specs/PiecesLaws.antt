@@ -16,7 +16,7 @@ use Rattle.dues.specs.declared.Lockage.{Lockage}
 use Rattle.dues.specs.declared.Answer.{Answer}
 use Rattle.dues.specs.declared.Answer.the-variants.{Refused}
 use Rattle.dues.specs.Sheet.{lockageAt, lockagesTo, count, lockages, every, listed, inRange, whole, questions, totals, answered, duesFor}
-use Rattle.dues.specs.Pieces.{pieceLength, Kept, keptAfter, longDues, InPieces}
+use Rattle.dues.specs.Pieces.{pieceLength, nothingKept, keptOf, longDues, lastAnswer, joined, EachWhole, InPieces}
 
 every-both : (p : Lockage → Bool) (xs ys : List Lockage) → every p (xs ++ ys) ≡ (every p xs && every p ys)
 unfolding every
@@ -77,9 +77,18 @@ three true true rest t = refl
 three true false rest t = refl
 three false l rest t = refl
 
-module _ (before s : List ℕ) (all : Bool) (k : Kept before all) where
-  kept-next : length s ≡ pieceLength → Kept (before ++ s) (keptAfter all s)
-  kept-next h = record {
+-- Of the bytes before, which are whole lockages and more than 1,000, it is known whether all are listed.
+record Known (before : List ℕ) (all : Bool) : Type 0 where
+  pieces : length before % 4 ≡ 0
+  many : 1000 < count before
+  answer : all ≡ every listed (lockages before)
+
+known-first : (s : List ℕ) → length s ≡ pieceLength → Known s (every listed (lockages s))
+known-first s h = record { pieces = rw h; many = rw h (omega arith); answer = refl }
+
+module _ (before s : List ℕ) (all : Bool) (k : Known before all) where
+  known-next : length s ≡ pieceLength → Known (before ++ s) (all && every listed (lockages s))
+  known-next h = record {
     pieces = rw (length-append before s) (omega (arith, k .pieces));
     many = rw (count-both before s (k .pieces)) (omega (arith, k .many));
     answer = rw (k .answer) (sym (listed-both before s (k .pieces)));
@@ -88,14 +97,27 @@ module _ (before s : List ℕ) (all : Bool) (k : Kept before all) where
   too-many : leb (count (before ++ s)) 1000 ≡ false
   too-many = lt-leb (count (before ++ s)) 1000 (rw (count-both before s (k .pieces)) (omega (arith, k .many)))
 
-  kept-last : longDues all s ≡ duesFor (before ++ s)
+  known-last : longDues all s ≡ duesFor (before ++ s)
   unfolding longDues duesFor questions firstNo
-  kept-last =
+  known-last =
       rw (whole-both before s (k .pieces), listed-both before s (k .pieces), ← k .answer, too-many)
-      (three (whole s) (keptAfter all s) (every inRange (lockages (before ++ s))) (totals (lockages (before ++ s))))
+      (three (whole s) (all && every listed (lockages s)) (every inRange (lockages (before ++ s))) (totals (lockages (before ++ s))))
 
-kept-first : (s : List ℕ) → length s ≡ pieceLength → Kept s (every listed (lockages s))
-kept-first s h = record { pieces = rw h; many = rw h (omega arith); answer = refl }
+-- after some pieces, more of them, and the last
+after-some : (pieces : List (List ℕ)) (before last : List ℕ) (all : Bool) → Known before all → EachWhole pieces
+    → lastAnswer (keptOf (record { some = true; listed = all }) pieces) last ≡ duesFor (before ++ (joined pieces ++ last))
+unfolding keptOf joined lastAnswer
+after-some [] before last all k w = known-last before last all k
+after-some (s ∷ pieces) before last all k w =
+    after-some pieces (before ++ s) last (all && every listed (lockages s)) (known-next before s all k (w .0)) (w .1)
+    ∙ ap duesFor (append-assoc before s (joined pieces ++ last) ∙ ap (λ (x : List ℕ). before ++ x) (sym (append-assoc s (joined pieces) last)))
+
+answer-in : (pieces : List (List ℕ)) (last : List ℕ) → EachWhole pieces → lastAnswer (keptOf nothingKept pieces) last ≡ duesFor (joined pieces ++ last)
+unfolding keptOf joined lastAnswer
+answer-in [] last w = refl
+answer-in (s ∷ pieces) last w =
+    after-some pieces s last (every listed (lockages s)) (known-first s (w .0)) (w .1)
+    ∙ ap duesFor (sym (append-assoc s (joined pieces) last))
 
 pub in-pieces : InPieces
-in-pieces = record { first = kept-first; next = kept-next; last = kept-last }
+in-pieces = record { answer = answer-in }

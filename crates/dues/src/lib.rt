@@ -5,10 +5,10 @@ mod sheet;
 
 pub use output::LONGEST_OUTPUT;
 pub use output::render;
-pub use output::render_long;
 pub use pieces::PIECE;
 pub use pieces::in_pieces;
-pub use pieces::kept_after;
+pub use pieces::kept_with;
+pub use pieces::nothing_kept;
 pub use sheet::dues;
 use tariff::Shares;
 
@@ -23,4 +23,10 @@ pub(crate) struct Lockage {
 pub enum Answer {
     Totals(Shares),
     Refused(u8),
+}
+
+// What is kept of the pieces of a sheet, before the last: were there any, and are all their lockages listed?
+pub struct Kept {
+    pub some: bool,
+    pub listed: bool,
 }

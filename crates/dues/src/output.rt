@@ -1,7 +1,7 @@
 // What the dues program prints, in a lent buffer.
 use crate::Answer;
-use crate::pieces::long_dues;
-use crate::sheet::dues;
+use crate::Kept;
+use crate::pieces::last_answer;
 use tariff::Shares;
 use text::LINE;
 use text::put_byte;
@@ -11,7 +11,7 @@ use text::write_line;
 use text::write_refusal;
 ghost use mathlib.Core.Path.{_≡_};
 ghost use Rattle.text.specs.Writing.{fitted, fittedLength, Rendered};
-ghost use Rattle.dues.specs.Printed.{totalsLine, answerLine, outputOf, longOutput};
+ghost use Rattle.dues.specs.Printed.{totalsLine, answerLine, outputOf};
 
 // No output is longer: `always-fits`, in specs/PrintedLaws.
 pub const LONGEST_OUTPUT: usize = LINE;
@@ -38,16 +38,10 @@ fn write_answer(out: &mut [u8], answer: Answer) -> usize
     }
 }
 
-// Writes the program's whole output for a sheet to the front of the buffer and answers its length; 0, and nothing written, if it does not fit.
-pub fn render(s: &[u8], out: &mut [u8]) -> usize
-    ensures { λ r. ⌜ Rendered (outputOf (now (s .entry))) (now (out .entry)) (now (out .exit)) r ⌝ }
+// Writes the program's whole output for a sheet to the front of the buffer and answers its length; 0, and nothing written, if it does not fit. The sheet comes
+// in pieces, of which the last is given, and what is kept of the others: `in_pieces` says that this is the output for all of it.
+pub fn render(kept: Kept, s: &[u8], out: &mut [u8]) -> usize
+    ensures { λ r. ⌜ Rendered (outputOf kept (now (s .entry))) (now (out .entry)) (now (out .exit)) r ⌝ }
 {
-    write_answer(&mut *out, dues(s))
-}
-
-// The same for a sheet in pieces, from what is kept of those before and the last one: `in_pieces` says that this is the output for the whole sheet.
-pub fn render_long(kept: bool, s: &[u8], out: &mut [u8]) -> usize
-    ensures { λ r. ⌜ Rendered (longOutput kept (now (s .entry))) (now (out .entry)) (now (out .exit)) r ⌝ }
-{
-    write_answer(&mut *out, long_dues(kept, s))
+    write_answer(&mut *out, last_answer(kept, s))
 }

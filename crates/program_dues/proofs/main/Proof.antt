@@ -1,25 +1,28 @@
--- `program_dues::main` ends: the pieces are counted down.
+-- `program_dues::main` ends: the rounds are counted down.
 use borrow.Author.Needs.{needs}
 use Rattle.program_dues.proofs.main.Statement.{statement}
 use Rattle.program_dues.proofs.main.Tie as tie
 
 abbrev Inv-loop : tie.InvT-loop
-Inv-loop pieces₀ kept₀ long₀ pieces kept long = Unit
+Inv-loop rounds₀ kept₀ rounds kept = Unit
 
 abbrev μ-loop : tie.MeasureT-loop
-μ-loop pieces₀ kept₀ long₀ pieces kept long = pieces
+μ-loop rounds₀ kept₀ rounds kept = rounds
+
+nothing-kept-requires : tie.Need-nothing-kept-requires Inv-loop μ-loop
+nothing-kept-requires c κs = search needs
 
 loop-holds : tie.Need-loop-holds Inv-loop μ-loop
 loop-holds c = search needs
 
-piece-requires : tie.Need-piece-requires Inv-loop μ-loop
-piece-requires c κs = search needs
+read-piece-requires : tie.Need-read-piece-requires Inv-loop μ-loop
+read-piece-requires c κs = search needs
 
 returns : tie.Need-returns Inv-loop μ-loop
 returns c = search needs
 
-sub-pieces : tie.Need-sub-pieces Inv-loop μ-loop
-sub-pieces c = search needs
+sub-rounds : tie.Need-sub-rounds Inv-loop μ-loop
+sub-rounds c = search needs
 
 loop-less : tie.Need-loop-less Inv-loop μ-loop
 loop-less c = search needs
@@ -36,10 +39,11 @@ main-spec =
     (tie.spec
     Inv-loop
     μ-loop
+    nothing-kept-requires
     loop-holds
-    piece-requires
+    read-piece-requires
     returns
-    sub-pieces
+    sub-rounds
     loop-less
     loop-again
     returns-2)
