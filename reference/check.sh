@@ -48,11 +48,13 @@ for schedule in "$root"/examples/*.events; do
     expected=${schedule%.events}.expected
     [ -f "$expected" ] || stop "$(basename "$schedule") has no expected output beside it"
     "$ref/ref_bench" < "$schedule" | cmp - "$expected" || stop "$(basename "$schedule"): the reference prints something else than stands beside it"
-    "$bin/program_bench" < "$schedule" | cmp - "$expected" || stop "$(basename "$schedule"): the program prints something else than stands beside it"
+    for program in program_bench try_step; do
+        "$bin/$program" < "$schedule" | cmp - "$expected" || stop "$(basename "$schedule"): $program prints something else than stands beside it"
+    done
     met=$((met + 1))
 done
 [ "$met" -gt 0 ] || stop "examples/ has no schedules"
-say "$met examples print what stands beside them"
+say "$met examples print what stands beside them, by the run and by the step"
 
 # The exported function, called from Rust.
 (cd "$root" && rt staticlib bench_output) > "$work/staticlib.log" 2>&1 || { tail -n 5 "$work/staticlib.log"; stop "the archive does not build"; }
@@ -62,6 +64,8 @@ say "$(cat "$work/from_rust.out")"
 
 "$ref/gen_schedules" 2000 3 > "$work/schedules"
 "$ref/compare" "$work/schedules" "$bin/program_bench" || stop "schedules differ"
+"$ref/compare" "$work/schedules" "$bin/try_step" > "$work/step.out" || stop "schedules differ where they are played by the step by value"
+say "$(head -n 1 "$work/step.out") where they are played by the step by value"
 
 # The requests, a file each; they use say, stop, compare and the folders above.
 for part in "$here"/checks/*.sh; do

@@ -1,4 +1,1 @@
 pub mod Texts
-mod Stations
-mod Sums
-mod Filled

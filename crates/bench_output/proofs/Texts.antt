@@ -15,14 +15,14 @@ use Rattle.protocol.specs.Benches.{newBench}
 use Rattle.protocol.specs.Steps.{run}
 use Rattle.protocol.proofs.claim.Reach.{controllers-limit}
 use Rattle.bench_run.specs.Schedule.{count, events}
-use Rattle.bench_run.specs.Runs.{answers, hasRoom, runOf, answered}
+use Rattle.bench_run.specs.Runs.{endOf, answers, hasRoom, runOf, answered}
 use Rattle.bench_run.proofs.Records.{length-answers}
 use Rattle.bench_report.specs.declared.Summary.{Summary}
 use Rattle.bench_report.specs.Limits.{longestSchedule, mostAnswers, isTooLong, longestReport, longestOutput}
 use Rattle.bench_report.specs.Lines.{reportOf}
 use Rattle.bench_report.specs.Report.{tooLong, reported}
 use Rattle.bench_report.specs.Room.{report-length, report-some}
-use Rattle.bench_output.specs.Summary.{summaryOf}
+use Rattle.bench_summary.specs.Summary.{summaryOf}
 use Rattle.bench_output.specs.Output.{outputOf}
 use Rattle.bench_output.specs.AlwaysPrints.{AlwaysPrints}
 
@@ -56,7 +56,7 @@ module _ (s : List ℕ) (h : isTooLong (length s) ≡ false) where
     pub counted : count s ≤ length out
     counted = omega (arith, few-records)
 
-    pub all-run : runOf s out ≡ record { complete = true; count = count s; bench = run newBench (events s) }
+    pub all-run : runOf s out ≡ endOf true (count s) (run newBench (events s))
     unfolding runOf
     all-run = rw room
 

@@ -14,7 +14,7 @@ use Rattle.protocol.specs.Trials.{listing}
 use Rattle.text.specs.Text.{digits, decimal, signed, lines}
 use Rattle.bench_report.specs.Lines.{reportOf}
 use Rattle.bench_report.specs.Listing.{page}
-use Rattle.bench_output.specs.Summary.{summaryOf}
+use Rattle.bench_summary.specs.Summary.{summaryOf}
 
 pub record Example : Type 0 where
   pub events : List Event

@@ -1,5 +1,3 @@
--- what the report shows of a bench
-pub mod Summary
 -- what is printed, and that it always is
 pub mod Output
 pub mod AlwaysPrints

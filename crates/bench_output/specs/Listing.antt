@@ -15,7 +15,7 @@ use Rattle.text.specs.Text.{digits, decimal, signed, lines}
 use Rattle.bench_report.specs.Limits.{isTooLong}
 use Rattle.bench_report.specs.Lines.{reportOf}
 use Rattle.bench_report.specs.Listing.{page}
-use Rattle.bench_output.specs.Summary.{summaryOf}
+use Rattle.bench_summary.specs.Summary.{summaryOf}
 use Rattle.bench_output.specs.Output.{outputOf}
 
 -- "Output: twelve lines "0 0" to "11 0", then .."

@@ -10,7 +10,7 @@ use Rattle.bench_run.specs.Runs.{answers}
 use Rattle.bench_report.specs.Limits.{isTooLong}
 use Rattle.bench_report.specs.Lines.{reportOf}
 use Rattle.bench_report.specs.Report.{tooLong}
-use Rattle.bench_output.specs.Summary.{summaryOf}
+use Rattle.bench_summary.specs.Summary.{summaryOf}
 
 -- "Above 40,960 bytes it prints just "- 1"."; else the answers, and the bench after the events that the bytes stand for
 unfoldable pub outputOf : List ℕ → List ℕ

@@ -15,6 +15,5 @@ pub extern "C" fn bench_open_gates(s: &[u8]) -> u8
     }
     let mut answers = [0u8; MOST_ANSWERS];
     let r = run(s, &mut answers);
-    let b = r.bench;
-    b.shared.counts.undecided
+    r.open_gates
 }

@@ -1,16 +1,7 @@
-pub mod Records
-mod TableLaws
-mod ChangeLaws
-mod ReadBack
-mod Filling
-mod Idle
-mod WaitingRows
-mod ArrivalRows
-mod OutcomeRows
-mod TimeoutRows
-mod LifecycleRows
-mod Untested
 mod Asking
+mod Idle
 mod Local
 mod PlayLaws
-mod NewTables
+pub mod Records
+mod TurnLaws
+mod Untested

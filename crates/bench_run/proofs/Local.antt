@@ -5,11 +5,12 @@ use mathlib.Core.Bool.{true, false, _&&_, false≢true, true≢false}
 use mathlib.Core.List.{List, [], map}
 use mathlib.Core.Logic.{inl, inr}
 use lib.Dec.{leb}
-use lib.ListN.{getD, set}
+use lib.ListN.{length, getD, set, replicate, length-replicate}
 use borrow.Author.Tests.{not-true}
 use Rattle.ground.specs.Limit.{limit}
 use Rattle.ground.specs.Tests.{and-i}
 use Rattle.ground.specs.Lists.{put, nth-at}
+use Rattle.votes.specs.VoteSets.{empty}
 use Rattle.model.specs.QuestionLaws.{AllYes, all-yes, reply-accepted}
 use Rattle.model.specs.Ranges.{sizesInRange, isController}
 use Rattle.model.specs.declared.Event.{Event}
@@ -42,6 +43,12 @@ read-station m l i at h e = ap (λ (k : ℕ). getD l k (freshStation [])) e ∙ 
 module _ (b : Bench) (es : List Event) (here : b ≡ run newBench es) where
   reached-here : Reached b
   reached-here = subst Reached (sym here) (reached es)
+
+  pub all-stations : length (b .stations) ≡ limit
+  all-stations = elim reached-here [
+    | inl z ↦ subst (λ (x : Bench). length (x .stations) ≡ limit) (sym z) (unfold benchOf in length-replicate limit (freshStation (replicate limit empty)))
+    | inr a ↦ a .size
+  ]
 
   pub few : b .shared .n ≤ limit
   few = subst (λ (x : Bench). x .shared .n ≤ limit) (sym here) (controllers-limit es)
@@ -123,3 +130,8 @@ module _ (m : Shared) (l : List Station) (es : List Event) (here : benchWith m l
     where
       new-locked : (b : Bench) → b ≡ newBench → benchWith (record { locked = true; n = n; f = f; order = b .shared .order; consensus = b .shared .consensus; counts = allUndecided n }) (b .stations) ≡ untestedPerform b (Lock n f)
       new-locked b z = subst (λ (x : Bench). benchWith (record { locked = true; n = n; f = f; order = x .shared .order; consensus = x .shared .consensus; counts = allUndecided n }) (x .stations) ≡ untestedPerform x (Lock n f)) (sym z) (unfold perform benchOf in refl)
+
+-- the parts of a new bench
+pub new-parts : (m : Shared) (x : Station) → m ≡ newBench .shared → x ≡ freshStation (replicate limit empty) → benchWith m (replicate limit x) ≡ newBench
+unfolding benchOf
+new-parts m x e d = rw (e, d)

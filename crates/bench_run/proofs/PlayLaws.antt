@@ -1,219 +1,329 @@
--- From what an event's questions answer and its rule leaves on the tables to the definition's step.
-use Prim.Native.Nat.{ℕ, _-_, _≤_, _<_}
-use mathlib.Core.Path.{_≡_, refl, sym, ap, _∙_}
-use mathlib.Core.Bool.{Bool, true, false, _&&_, _||_, false≢true}
-use mathlib.Core.List.{List, []}
-use mathlib.Core.Logic.{inl, inr}
+-- One event of a run: its questions, asked of the station that is read; what is left where they are answered "no", and where they are answered "yes".
+use Prim.Native.Nat.{ℕ, _+_, _-_, _≤_, _<_, min}
+use mathlib.Core.Path.{_≡_, refl, sym, ap, subst, _∙_}
+use mathlib.Core.Bool.{Bool, true, false, cond, not, _&&_, _||_}
+use mathlib.Core.List.{List, [], map}
 use native.Mathlib.Omega.{arith}
 use lib.Dec.{eqb, leb}
+use lib.ListN.{length, getD, set}
+use lib.Seq.{set-set, getD-set-same}
 use Rattle.ground.specs.Limit.{limit}
-use Rattle.ground.specs.Tests.{split}
-use Rattle.records.specs.Codes.{flagOf}
+use Rattle.ground.specs.Firsts.{mapFirst}
+use Rattle.ground.specs.Lists.{put}
+use Rattle.ground.specs.Mask.{has, insert}
+use Rattle.votes.specs.VoteSets.{empty}
 use Rattle.votes.specs.declared.VoteSet.{VoteSet}
 use Rattle.model.specs.QuestionLaws.{AllYes}
+use Rattle.model.specs.Numbers.{wordOf}
+use Rattle.model.specs.Ranges.{isBackup}
+use Rattle.model.specs.Routes.{recipients}
 use Rattle.model.specs.declared.Kind.{Kind}
 use Rattle.model.specs.declared.Kind.the-variants.{Vote, Ack, Help, Helped}
 use Rattle.model.specs.declared.Event.{Event}
 use Rattle.model.specs.declared.Event.the-variants.{Lock, Order, Cast, Deliver, Timeout, Decide, Stop, Save, Restore}
+use Rattle.event_record.specs.Events.{readEvent}
+use Rattle.event_record.specs.declared.ReadEvent.{ReadEvent}
+use Rattle.event_record.specs.declared.ReadEvent.the-variants.{Read}
 use Rattle.protocol.specs.declared.Condition.{Condition}
-use Rattle.protocol.specs.declared.Condition.the-variants.{Running, Stopped, Standby}
+use Rattle.protocol.specs.declared.Condition.the-variants.{Stopped, Standby}
 use Rattle.protocol.specs.declared.Controller.{Controller}
-use Rattle.protocol.specs.declared.Sent.{Sent}
-use Rattle.protocol.specs.declared.Station.{Station}
+use Rattle.protocol.specs.declared.Effect.{Effect}
+use Rattle.protocol.specs.declared.Outgoing.{Outgoing}
 use Rattle.protocol.specs.declared.Shared.{Shared}
-use Rattle.protocol.specs.Benches.{freshStation, newBench, allUndecided, sentAfter, ofKind}
-use Rattle.protocol.specs.Controllers.{isRunning, isStandby, phaseIn, phase, learn}
-use Rattle.protocol.specs.Calls.{arrives, awaitsDecision}
+use Rattle.protocol.specs.declared.Station.{Station}
+use Rattle.protocol.specs.Benches.{freshStation, newBench, allUndecided, identity, ofKind}
+use Rattle.protocol.specs.Controllers.{phaseIn, phase, advance, bump, cleared, conclude, keepAck, hasAck}
+use Rattle.protocol.specs.Rules.{becomes, sending, acksTo, countOwn, secondTimeout, firstTimeout, proposeIfSufficient, voteArrives, ackArrives, helpArrives, helpedArrives, voteRule}
+use Rattle.protocol.specs.Calls.{arrives, save}
 use Rattle.protocol.specs.Events.{concernsOne, subject, source}
-use Rattle.protocol.specs.Rules.{passedOver, becomes, voteArrives, ackArrives, helpArrives, helpedArrives, keepsCall, answersCall}
-use Rattle.protocol.specs.Controllers.{addCaller, hasCalled}
 use Rattle.protocol.specs.Questions.{number, firstNo, questionsOf, factsOf, mayOpen, isSaved}
-use Rattle.protocol.specs.Steps.{orderOpened, stationAfter, answering, run}
-use Rattle.bench_run.proofs.Untested.{untestedEffect}
+use Rattle.protocol.specs.Steps.{stationAfter, renewed, orderOpened, decidedAs, answering, keeping, run}
 use Rattle.bench_state.specs.Parts.{factsAt, ownFacts, openFacts}
-use Rattle.bench_run.specs.Tables.{byteRows, wordRows, conditionIn, setFrom, controllerFrom, stationFrom}
-use Rattle.bench_run.specs.Changes.{stationsIn, stationIn, controllerIn, Changed, Left, RenewedUpTo}
-use Rattle.bench_run.specs.Plays.{benchIn, Steps}
-use Rattle.bench_run.proofs.ChangeLaws.{read-station, same-size, left, left-as}
-use Rattle.bench_run.proofs.ReadBack.{shared-stays}
+use Rattle.bench_turns.specs.Turns.{outcomeSaved}
+use Rattle.bench_run.specs.Schedule.{piece, eventsTo}
+use Rattle.bench_run.proofs.Asking.{stationed}
 use Rattle.bench_run.proofs.Idle.{enough}
-use Rattle.bench_run.proofs.Asking.{Stationed, stationed}
-use Rattle.bench_run.proofs.Local.{benchWith, seat-of, Asked, replied, untouched, yes-to-all, done, few, order-opened, lock-set}
+use Rattle.bench_run.proofs.Local.{benchWith, Asked, seat-of, replied, untouched, yes-to-all, done, valid, few, all-stations, order-opened, lock-set}
+use Rattle.bench_run.proofs.Records.{Upto, let-through}
+use Rattle.bench_run.proofs.TurnLaws.{same-set, own-laid, holding, withAcks, cast-leaves, vote-leaves, help-leaves, ack-passed, ack-kept, ack-settled, first-leaves, timeout-first, timeout-second, decide-rule, stop-rule, restore-rule}
+use Rattle.bench_run.proofs.Untested.{untestedEffect}
 
--- the place of a number, as the code finds it
-abbrev PlaceOf : ℕ → ℕ → Type 0
+-- the place of a number, and the station that the code reads there
+abbrev pub PlaceOf : ℕ → ℕ → Type 0
 PlaceOf i at = (at < limit) × (1 ≤ i → i ≤ limit → at ≡ i - 1)
 
--- what is known once the questions of an event of one controller are all answered "yes"
-pub record Yes (m : Shared) (b w : List ℕ) (e : Event) (at o : ℕ) : Type 0 where
-  pub list : List Event
-  pub here : benchIn m b w ≡ run newBench list
-  pub seats : Stationed e
-  pub all : AllYes (questionsOf (factsOf m e (stationIn b w at) ((stationIn b w o) .sent) (mayOpen m) true) e)
+abbrev pub stationAt : List Station → ℕ → Station
+stationAt l at = getD l at (freshStation [])
 
-module _ (m : Shared) (b w : List ℕ) (e : Event) (at o q : ℕ) (p : PlaceOf (subject e) at) (s : PlaceOf (source e) o)
-    (asked : q ≡ number (firstNo (questionsOf (factsOf m e (stationIn b w at) ((stationIn b w o) .sent) (mayOpen m) true) e))) where
-  asked-here : (es : List Event) → benchIn m b w ≡ run newBench es → Asked m (stationsIn b w) e (stationIn b w at) (stationIn b w o) at q
-  asked-here es here = record {
-    list = es;
-    here = here;
-    place = p .1;
-    read = sym (read-station b w at (freshStation []) (p .0));
-    origin = λ x y. sym (read-station b w o (freshStation []) (s .0)) ∙ seat-of m (stationsIn b w) (source e) o (s .1) x y;
-    asked = asked;
-  }
+-- a run stands before a record, and has read an event from it
+pub record Reading (s out₀ : List ℕ) (all k : ℕ) (m : Shared) (l : List Station) (out : List ℕ) (e : Event) : Type 0 where
+  pub upto : Upto s out₀ all k (benchWith m l) out
+  pub more : k < all
+  pub record-read : ReadEvent
+  pub piece-read : record-read ≡ readEvent (piece s k)
+  pub event : record-read ≡ Read e
 
-  pub refused : (q ≡ 0 → ⊥) → Steps m b w e (record { answer = q; shared = m }) b w
-  refused n = record {
-    reached = λ es z here.
-        let a = asked-here es here in
-        record { answer = replied _ _ _ _ _ _ _ a; bench = untouched _ _ _ _ _ _ _ a n; sized = z };
-  }
+-- the questions of an event of one controller, asked of its station
+module _ (s out₀ : List ℕ) (all k : ℕ) (m : Shared) (l : List Station) (out : List ℕ) (e : Event) (g : Reading s out₀ all k m l out e) where
+  -- the bench of the records so far
+  here : benchWith m l ≡ run newBench (eventsTo s k)
+  here = g .upto .bench
 
-  module _ (z : q ≡ 0) (one : concernsOne e ≡ true) where
-    yes-here : (es : List Event) → benchIn m b w ≡ run newBench es → Yes m b w e at o
-    yes-here es here =
-        let a = asked-here es here in
-        let y = yes-to-all _ _ _ _ _ _ _ a z in
-        record { list = es; here = here; seats = stationed _ e (few (benchIn m b w) es here) one y; all = y }
+  asked-of : (at o q : ℕ) → PlaceOf (subject e) at → PlaceOf (source e) o
+      → q ≡ number (firstNo (questionsOf (factsOf m e (stationAt l at) ((stationAt l o) .sent) (mayOpen m) true) e)) → Asked m l e (stationAt l at) (stationAt l o) at q
+  asked-of at o q p r a = record { list = eventsTo s k; here = here; place = p .1; read = refl; origin = seat-of m l (source e) o (r .1); asked = a }
 
-    pub accepted-as : (m′ : Shared) (b′ w′ : List ℕ) → (Yes m b w e at o → Left b w b′ w′ at (untestedEffect m e ((stationIn b w o) .sent) (stationIn b w at)) m′)
-        → Steps m b w e (record { answer = q; shared = m′ }) b′ w′
-    accepted-as m′ b′ w′ f = record {
-      reached = λ es size here.
-          let a = asked-here es here in
-          let l = f (yes-here es here) in
-          let t = untestedEffect m e ((stationIn b w o) .sent) (stationIn b w at) in
-          record {
-            answer = replied _ _ _ _ _ _ _ a;
-            bench =
-                ap (λ (u : Shared). benchWith u (stationsIn b′ w′)) (l .shared size)
-                ∙ ap (benchWith (t .shared)) (l .changed .stations size)
-                ∙ done _ _ _ _ _ _ _ a z one t refl;
-            sized = same-size b w b′ w′ at (t .station) (l .changed) size;
-          };
-    }
+  module _ (at o q : ℕ) (a : Asked m l e (stationAt l at) (stationAt l o) at q) where
+    pub refused : (q ≡ 0 → ⊥) → Upto s out₀ all (k + 1) (benchWith m l) (set out k q)
+    refused n = let-through s out₀ all k (benchWith m l) out (g .upto) (g .more) (g .record-read) (g .piece-read) e (g .event) (benchWith m l) q (untouched _ _ _ _ _ _ _ a n) (replied _ _ _ _ _ _ _ a)
 
--- the questions as the code asks them: of the condition in the row, and what else the kind looks at
-module _ (m : Shared) (b w : List ℕ) (at : ℕ) (s : Sent) (k : Condition) (e : k ≡ conditionIn (byteRows b at)) where
-  pub asks-cast : (i : ℕ) (v : Bool) (t : ℕ) → number (firstNo (questionsOf (ownFacts m k) (Cast i v t))) ≡ number (firstNo (questionsOf (factsOf m (Cast i v t) (stationIn b w at) s (mayOpen m) true) (Cast i v t)))
-  unfolding stationFrom controllerFrom
-  asks-cast i v t = rw e
+    pub accepted : q ≡ 0 → concernsOne e ≡ true → (t : Effect) → t ≡ untestedEffect m e ((stationAt l o) .sent) (stationAt l at)
+        → Upto s out₀ all (k + 1) (benchWith (t .shared) (set l at (t .station))) (set out k q)
+    accepted z one t w = let-through s out₀ all k (benchWith m l) out (g .upto) (g .more) (g .record-read) (g .piece-read) e (g .event)
+        (benchWith (t .shared) (set l at (t .station))) q (done _ _ _ _ _ _ _ a z one t w) (replied _ _ _ _ _ _ _ a)
 
-  pub asks-timeout : (i : ℕ) → number (firstNo (questionsOf (ownFacts m k) (Timeout i))) ≡ number (firstNo (questionsOf (factsOf m (Timeout i) (stationIn b w at) s (mayOpen m) true) (Timeout i)))
-  unfolding stationFrom controllerFrom
-  asks-timeout i = rw e
+    pub all-yes : q ≡ 0 → AllYes (questionsOf (factsOf m e (stationAt l at) ((stationAt l o) .sent) (mayOpen m) true) e)
+    all-yes z = yes-to-all _ _ _ _ _ _ _ a z
 
-  pub asks-decide : (i : ℕ) (v : Bool) → number (firstNo (questionsOf (ownFacts m k) (Decide i v))) ≡ number (firstNo (questionsOf (factsOf m (Decide i v) (stationIn b w at) s (mayOpen m) true) (Decide i v)))
-  unfolding stationFrom controllerFrom
-  asks-decide i v = rw e
+-- a lock and an order
+module _ (s out₀ : List ℕ) (all k : ℕ) (m : Shared) (l : List Station) (out : List ℕ) where
+  at-first : PlaceOf 0 0
+  at-first = (omega arith, λ x y. absurd (omega arith))
 
-  pub asks-stop : (i : ℕ) → number (firstNo (questionsOf (ownFacts m k) (Stop i))) ≡ number (firstNo (questionsOf (factsOf m (Stop i) (stationIn b w at) s (mayOpen m) true) (Stop i)))
-  unfolding stationFrom controllerFrom
-  asks-stop i = rw e
+  module _ (n f q : ℕ) (g : Reading s out₀ all k m l out (Lock n f)) (a : q ≡ number (firstNo (questionsOf (openFacts m false) (Lock n f)))) where
+    lock-asked : Asked m l (Lock n f) (stationAt l 0) (stationAt l 0) 0 q
+    lock-asked = asked-of s out₀ all k m l out (Lock n f) g 0 0 q at-first at-first a
 
-  pub asks-save : (i : ℕ) → number (firstNo (questionsOf (ownFacts m k) (Save i))) ≡ number (firstNo (questionsOf (factsOf m (Save i) (stationIn b w at) s (mayOpen m) true) (Save i)))
-  unfolding stationFrom controllerFrom
-  asks-save i = rw e
+    pub lock-refused : (q ≡ 0 → ⊥) → Upto s out₀ all (k + 1) (benchWith m l) (set out k q)
+    lock-refused = refused s out₀ all k m l out (Lock n f) g 0 0 q lock-asked
 
-  pub asks-restore : (i : ℕ) (v : Bool) → v ≡ isSaved ((stationIn b w at) .saved) → number (firstNo (questionsOf (factsAt m k v 0 true) (Restore i))) ≡ number (firstNo (questionsOf (factsOf m (Restore i) (stationIn b w at) s (mayOpen m) true) (Restore i)))
-  unfolding stationFrom controllerFrom
-  asks-restore i v f = rw (e, f)
+    pub lock-accepted : q ≡ 0 → (m′ : Shared) → m′ ≡ record { locked = true; n = n; f = f; order = m .order; consensus = m .consensus; counts = allUndecided n }
+        → Upto s out₀ all (k + 1) (benchWith m′ l) (set out k q)
+    lock-accepted z m′ w = let-through s out₀ all k (benchWith m l) out (g .upto) (g .more) (g .record-read) (g .piece-read) (Lock n f) (g .event)
+        (benchWith m′ l) q (ap (λ (x : Shared). benchWith x l) w ∙ lock-set m l (eventsTo s k) (g .upto .bench) n f q a z) (replied _ _ _ _ _ _ _ lock-asked)
 
-  pub asks-delivery : (i j r : ℕ) (kind : Kind) → r ≡ (ofKind kind s) .to → number (firstNo (questionsOf (factsAt m k false r true) (Deliver i j kind))) ≡ number (firstNo (questionsOf (factsOf m (Deliver i j kind) (stationIn b w at) s (mayOpen m) true) (Deliver i j kind)))
-  unfolding stationFrom controllerFrom
-  asks-delivery i j r kind f = rw (e, f)
+  module _ (o q : ℕ) (g : Reading s out₀ all k m l out (Order o)) (v : Bool) (w : v ≡ mayOpen m) (a : q ≡ number (firstNo (questionsOf (openFacts m v) (Order o)))) where
+    order-question : q ≡ number (firstNo (questionsOf (openFacts m (mayOpen m)) (Order o)))
+    order-question = a ∙ ap (λ (x : Bool). number (firstNo (questionsOf (openFacts m x) (Order o)))) w
 
--- a row says whether there is a checkpoint
-pub row-saved : (b w : List ℕ) (at : ℕ) → flagOf (byteRows b at 7) ≡ isSaved ((stationIn b w at) .saved)
-unfolding stationFrom
-row-saved b w at = elim (split (flagOf (byteRows b at 7))) [
-  | inl y ↦ rw y
-  | inr n ↦ rw n
-]
+    order-asked : Asked m l (Order o) (stationAt l 0) (stationAt l 0) 0 q
+    order-asked = asked-of s out₀ all k m l out (Order o) g 0 0 q at-first at-first order-question
 
--- a vote or a help call that arrives leaves what is shared
-pub vote-leaves : (m : Shared) (s : Station) (v : VoteSet) → record { shared = m; station = stationAfter s (voteArrives v (s .controller)) } ≡ answering m s (voteArrives v (s .controller))
-unfolding answering stationAfter sentAfter voteArrives becomes passedOver learn
-vote-leaves m s v = elim (split (leb (phase (s .controller)) 1)) [
-  | inl y ↦ rw (y, shared-stays m (s .controller .condition))
-  | inr n ↦ rw (n, shared-stays m (s .controller .condition))
-]
+    pub order-refused : (q ≡ 0 → ⊥) → Upto s out₀ all (k + 1) (benchWith m l) (set out k q)
+    order-refused = refused s out₀ all k m l out (Order o) g 0 0 q order-asked
 
-help-leaves : (m : Shared) (s : Station) (j : ℕ) → record { shared = m; station = stationAfter s (helpArrives j (s .controller)) } ≡ answering m s (helpArrives j (s .controller))
-unfolding answering stationAfter sentAfter helpArrives keepsCall answersCall becomes passedOver addCaller
-help-leaves m s j = elim (split (hasCalled (s .controller) j)) [
-  | inl y ↦ rw (y, shared-stays m (s .controller .condition))
-  | inr n ↦ elim (split (leb (phase (s .controller)) 2)) [
-    | inl y ↦ rw (n, y, shared-stays m (s .controller .condition))
-    | inr k ↦ rw (n, k, shared-stays m (s .controller .condition))
-  ]
-]
+    pub order-accepted : q ≡ 0 → (m′ : Shared) → m′ ≡ orderOpened m o → (l′ : List Station) → l′ ≡ mapFirst renewed (m .n) l → Upto s out₀ all (k + 1) (benchWith m′ l′) (set out k q)
+    order-accepted z m′ x l′ y = let-through s out₀ all k (benchWith m l) out (g .upto) (g .more) (g .record-read) (g .piece-read) (Order o) (g .event)
+        (benchWith m′ l′) q
+        (ap (λ (u : Shared). benchWith u l′) x ∙ ap (benchWith (orderOpened m o)) (y ∙ enough (benchWith m l) (eventsTo s k) (g .upto .bench)) ∙ order-opened m l (eventsTo s k) (g .upto .bench) o q order-question z)
+        (replied _ _ _ _ _ _ _ order-asked)
 
--- one that question 16 lets through awaits the arbiter's word
-awaiting : (k : Condition) → (isStandby k || eqb (phaseIn k) 3) ≡ true → (isStandby k || (isRunning k && eqb (phaseIn k) 3)) ≡ true
-awaiting (Running p) h = h
-awaiting Stopped h = absurd (false≢true h)
-awaiting (Standby o) h = refl
+-- so many stations are renewed
+pub order-size : (m : Shared) (l : List Station) (o : ℕ) (m′ : Shared) → m′ ≡ orderOpened m o → (end i : ℕ) → end ≡ min (m′ .n) limit → length l ≡ limit → i ≡ end → i ≡ min (m .n) (length l)
+unfolding orderOpened
+order-size m l o m′ e end i u size x = x ∙ u ∙ ap (λ (y : Shared). min (y .n) limit) e ∙ ap (min (m .n)) (sym size)
 
-pub awaits : (c : Controller) → (isStandby (c .condition) || eqb (phaseIn (c .condition)) 3) ≡ true → awaitsDecision c ≡ true
-unfolding awaitsDecision
-awaits c h = awaiting (c .condition) h
+-- an event of the controller of one station: at its place the condition is c
+module _ (s out₀ : List ℕ) (all k : ℕ) (m : Shared) (l : List Station) (out : List ℕ) (i at q : ℕ) (p : PlaceOf i at) (c : Condition) (d : c ≡ (stationAt l at) .controller .condition) where
+  abbrev own : Station
+  own = stationAt l at
 
--- a lock and an order: they concern no one controller, and the first row is as good as any
-at-first : PlaceOf 0 0
-at-first = (omega arith, λ x y. absurd (omega arith))
+  module _ (w : Bool) (t : ℕ) (g : Reading s out₀ all k m l out (Cast i w t)) (a : q ≡ number (firstNo (questionsOf (ownFacts m c) (Cast i w t)))) where
+    cast-asked : Asked m l (Cast i w t) own own at q
+    cast-asked = asked-of s out₀ all k m l out (Cast i w t) g at at q p p (a ∙ ap (λ (x : Condition). number (firstNo (questionsOf (ownFacts m x) (Cast i w t)))) d)
 
-module _ (m : Shared) (b w : List ℕ) (n f q : ℕ) (e : q ≡ number (firstNo (questionsOf (openFacts m false) (Lock n f)))) where
-  pub lock-refused : (q ≡ 0 → ⊥) → Steps m b w (Lock n f) (record { answer = q; shared = m }) b w
-  lock-refused = refused m b w (Lock n f) 0 0 q at-first at-first e
+    pub cast-refused : (q ≡ 0 → ⊥) → Upto s out₀ all (k + 1) (benchWith m l) (set out k q)
+    cast-refused = refused s out₀ all k m l out (Cast i w t) g at at q cast-asked
 
-  pub lock-accepted : q ≡ 0 → Steps m b w (Lock n f) (record { answer = q; shared = record { locked = true; n = n; f = f; order = m .order; consensus = m .consensus; counts = allUndecided n } }) b w
-  lock-accepted z = record {
-    reached = λ es size here. record {
-      answer = replied _ _ _ _ _ _ _ (asked-here m b w (Lock n f) 0 0 q at-first at-first e es here);
-      bench = lock-set m (stationsIn b w) es here n f q e z;
-      sized = size;
-    };
-  }
+    pub cast-accepted : q ≡ 0 → (x : Station) → x ≡ stationAfter own (voteRule (m .n) (m .f) i w t (own .controller)) → Upto s out₀ all (k + 1) (benchWith m (set l at x)) (set out k q)
+    unfolding untestedEffect
+    cast-accepted z x e =
+        let y = all-yes s out₀ all k m l out (Cast i w t) g at at q cast-asked z in
+        accepted s out₀ all k m l out (Cast i w t) g at at q cast-asked z refl (record { shared = m; station = x })
+        (ap (λ (v : Station). record { shared = m; station = v }) e ∙ cast-leaves m own i w t (y .1 .1 .1 .1 .0))
 
-module _ (m : Shared) (b w : List ℕ) (k q : ℕ) (e : q ≡ number (firstNo (questionsOf (openFacts m (mayOpen m)) (Order k)))) where
-  pub order-refused : (q ≡ 0 → ⊥) → Steps m b w (Order k) (record { answer = q; shared = m }) b w
-  order-refused = refused m b w (Order k) 0 0 q at-first at-first e
+  module _ (g : Reading s out₀ all k m l out (Timeout i)) (a : q ≡ number (firstNo (questionsOf (ownFacts m c) (Timeout i)))) where
+    timeout-asked : Asked m l (Timeout i) own own at q
+    timeout-asked = asked-of s out₀ all k m l out (Timeout i) g at at q p p (a ∙ ap (λ (x : Condition). number (firstNo (questionsOf (ownFacts m x) (Timeout i)))) d)
 
-  pub order-accepted : q ≡ 0 → (b′ w′ : List ℕ) → RenewedUpTo (m .n) b w b′ w′ → (m′ : Shared) → m′ ≡ orderOpened m k → Steps m b w (Order k) (record { answer = q; shared = m′ }) b′ w′
-  order-accepted z b′ w′ r m′ o = record {
-    reached = λ es size here. record {
-      answer = replied _ _ _ _ _ _ _ (asked-here m b w (Order k) 0 0 q at-first at-first e es here);
-      bench =
-          ap (λ (u : Shared). benchWith u (stationsIn b′ w′)) o
-          ∙ ap (benchWith (orderOpened m k)) (r .stations size ∙ enough (benchIn m b w) es here)
-          ∙ order-opened m (stationsIn b w) es here k q e z;
-      sized = record { bytes = r .bytes ∙ size .bytes; words = r .words ∙ size .words };
-    };
-  }
+    pub timeout-refused : (q ≡ 0 → ⊥) → Upto s out₀ all (k + 1) (benchWith m l) (set out k q)
+    timeout-refused = refused s out₀ all k m l out (Timeout i) g at at q timeout-asked
 
-pub asks-order : (m : Shared) (k : ℕ) (v : Bool) → v ≡ mayOpen m → number (firstNo (questionsOf (openFacts m v) (Order k))) ≡ number (firstNo (questionsOf (openFacts m (mayOpen m)) (Order k)))
-asks-order m k v e = ap (λ (x : Bool). number (firstNo (questionsOf (openFacts m x) (Order k)))) e
+    module _ (z : q ≡ 0) where
+      yes : AllYes (questionsOf (factsOf m (Timeout i) own (own .sent) (mayOpen m) true) (Timeout i))
+      yes = all-yes s out₀ all k m l out (Timeout i) g at at q timeout-asked z
 
--- what arrives, with the vote set as it is read from its source's row
-module _ (m : Shared) (b w b′ w′ : List ℕ) (at o i j : ℕ) where
-  pub vote-left : (v : VoteSet) → v ≡ setFrom (wordRows w o) 12 → Changed b w b′ w′ at (stationAfter (stationIn b w at) (voteArrives v (controllerIn b w at)))
-      → Left b w b′ w′ at (untestedEffect m (Deliver i j Vote) ((stationIn b w o) .sent) (stationIn b w at)) m
-  unfolding untestedEffect arrives stationFrom
-  vote-left v e x = left-as b w b′ w′ at m _ _ (ap (λ (s : VoteSet). answering m (stationIn b w at) (voteArrives s (controllerIn b w at))) e) (left b w b′ w′ at _ m _ x (vote-leaves m (stationIn b w at) v))
+      first-accepted : phase (own .controller) ≡ 1 → (x : Station)
+          → x ≡ stationAfter (holding own (countOwn (m .f) i (own .controller))) (sending (advance (countOwn (m .f) i (own .controller)) 2) (acksTo (recipients (m .n) (m .f) Ack i) ((countOwn (m .f) i (own .controller)) .votes)))
+          → Upto s out₀ all (k + 1) (benchWith m (set l at x)) (set out k q)
+      unfolding untestedEffect
+      first-accepted h x e = accepted s out₀ all k m l out (Timeout i) g at at q timeout-asked z refl (record { shared = m; station = x })
+          (ap (λ (v : Station). record { shared = m; station = v }) e
+          ∙ first-leaves m own i (yes .1 .1 .1 .0)
+          ∙ ap (answering m own) (timeout-first (identity m i) (own .controller) (valid m l (eventsTo s k) (g .upto .bench) i (yes .0) (yes .1 .0) (yes .1 .1 .0)) (yes .1 .1 .1 .0) h))
 
-  pub help-left : Changed b w b′ w′ at (stationAfter (stationIn b w at) (helpArrives i (controllerIn b w at)))
-      → Left b w b′ w′ at (untestedEffect m (Deliver i j Help) ((stationIn b w o) .sent) (stationIn b w at)) m
-  unfolding untestedEffect arrives stationFrom
-  help-left x = left b w b′ w′ at _ m _ x (help-leaves m (stationIn b w at) i)
+      -- with the own acknowledgement laid part by part
+      pub first-laid : (f : ℕ) → f ≡ phase (own .controller) → f ≡ 1 → (keeps : Bool) → keeps ≡ (isBackup (m .f) i && not (has (own .controller .acks .from) i))
+          → (v : VoteSet) → v ≡ cond keeps (own .controller .votes) (getD (own .controller .acks .sets) at empty)
+          → (from : ℕ) → from ≡ cond keeps (insert (own .controller .acks .from) i) (own .controller .acks .from)
+          → (cnt : ℕ) → cnt ≡ cond keeps (bump (own .controller .acks .cnt .0)) (own .controller .acks .cnt .0)
+          → (y : Station) → y ≡ holding own (withAcks (own .controller) (record { sets = set (own .controller .acks .sets) at v; from = from; cnt = record { 0 = cnt } }))
+          → (x : Station) → x ≡ stationAfter y (sending (advance (y .controller) 2) (acksTo (recipients (m .n) (m .f) Ack i) (y .controller .votes)))
+          → Upto s out₀ all (k + 1) (benchWith m (set l at x)) (set out k q)
+      first-laid f h1 h2 keeps e v e1 from e2 cnt e3 y e4 x e5 =
+          let seated = stationed (factsOf m (Timeout i) own (own .sent) (mayOpen m) true) (Timeout i) (few (benchWith m l) (eventsTo s k) (g .upto .bench)) refl yes in
+          let place : at ≡ i - 1 = p .1 (seated .of-subject .low) (seated .of-subject .high) in
+          let own-kept : y ≡ holding own (countOwn (m .f) i (own .controller)) = rw (e4, e1, e2, e3) (ap (holding own) (own-laid (own .controller) (m .f) i at keeps place e)) in
+          first-accepted (sym h1 ∙ h2) x (e5 ∙ ap (λ (w : Station). stationAfter w (sending (advance (w .controller) 2) (acksTo (recipients (m .n) (m .f) Ack i) (w .controller .votes)))) own-kept)
 
-  pub ack-left : (v : VoteSet) → v ≡ setFrom (wordRows w o) 15 → (m′ : Shared) → Left b w b′ w′ at (answering m (stationIn b w at) (ackArrives (m .n) (m .f) i v (controllerIn b w at))) m′
-      → Left b w b′ w′ at (untestedEffect m (Deliver i j Ack) ((stationIn b w o) .sent) (stationIn b w at)) m′
-  unfolding untestedEffect arrives stationFrom
-  ack-left v e m′ x = left-as b w b′ w′ at m′ _ _ (ap (λ (s : VoteSet). answering m (stationIn b w at) (ackArrives (m .n) (m .f) i s (controllerIn b w at))) e) x
+      pub second-accepted : (phase (own .controller) ≡ 1 → ⊥) → (t : Effect) → t ≡ answering m own (secondTimeout (m .n) (m .f) i (own .controller))
+          → Upto s out₀ all (k + 1) (benchWith (t .shared) (set l at (t .station))) (set out k q)
+      unfolding untestedEffect
+      second-accepted h t e = accepted s out₀ all k m l out (Timeout i) g at at q timeout-asked z refl t
+          (e ∙ ap (answering m own) (timeout-second (identity m i) (own .controller) (valid m l (eventsTo s k) (g .upto .bench) i (yes .0) (yes .1 .0) (yes .1 .1 .0)) (yes .1 .1 .1 .0) h (yes .1 .1 .1 .1 .0)))
 
-  pub helped-left : (v : VoteSet) → v ≡ setFrom (wordRows w o) 21 → (m′ : Shared) → Left b w b′ w′ at (answering m (stationIn b w at) (helpedArrives (m .n) (m .f) i v (controllerIn b w at))) m′
-      → Left b w b′ w′ at (untestedEffect m (Deliver i j Helped) ((stationIn b w o) .sent) (stationIn b w at)) m′
-  unfolding untestedEffect arrives stationFrom
-  helped-left v e m′ x = left-as b w b′ w′ at m′ _ _ (ap (λ (s : VoteSet). answering m (stationIn b w at) (helpedArrives (m .n) (m .f) i s (controllerIn b w at))) e) x
+  module _ (v : Bool) (g : Reading s out₀ all k m l out (Decide i v)) (a : q ≡ number (firstNo (questionsOf (ownFacts m c) (Decide i v)))) where
+    decide-asked : Asked m l (Decide i v) own own at q
+    decide-asked = asked-of s out₀ all k m l out (Decide i v) g at at q p p (a ∙ ap (λ (x : Condition). number (firstNo (questionsOf (ownFacts m x) (Decide i v)))) d)
+
+    pub decide-refused : (q ≡ 0 → ⊥) → Upto s out₀ all (k + 1) (benchWith m l) (set out k q)
+    decide-refused = refused s out₀ all k m l out (Decide i v) g at at q decide-asked
+
+    pub decide-accepted : q ≡ 0 → (t : Effect) → t ≡ answering (decidedAs m v) own (becomes (conclude (own .controller) (wordOf v)))
+        → Upto s out₀ all (k + 1) (benchWith (t .shared) (set l at (t .station))) (set out k q)
+    unfolding untestedEffect
+    decide-accepted z t e =
+        let y = all-yes s out₀ all k m l out (Decide i v) g at at q decide-asked z in
+        accepted s out₀ all k m l out (Decide i v) g at at q decide-asked z refl t (e ∙ ap (answering (decidedAs m v) own) (decide-rule v (own .controller) (y .1 .1 .1 .1 .0)))
+
+  module _ (g : Reading s out₀ all k m l out (Stop i)) (a : q ≡ number (firstNo (questionsOf (ownFacts m c) (Stop i)))) where
+    stop-asked : Asked m l (Stop i) own own at q
+    stop-asked = asked-of s out₀ all k m l out (Stop i) g at at q p p (a ∙ ap (λ (x : Condition). number (firstNo (questionsOf (ownFacts m x) (Stop i)))) d)
+
+    pub stop-refused : (q ≡ 0 → ⊥) → Upto s out₀ all (k + 1) (benchWith m l) (set out k q)
+    stop-refused = refused s out₀ all k m l out (Stop i) g at at q stop-asked
+
+    pub stop-accepted : q ≡ 0 → (t : Effect) → t ≡ answering m own (becomes (cleared Stopped (own .controller)))
+        → Upto s out₀ all (k + 1) (benchWith (t .shared) (set l at (t .station))) (set out k q)
+    unfolding untestedEffect
+    stop-accepted z t e =
+        let y = all-yes s out₀ all k m l out (Stop i) g at at q stop-asked z in
+        accepted s out₀ all k m l out (Stop i) g at at q stop-asked z refl t (e ∙ ap (answering m own) (stop-rule (own .controller) (y .1 .1 .1 .0)))
+
+  module _ (g : Reading s out₀ all k m l out (Save i)) (a : q ≡ number (firstNo (questionsOf (ownFacts m c) (Save i)))) where
+    save-asked : Asked m l (Save i) own own at q
+    save-asked = asked-of s out₀ all k m l out (Save i) g at at q p p (a ∙ ap (λ (x : Condition). number (firstNo (questionsOf (ownFacts m x) (Save i)))) d)
+
+    pub save-refused : (q ≡ 0 → ⊥) → Upto s out₀ all (k + 1) (benchWith m l) (set out k q)
+    save-refused = refused s out₀ all k m l out (Save i) g at at q save-asked
+
+    pub save-accepted : q ≡ 0 → (x : Station) → x ≡ keeping own (save (identity m i) (own .controller)) → Upto s out₀ all (k + 1) (benchWith m (set l at x)) (set out k q)
+    unfolding untestedEffect
+    save-accepted z x e = accepted s out₀ all k m l out (Save i) g at at q save-asked z refl (record { shared = m; station = x }) (ap (λ (v : Station). record { shared = m; station = v }) e)
+
+  module _ (v : Bool) (b : v ≡ isSaved (own .saved)) (g : Reading s out₀ all k m l out (Restore i)) (a : q ≡ number (firstNo (questionsOf (factsAt m c v 0 true) (Restore i)))) where
+    restore-asked : Asked m l (Restore i) own own at q
+    restore-asked = asked-of s out₀ all k m l out (Restore i) g at at q p p
+        (a ∙ ap (λ (x : Condition). number (firstNo (questionsOf (factsAt m x v 0 true) (Restore i)))) d ∙ ap (λ (x : Bool). number (firstNo (questionsOf (factsAt m (own .controller .condition) x 0 true) (Restore i)))) b)
+
+    pub restore-refused : (q ≡ 0 → ⊥) → Upto s out₀ all (k + 1) (benchWith m l) (set out k q)
+    restore-refused = refused s out₀ all k m l out (Restore i) g at at q restore-asked
+
+    pub restore-accepted : q ≡ 0 → (t : Effect) → t ≡ answering m own (becomes (cleared (Standby (outcomeSaved (own .saved) (m .order))) (own .controller)))
+        → Upto s out₀ all (k + 1) (benchWith (t .shared) (set l at (t .station))) (set out k q)
+    unfolding untestedEffect
+    restore-accepted z t e =
+        let y = all-yes s out₀ all k m l out (Restore i) g at at q restore-asked z in
+        accepted s out₀ all k m l out (Restore i) g at at q restore-asked z refl t (e ∙ ap (answering m own) (restore-rule (identity m i) (own .saved) (own .controller) (y .1 .1 .1 .0) (y .1 .1 .1 .1 .0)))
+
+  -- a message of controller j, of a kind: u are the messages of that kind that it has sent
+  module _ (j o : ℕ) (r : PlaceOf j o) (kind : Kind) (u : Outgoing) (b : u ≡ ofKind kind ((stationAt l o) .sent)) (g : Reading s out₀ all k m l out (Deliver j i kind))
+      (a : q ≡ number (firstNo (questionsOf (factsAt m c false (u .to) true) (Deliver j i kind)))) where
+    delivery-asked : Asked m l (Deliver j i kind) own (stationAt l o) at q
+    delivery-asked = asked-of s out₀ all k m l out (Deliver j i kind) g at o q p r
+        (a ∙ ap (λ (x : Condition). number (firstNo (questionsOf (factsAt m x false (u .to) true) (Deliver j i kind)))) d
+        ∙ ap (λ (x : Outgoing). number (firstNo (questionsOf (factsAt m (own .controller .condition) false (x .to) true) (Deliver j i kind)))) b)
+
+    pub delivery-refused : (q ≡ 0 → ⊥) → Upto s out₀ all (k + 1) (benchWith m l) (set out k q)
+    delivery-refused = refused s out₀ all k m l out (Deliver j i kind) g at o q delivery-asked
+
+    delivered : q ≡ 0 → (t : Effect) → t ≡ answering m own (arrives kind (m .n) (m .f) j ((ofKind kind ((stationAt l o) .sent)) .votes) (own .controller))
+        → Upto s out₀ all (k + 1) (benchWith (t .shared) (set l at (t .station))) (set out k q)
+    unfolding untestedEffect
+    delivered z t e = accepted s out₀ all k m l out (Deliver j i kind) g at o q delivery-asked z refl t e
+
+    -- a vote, a help call, a help answer
+    arrived : (x : Kind) → kind ≡ x → answering m own (arrives x (m .n) (m .f) j ((ofKind x ((stationAt l o) .sent)) .votes) (own .controller))
+        ≡ answering m own (arrives kind (m .n) (m .f) j ((ofKind kind ((stationAt l o) .sent)) .votes) (own .controller))
+    arrived x h = ap (λ (y : Kind). answering m own (arrives y (m .n) (m .f) j ((ofKind y ((stationAt l o) .sent)) .votes) (own .controller))) (sym h)
+
+    pub vote-accepted : kind ≡ Vote → q ≡ 0 → (x : Station) → x ≡ stationAfter own (voteArrives ((stationAt l o) .sent .vote .votes) (own .controller))
+        → Upto s out₀ all (k + 1) (benchWith m (set l at x)) (set out k q)
+    unfolding arrives
+    vote-accepted h z x e = delivered z (record { shared = m; station = x })
+        (ap (λ (v : Station). record { shared = m; station = v }) e ∙ vote-leaves m own ((stationAt l o) .sent .vote .votes) ∙ arrived Vote h)
+
+    pub help-accepted : kind ≡ Help → q ≡ 0 → (x : Station) → x ≡ stationAfter own (helpArrives j (own .controller)) → Upto s out₀ all (k + 1) (benchWith m (set l at x)) (set out k q)
+    unfolding arrives
+    help-accepted h z x e = delivered z (record { shared = m; station = x }) (ap (λ (v : Station). record { shared = m; station = v }) e ∙ help-leaves m own j ∙ arrived Help h)
+
+    pub helped-accepted : kind ≡ Helped → q ≡ 0 → (v : Outgoing) → v ≡ ofKind Helped ((stationAt l o) .sent)
+        → (t : Effect) → t ≡ answering m own (helpedArrives (m .n) (m .f) j (v .votes) (own .controller)) → Upto s out₀ all (k + 1) (benchWith (t .shared) (set l at (t .station))) (set out k q)
+    unfolding arrives
+    helped-accepted h z v f t e = delivered z t
+        (e ∙ ap (λ (y : Outgoing). answering m own (helpedArrives (m .n) (m .f) j (y .votes) (own .controller))) f ∙ arrived Helped h)
+
+    -- an acknowledgement: is it taken?
+    module _ (h : kind ≡ Ack) (z : q ≡ 0) (c₂ : Condition) (d₂ : c₂ ≡ own .controller .condition) (takes : Bool)
+        (w : takes ≡ (not (has (own .controller .acks .from) j) && (leb (phaseIn c₂) 2 || own .controller .help .waiting))) where
+      taken-as : takes ≡ (not (has (own .controller .acks .from) j) && (leb (phase (own .controller)) 2 || own .controller .help .waiting))
+      taken-as = w ∙ ap (λ (x : Condition). not (has (own .controller .acks .from) j) && (leb (phaseIn x) 2 || own .controller .help .waiting)) d₂
+
+      abbrev votes : VoteSet
+      votes = (stationAt l o) .sent .ack .votes
+
+      pub ack-passed-over : takes ≡ false → Upto s out₀ all (k + 1) (benchWith m l) (set out k q)
+      unfolding arrives
+      ack-passed-over n = subst (λ (x : List Station). Upto s out₀ all (k + 1) (benchWith m x) (set out k q)) (same-set l at (freshStation []))
+          (delivered z (record { shared = m; station = own }) (ack-passed m own j votes (sym taken-as ∙ n) ∙ arrived Ack h))
+
+      -- the station as the run lays it
+      abbrev laid : Station
+      laid = holding own (withAcks (own .controller) (record {
+        sets = set (own .controller .acks .sets) o votes;
+        from = insert (own .controller .acks .from) j;
+        cnt = record { 0 = bump (own .controller .acks .cnt .0) };
+      }))
+
+      sender : o ≡ j - 1
+      sender =
+          let y = all-yes s out₀ all k m l out (Deliver j i kind) g at o q delivery-asked z in
+          let x = stationed (factsOf m (Deliver j i kind) own ((stationAt l o) .sent) (mayOpen m) true) (Deliver j i kind) (few (benchWith m l) (eventsTo s k) (g .upto .bench)) refl y in
+          r .1 (x .of-source .low) (x .of-source .high)
+
+      laid-as : laid ≡ holding own (keepAck (own .controller) j votes)
+      unfolding keepAck put
+      laid-as = rw sender
+
+      module _ (y : takes ≡ true) where
+        pub ack-held : own .controller .help .waiting ≡ false → (n f : ℕ) (x : Station) → n ≡ insert (own .controller .acks .from) j → f ≡ bump (own .controller .acks .cnt .0)
+            → x ≡ holding own (withAcks (own .controller) (record { sets = set (own .controller .acks .sets) o votes; from = n; cnt = record { 0 = f } }))
+            → Upto s out₀ all (k + 1) (benchWith m (set l at x)) (set out k q)
+        unfolding arrives
+        ack-held idle n f x a1 a2 a3 = delivered z (record { shared = m; station = x })
+            (ap (λ (v : Station). record { shared = m; station = v }) (rw (a3, a1, a2) laid-as) ∙ ack-kept m own j votes (sym taken-as ∙ y) idle ∙ arrived Ack h)
+
+        pub ack-put : (n f : ℕ) (x : Station) → n ≡ insert (own .controller .acks .from) j → f ≡ bump (own .controller .acks .cnt .0)
+            → x ≡ holding own (withAcks (own .controller) (record { sets = set (own .controller .acks .sets) o votes; from = n; cnt = record { 0 = f } }))
+            → (t : Effect) → t ≡ answering m (stationAt (set l at x) at) (proposeIfSufficient (m .n) (m .f) (becomes ((stationAt (set l at x) at) .controller)))
+            → Upto s out₀ all (k + 1) (benchWith (t .shared) (set (set l at x) at (t .station))) (set out k q)
+        unfolding arrives
+        ack-put n f x a1 a2 a3 t e =
+            let size : length l ≡ limit = all-stations (benchWith m l) (eventsTo s k) (g .upto .bench) in
+            let there : stationAt (set l at x) at ≡ x = getD-set-same l at x (freshStation []) (omega (arith, size, p .0)) in
+            let kept : x ≡ holding own (keepAck (own .controller) j votes) = rw (a3, a1, a2) laid-as in
+            subst (λ (y : List Station). Upto s out₀ all (k + 1) (benchWith (t .shared) y) (set out k q)) (sym (set-set l at x (t .station)))
+            (delivered z t (e
+            ∙ ap (λ (y : Station). answering m y (proposeIfSufficient (m .n) (m .f) (becomes (y .controller)))) (there ∙ kept)
+            ∙ ack-settled m own j votes (sym taken-as ∙ y)
+            ∙ arrived Ack h))

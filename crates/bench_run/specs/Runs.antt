@@ -1,4 +1,4 @@
--- A whole schedule on a new bench: the bench at its end, and an answer for each record.
+-- A whole schedule on a new bench: what a report shows of the bench at its end, and an answer for each record.
 use Prim.Native.Nat.{ℕ, zero, suc}
 use mathlib.Core.Path.{_≡_}
 use mathlib.Core.Bool.{Bool, true, false, cond}
@@ -10,8 +10,10 @@ use Rattle.event_record.specs.declared.ReadEvent.{ReadEvent}
 use Rattle.event_record.specs.declared.ReadEvent.the-variants.{Read, Refused}
 use Rattle.protocol.specs.declared.Bench.{Bench}
 use Rattle.protocol.specs.Benches.{newBench}
+use Rattle.protocol.specs.Counts.{openGates}
 use Rattle.protocol.specs.Questions.{number, reply}
 use Rattle.protocol.specs.Steps.{run}
+use Rattle.bench_summary.specs.Summary.{summaryOf}
 use Rattle.bench_run.specs.Schedule.{piece, count, eventsTo, events}
 use Rattle.bench_run.specs.declared.RunResult.{RunResult}
 
@@ -35,12 +37,16 @@ answers s = answersTo s (count s)
 abbrev pub hasRoom : List ℕ → List ℕ → Bool
 hasRoom s out = leb (count s) (length out)
 
+-- what a run returns of the bench at its end
+abbrev pub endOf : Bool → ℕ → Bench → RunResult
+endOf complete count b = record { complete = complete; count = count; «open_gates» = openGates (b .shared); summary = summaryOf b }
+
 -- the run of a schedule: the bench after the list of events that its bytes stand for; with too little room nothing is run
 abbrev pub notRun : RunResult
-notRun = record { complete = false; count = 0; bench = newBench }
+notRun = endOf false 0 newBench
 
 unfoldable pub runOf : List ℕ → List ℕ → RunResult
-runOf s out = cond (hasRoom s out) (record { complete = true; count = count s; bench = run newBench (events s) }) notRun
+runOf s out = cond (hasRoom s out) (endOf true (count s) (run newBench (events s))) notRun
 
 -- the buffer afterwards: the answers at its front, and the rest as before
 unfoldable pub answered : List ℕ → List ℕ → List ℕ

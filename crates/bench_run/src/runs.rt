@@ -1,29 +1,67 @@
 // The run of a schedule on a new bench.
 use crate::RunResult;
-use crate::plays::Played;
-use crate::plays::play;
-use crate::stations::stations_of;
-use crate::tables::BYTES;
-use crate::tables::WORDS;
+use bench_state::all_undecided;
+use bench_state::cast_question;
+use bench_state::decide_question;
+use bench_state::deliver_question;
+use bench_state::fresh_station;
+use bench_state::lock_question;
+use bench_state::may_open;
 use bench_state::new_bench;
+use bench_state::open_gates;
+use bench_state::order_opened;
+use bench_state::order_question;
+use bench_state::present_question;
+use bench_state::restore_question;
+use bench_state::timeout_question;
+use bench_summary::summary_of;
+use bench_turns::cast_turn;
+use bench_turns::condition_of;
+use bench_turns::decide_turn;
+use bench_turns::first_turn;
+use bench_turns::help_turn;
+use bench_turns::helped_turn;
+use bench_turns::is_saved;
+use bench_turns::outgoing;
+use bench_turns::renewed;
+use bench_turns::restore_turn;
+use bench_turns::save_turn;
+use bench_turns::second_turn;
+use bench_turns::settled_turn;
+use bench_turns::stop_turn;
+use bench_turns::vote_turn;
+use controller_rules::counts_own;
+use controller_rules::takes_ack;
+use controller_state::bump;
+use controller_state::cnt_if;
+use controller_state::from_if;
+use controller_state::phase_in;
+use controller_state::set_if;
 use event_record::ReadEvent;
 use event_record::answer_of;
+use ground::LIMIT;
+use ground::insert;
+use ground::up_to_limit;
 use model::Event;
+use model::Kind;
+use protocol::Acks;
 use protocol::Bench;
+use protocol::Cnt;
+use protocol::Controller;
 use protocol::Shared;
+use protocol::Station;
 use schedule_reader::Reader;
 use schedule_reader::reader_at;
 use schedule_reader::record_at;
 ghost use mathlib.Core.Path.{_≡_};
 ghost use mathlib.Core.Bool.{true};
-ghost use Prim.Native.Nat.{_≤_};
-ghost use lib.ListN.{length, drop};
-ghost use Rattle.schedule_reader.specs.Pieces.{recordAt};
-ghost use Rattle.protocol.specs.Benches.{newBench};
-ghost use Rattle.bench_run.specs.Changes.{Sized};
-ghost use Rattle.bench_run.specs.Plays.{benchIn, StepsRecord};
+ghost use Prim.Native.Nat.{_-_, _≤_, _<_};
+ghost use lib.ListN.{drop};
+ghost use Rattle.ground.specs.Limit.{limit};
+ghost use Rattle.protocol.specs.Benches.{newBench, allUndecided};
 ghost use Rattle.bench_run.specs.Schedule.{count};
-ghost use Rattle.bench_run.specs.Runs.{notRun, RunAsDefined};
+ghost use Rattle.bench_run.specs.Runs.{endOf, RunAsDefined};
+use votes::VoteSet;
 
 // How many records there are from a place on, with a short last piece.
 fn count_from(s: &[u8], from: usize) -> usize
@@ -35,13 +73,36 @@ fn count_from(s: &[u8], from: usize) -> usize
     (s.len() - from + (Event::LENGTH - 1)) / Event::LENGTH
 }
 
-fn not_run() -> RunResult
-    ensures { λ r. ⌜ r ≡ notRun ⌝ }
+// What a run returns of the bench at its end.
+fn ended(complete: bool, count: usize, b: Bench) -> RunResult
+    ensures { λ r. ⌜ r ≡ endOf complete count b ⌝ }
 {
     RunResult {
-        complete: false,
-        count: 0,
-        bench: new_bench(),
+        complete,
+        count,
+        open_gates: open_gates(b.shared),
+        summary: summary_of(b),
+    }
+}
+
+// The place of a station; of a number that has none, another one.
+fn seat(id: u8) -> usize
+    ensures { λ r. ⌜ (r < limit) × (1 ≤ id → id ≤ limit → r ≡ id - 1) ⌝ }
+{
+    (id as usize + (LIMIT - 1)) % LIMIT
+}
+
+// What is shared once the lock is set up: on a new bench nothing else changes.
+fn locked(m: Shared, n: u8, f: u8) -> Shared
+    ensures { λ r. ⌜ r ≡ record { locked = true; n = n; f = f; order = m .order; consensus = m .consensus; counts = allUndecided n } ⌝ }
+{
+    let counts = all_undecided(n);
+    Shared {
+        locked: true,
+        n,
+        f,
+        counts,
+        ..m
     }
 }
 
@@ -52,69 +113,228 @@ fn new_shared() -> Shared
     bench.shared
 }
 
-// The record at a place is read, and its event played where the bench lies.
-fn play_record(s: &[u8], at: usize, b: &mut [u8; BYTES], w: &mut [u32; WORDS], m: Shared) -> Played
-    ensures { λ r. ⌜ StepsRecord m (now (b .entry)) (now (w .entry)) (recordAt (now (s .entry)) at) r (now (b .exit)) (now (w .exit)) ⌝ }
-{
-    let r = record_at(s, at);
-    let ReadEvent::Read(e) = r else {
-        return Played {
-            answer: answer_of(r),
-            shared: m,
-        };
-    };
-    play(&mut *b, &mut *w, m, e)
-}
-
-// All records from a place on, one after the other, on the tables of a new bench. There is room for their answers.
-fn play_records(
-    s: &[u8],
-    from: usize,
-    all: usize,
-    answers: &mut [u8],
-    b: &mut [u8; BYTES],
-    w: &mut [u32; WORDS],
-    first: Shared,
-) -> Shared
-    requires { ⌜ (all ≡ count (drop from (now s))) × (all ≤ length (now answers)) ⌝ }
-    ensures { λ m. ⌜ (Sized (now (b .entry)) (now (w .entry)) → benchIn first (now (b .entry)) (now (w .entry)) ≡ newBench → RunAsDefined (drop from (now (s .entry))) (now (answers .entry)) (record { complete = true; count = all; bench = benchIn m (now (b .exit)) (now (w .exit)) }) (now (answers .exit))) ⌝ }
-{
-    let mut m = first;
-    let mut k: usize = 0;
-    while k < all {
-        let played = play_record(s, from + k * Event::LENGTH, &mut *b, &mut *w, m);
-        answers[k] = played.answer;
-        m = played.shared;
-        k += 1;
-    }
-    m
-}
-
-// Plays what stands from a place of the schedule on. The bench lies in two tables of this function's own.
+// Plays what stands from a place of the schedule on. The bench lies in this function's own variables: an event's questions are asked first, and one that
+// is accepted changes one station where it lies.
 fn run_from(s: &[u8], from: usize, answers: &mut [u8]) -> RunResult
     ensures { λ r. ⌜ RunAsDefined (drop from (now (s .entry))) (now (answers .entry)) r (now (answers .exit)) ⌝ }
 {
     let count = count_from(s, from);
     if answers.len() < count {
-        return not_run();
+        return ended(false, 0, new_bench());
     }
-    let mut bytes = [0u8; BYTES];
-    let mut words = [0u32; WORDS];
-    let shared = play_records(
-        s,
-        from,
-        count,
-        &mut *answers,
-        &mut bytes,
-        &mut words,
-        new_shared(),
-    );
-    let stations = stations_of(&bytes, &words);
-    RunResult {
-        complete: true,
-        count,
-        bench: Bench { shared, stations },
+    let mut m = new_shared();
+    let mut stations = [fresh_station(); LIMIT];
+    let mut k: usize = 0;
+    while k < count {
+        let r = record_at(s, from + k * Event::LENGTH);
+        let ReadEvent::Read(e) = r else {
+            answers[k] = answer_of(r);
+            k += 1;
+            continue;
+        };
+        match e {
+            Event::Lock { n, f } => {
+                let answer = lock_question(m, n, f);
+                answers[k] = answer;
+                k += 1;
+                if answer != 0 {
+                    continue;
+                }
+                m = locked(m, n, f);
+            }
+            Event::Order { number } => {
+                let answer = order_question(m, may_open(m), number);
+                answers[k] = answer;
+                k += 1;
+                if answer != 0 {
+                    continue;
+                }
+                m = order_opened(m, number);
+                let end = up_to_limit(m.n) as usize;
+                let mut i: usize = 0;
+                while i < end {
+                    stations[i] = renewed(stations[i]);
+                    i += 1;
+                }
+            }
+            Event::Cast {
+                id,
+                willing,
+                target,
+            } => {
+                let at = seat(id);
+                let answer = cast_question(m, condition_of(stations[at]), id, target);
+                answers[k] = answer;
+                k += 1;
+                if answer != 0 {
+                    continue;
+                }
+                stations[at] = cast_turn(m, stations[at], id, willing, target);
+            }
+            Event::Deliver {
+                from: sender,
+                to,
+                kind,
+            } => {
+                let at = seat(to);
+                let origin = seat(sender);
+                let out = outgoing(kind, stations[origin]);
+                let answer = deliver_question(
+                    m,
+                    condition_of(stations[at]),
+                    out.to,
+                    true,
+                    sender,
+                    to,
+                    kind,
+                );
+                answers[k] = answer;
+                k += 1;
+                if answer != 0 {
+                    continue;
+                }
+                match kind {
+                    Kind::Vote => {
+                        let votes = VoteSet {
+                            known: stations[origin].sent.vote.votes.known,
+                            willing: stations[origin].sent.vote.votes.willing,
+                        };
+                        stations[at] = vote_turn(stations[at], votes);
+                    }
+                    Kind::Ack => {
+                        let condition = condition_of(stations[at]);
+                        let from = stations[at].controller.acks.from;
+                        let waiting = stations[at].controller.help.waiting;
+                        if !takes_ack(condition, from, waiting, sender) {
+                            continue;
+                        }
+                        let own = stations[at];
+                        let c = own.controller;
+                        let mut sets = c.acks.sets;
+                        sets[origin] = VoteSet {
+                            known: stations[origin].sent.ack.votes.known,
+                            willing: stations[origin].sent.ack.votes.willing,
+                        };
+                        let acks = Acks {
+                            sets,
+                            from: insert(c.acks.from, sender),
+                            cnt: Cnt(bump(c.acks.cnt.0)),
+                        };
+                        let controller = Controller { acks, ..c };
+                        let station = Station { controller, ..own };
+                        stations[at] = station;
+                        if !waiting {
+                            continue;
+                        }
+                        let t = settled_turn(m, stations[at]);
+                        m = t.shared;
+                        let settled = t.station;
+                        stations[at] = settled;
+                    }
+                    Kind::Help => {
+                        stations[at] = help_turn(stations[at], sender);
+                    }
+                    Kind::Helped => {
+                        let out = outgoing(Kind::Helped, stations[origin]);
+                        let t = helped_turn(m, stations[at], sender, out.votes);
+                        m = t.shared;
+                        let station = t.station;
+                        stations[at] = station;
+                    }
+                }
+            }
+            Event::Timeout { id } => {
+                let at = seat(id);
+                let condition = condition_of(stations[at]);
+                let answer = timeout_question(m, condition, id);
+                answers[k] = answer;
+                k += 1;
+                if answer != 0 {
+                    continue;
+                }
+                if phase_in(condition) == 1 {
+                    let own = stations[at];
+                    let c = own.controller;
+                    let counts = counts_own(m.f, id, c.acks.from);
+                    let mut sets = c.acks.sets;
+                    let votes = c.votes;
+                    let held = sets[at];
+                    sets[at] = set_if(counts, votes, held);
+                    let acks = Acks {
+                        sets,
+                        from: from_if(counts, c.acks.from, id),
+                        cnt: Cnt(cnt_if(counts, c.acks.cnt.0)),
+                    };
+                    let controller = Controller { acks, ..c };
+                    let station = Station { controller, ..own };
+                    stations[at] = first_turn(m, station, id);
+                    continue;
+                }
+                let t = second_turn(m, stations[at], id);
+                m = t.shared;
+                let station = t.station;
+                stations[at] = station;
+            }
+            Event::Decide { id, to_move } => {
+                let at = seat(id);
+                let answer = decide_question(m, condition_of(stations[at]), id, to_move);
+                answers[k] = answer;
+                k += 1;
+                if answer != 0 {
+                    continue;
+                }
+                let t = decide_turn(m, stations[at], to_move);
+                m = t.shared;
+                let station = t.station;
+                stations[at] = station;
+            }
+            Event::Stop { id } => {
+                let at = seat(id);
+                let answer = present_question(m, condition_of(stations[at]), id);
+                answers[k] = answer;
+                k += 1;
+                if answer != 0 {
+                    continue;
+                }
+                let t = stop_turn(m, stations[at]);
+                m = t.shared;
+                let station = t.station;
+                stations[at] = station;
+            }
+            Event::Save { id } => {
+                let at = seat(id);
+                let answer = present_question(m, condition_of(stations[at]), id);
+                answers[k] = answer;
+                k += 1;
+                if answer != 0 {
+                    continue;
+                }
+                stations[at] = save_turn(m, stations[at], id);
+            }
+            Event::Restore { id } => {
+                let at = seat(id);
+                let own = stations[at];
+                let answer = restore_question(m, condition_of(own), is_saved(own), id);
+                answers[k] = answer;
+                k += 1;
+                if answer != 0 {
+                    continue;
+                }
+                let t = restore_turn(m, stations[at]);
+                m = t.shared;
+                let station = t.station;
+                stations[at] = station;
+            }
+        }
     }
+    ended(
+        true,
+        count,
+        Bench {
+            shared: m,
+            stations,
+        },
+    )
 }
 
 // Plays what a reader has before it: the run goes by the reader's slice and position.

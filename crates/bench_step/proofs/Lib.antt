@@ -2,4 +2,5 @@ mod Defaults
 mod StationsRead
 mod Outside
 mod Agrees
+mod Turns
 mod StepLaws

@@ -9,6 +9,7 @@ use borrow.Author.Tests.{eqb-true, eqb-false}
 use Rattle.ground.specs.Limit.{limit}
 use Rattle.ground.specs.Tests.{split, and-l, and-r}
 use Rattle.model.specs.RangeLaws.{member}
+use Rattle.model.specs.QuestionLaws.{AllYes, all-yes, reply-accepted}
 use Rattle.model.specs.Ranges.{isController}
 use Rattle.model.specs.declared.Event.{Event}
 use Rattle.model.specs.declared.Event.the-variants.{Lock, Order, Cast, Deliver, Timeout, Decide, Stop, Save, Restore}
@@ -18,7 +19,7 @@ use Rattle.protocol.specs.Benches.{station, sentBy}
 use Rattle.protocol.specs.Events.{concernsOne, subject, source}
 use Rattle.protocol.specs.Questions.{Facts, number, firstNo, mayOpen, questionsOf, agreesAt, factsOf, reply}
 use Rattle.protocol.specs.Steps.{effect, perform}
-use Rattle.bench_state.proofs.Replies.{zero-yes, step-accepted, step-refused}
+use Rattle.bench_state.proofs.Replies.{all-numbered, zero-yes, step-accepted, step-refused}
 use Rattle.bench_step.specs.declared.Stepped.{Stepped}
 use Rattle.bench_step.specs.Steps.{stepped, finished}
 use Rattle.bench_step.proofs.StationsRead.{stationRead, sentRead, read-facts}
@@ -63,10 +64,12 @@ module _ (b : Bench) (e : Event) (l : length (b .stations) ≡ limit) (q : ℕ) 
   pub one-first : concernsOne e ≡ true → q ≡ 0 → 1 ≤ subject e
   one-first o z = numbered-from-1 b e o (sym replied ∙ z)
 
-  pub one-finished : concernsOne e ≡ true → (t : Effect) → t ≡ effect (b .shared) e (sentRead b e) (stationRead b (subject e)) → finished b (subject e) q t ≡ stepped b e
+  -- what is put back needs to be the event's effect only where every question was answered "yes"
+  pub one-finished : concernsOne e ≡ true → (t : Effect) → (AllYes (questionsOf (factsRead b e) e) → t ≡ effect (b .shared) e (sentRead b e) (stationRead b (subject e)))
+      → finished b (subject e) q t ≡ stepped b e
   one-finished o t is = elim (split (eqb q 0)) [
     | inl y ↦
         let z : q ≡ 0 = eqb-true q 0 y in
-        rw y (accepts b e q replied z _ (rw is (put-read b e l o (one-first o z))))
+        rw y (accepts b e q replied z _ (rw (is (all-yes _ (reply-accepted _ q (all-numbered _ e) asked z))) (put-read b e l o (one-first o z))))
     | inr y ↦ rw y (refuses b e q replied (eqb-false q 0 y))
   ]

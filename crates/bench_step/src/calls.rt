@@ -1,15 +1,16 @@
-// The events that INBAC's rules answer: a vote, a message that is delivered, a timeout.
+// The events that INBAC's rules answer: a vote, a message that is delivered, a timeout. The controller is called as a cabinet calls it: on a bench value that
+// no run leads to, its own tests may still answer "no" where the bench's questions are answered "yes".
 use crate::Stepped;
-use crate::effects::answering;
-use crate::effects::finish;
-use crate::stations::condition_of;
-use crate::stations::identity;
+use crate::stations::finish;
 use crate::stations::message_to;
-use crate::stations::of_kind;
 use crate::stations::station_at;
 use bench_state::cast_question;
 use bench_state::deliver_question;
 use bench_state::timeout_question;
+use bench_turns::answering;
+use bench_turns::condition_of;
+use bench_turns::identity;
+use bench_turns::outgoing;
 use controller::receive;
 use controller::timeout;
 use controller::vote;
@@ -34,8 +35,7 @@ pub(crate) fn deliver(b: Bench, from: u8, to: u8, kind: Kind) -> Stepped
     ensures { λ r. ⌜ r ≡ stepped b (Deliver from to kind) ⌝ }
 {
     let s = station_at(b, to);
-    let sender = station_at(b, from);
-    let out = of_kind(kind, sender.sent);
+    let out = outgoing(kind, station_at(b, from));
     let a = receive(
         identity(b.shared, to),
         message_to(b.shared, kind, from, to, out.votes),

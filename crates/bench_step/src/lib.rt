@@ -1,10 +1,8 @@
 // The bench by value: one call takes a bench and an event, and returns the answer and the bench. Each kind of event has a function of its own, which asks
-// the event's questions; that of an event of one controller calls it as a cabinet would, and puts its answer back if the event is accepted.
+// the event's questions; that of an event of one controller puts back what its turn, or its answer to a call, leaves, if the event is accepted.
 mod calls;
-mod effects;
 mod lifecycle;
 mod orders;
-mod sends;
 mod stations;
 
 use crate::calls::cast;

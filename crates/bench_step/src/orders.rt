@@ -5,8 +5,7 @@ use bench_state::lock_question;
 use bench_state::may_open;
 use bench_state::order_opened;
 use bench_state::order_question;
-use bench_state::unsent_all;
-use controller::renew;
+use bench_turns::renewed;
 use ground::LIMIT;
 use protocol::Bench;
 use protocol::Station;
@@ -25,18 +24,6 @@ pub(crate) fn lock(b: Bench, n: u8, f: u8) -> Stepped
     }
     let bench = bench_of(true, n, f);
     Stepped { answer, bench }
-}
-
-// A station in a new order: old messages are gone, the checkpoint remains.
-fn renewed(s: Station) -> Station
-    ensures { λ r. ⌜ r ≡ renewed s ⌝ }
-{
-    let saved = s.saved;
-    Station {
-        controller: renew(s.controller),
-        sent: unsent_all(),
-        saved,
-    }
 }
 
 fn renew_all(stations: [Station; LIMIT]) -> [Station; LIMIT]

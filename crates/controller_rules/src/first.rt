@@ -15,7 +15,13 @@ use protocol::Answer;
 use protocol::Controller;
 use votes::single;
 ghost use mathlib.Core.Path.{_≡_};
-ghost use Rattle.protocol.specs.Rules.{voteRule, countOwn, firstTimeout};
+ghost use mathlib.Core.Bool.{not, _&&_};
+ghost use Rattle.ground.specs.Mask.{has};
+ghost use Rattle.model.specs.Ranges.{isBackup};
+ghost use Rattle.model.specs.Routes.{recipients};
+ghost use Rattle.model.specs.declared.Kind.the-variants.{Ack};
+ghost use Rattle.protocol.specs.Controllers.{advance};
+ghost use Rattle.protocol.specs.Rules.{sending, acksTo, voteRule, countOwn, firstTimeout};
 
 // Its own vote goes on its vote set, and to the backups.
 pub fn vote_rule(n: u8, f: u8, i: u8, willing: bool, target: u32, c: Controller) -> Answer
@@ -27,26 +33,38 @@ pub fn vote_rule(n: u8, f: u8, i: u8, willing: bool, target: u32, c: Controller)
     sending(next, votes_to(to, own))
 }
 
-// A backup counts its own acknowledgement; the second backup, f + 1, does not.
+// Is its own acknowledgement to be counted? A backup counts it, once; the second backup, f + 1, does not.
+pub fn counts_own(f: u8, i: u8, from: u32) -> bool
+    ensures { λ r. ⌜ r ≡ (isBackup f i && not (has from i)) ⌝ }
+{
+    if !is_backup(f, i) {
+        return false;
+    }
+    !has(from, i)
+}
+
 fn count_own(f: u8, i: u8, c: Controller) -> Controller
     ensures { λ r. ⌜ r ≡ countOwn f i c ⌝ }
 {
-    if !is_backup(f, i) {
-        return c;
+    if counts_own(f, i, c.acks.from) {
+        let votes = c.votes;
+        return keep_ack(c, i, votes);
     }
-    if has(c.acks.from, i) {
-        return c;
-    }
-    let votes = c.votes;
-    keep_ack(c, i, votes)
+    c
 }
 
 // The vote set is frozen as the acknowledgement and sent, and the controller goes to stage 2.
+pub fn acknowledge(n: u8, f: u8, i: u8, c: Controller) -> Answer
+    ensures { λ r. ⌜ r ≡ sending (advance c 2) (acksTo (recipients n f Ack i) (c .votes)) ⌝ }
+{
+    let votes = c.votes;
+    let to = recipients(n, f, Kind::Ack, i);
+    sending(advance(c, 2), acks_to(to, votes))
+}
+
+// The first timeout: a backup counts its own acknowledgement, and every one sends it.
 pub fn first_timeout(n: u8, f: u8, i: u8, c: Controller) -> Answer
     ensures { λ r. ⌜ r ≡ firstTimeout n f i c ⌝ }
 {
-    let votes = c.votes;
-    let next = advance(count_own(f, i, c), 2);
-    let to = recipients(n, f, Kind::Ack, i);
-    sending(next, acks_to(to, votes))
+    acknowledge(n, f, i, count_own(f, i, c))
 }

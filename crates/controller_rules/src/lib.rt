@@ -9,7 +9,14 @@ mod second;
 mod waiting;
 
 pub use arrivals::arrives;
+pub use arrivals::help_arrives;
+pub use arrivals::helped_arrives;
+pub use arrivals::takes_ack;
+pub use arrivals::vote_arrives;
+pub use first::acknowledge;
+pub use first::counts_own;
 pub use first::first_timeout;
 pub use first::vote_rule;
 pub use held::contradicts_held;
 pub use second::second_timeout;
+pub use waiting::propose_if_sufficient;

@@ -4,7 +4,9 @@ use controller_state::proposing;
 use model::Outcome;
 use model::word_of;
 use protocol::Answer;
+use protocol::Cnt;
 use protocol::Controller;
+use protocol::HelpAnswers;
 use votes::Tallied;
 use votes::VoteSet;
 use votes::tallied_word;
@@ -13,6 +15,7 @@ use votes::unanimous;
 ghost use mathlib.Core.Path.{_≡_};
 ghost use Rattle.votes.specs.Tallies.{talliedOf};
 ghost use Rattle.votes.specs.declared.Joined.the-variants.{Agreed};
+ghost use Rattle.controller_rules.specs.Conclusions.{countedWord};
 ghost use Rattle.protocol.specs.Rules.{verdict, ackJoin, sufficient, answersJoin, proposeIfSufficient};
 
 // The word of a vote set.
@@ -54,7 +57,7 @@ fn answers_verdict(n: u8, c: Controller) -> Outcome
 }
 
 // An answer after which the count may be complete: then a word is put.
-pub(crate) fn propose_if_sufficient(n: u8, f: u8, a: Answer) -> Answer
+pub fn propose_if_sufficient(n: u8, f: u8, a: Answer) -> Answer
     ensures { λ r. ⌜ r ≡ proposeIfSufficient n f a ⌝ }
 {
     let c = a.controller;
@@ -62,4 +65,16 @@ pub(crate) fn propose_if_sufficient(n: u8, f: u8, a: Answer) -> Answer
         return proposing(a, answers_verdict(n, c));
     }
     a
+}
+
+// The word of the help answers, if the two counts suffice; else none.
+pub(crate) fn counted_word(n: u8, f: u8, cnt: Cnt, helped: HelpAnswers) -> Outcome
+    ensures { λ r. ⌜ r ≡ countedWord n f cnt helped ⌝ }
+{
+    let votes = helped.votes;
+    let cnt_help = helped.cnt_help;
+    if counts_suffice(n, f, cnt, cnt_help) {
+        return verdict(n, votes);
+    }
+    Outcome::None
 }

@@ -4,7 +4,6 @@ use crate::conditions::landing;
 use crate::conditions::noting;
 use crate::conditions::outcome_in;
 use ground::LIMIT;
-use ground::insert;
 use model::Outcome;
 use protocol::Acks;
 use protocol::Cnt;
@@ -23,7 +22,7 @@ ghost use lib.ListN.{replicate};
 ghost use Rattle.ground.specs.Limit.{limit};
 ghost use Rattle.votes.specs.VoteSets.{empty};
 ghost use Rattle.protocol.specs.Benches.{fresh};
-ghost use Rattle.protocol.specs.Controllers.{blank, cleared, advance, learn, aim, freeze, addCaller, await, propose, conclude};
+ghost use Rattle.protocol.specs.Controllers.{blank, cleared, advance, learn, aim, freeze, await, propose, conclude};
 
 // A controller of this condition that holds nothing. What stands in its list of acknowledgements no longer counts.
 fn blank(condition: Condition, sets: [VoteSet; LIMIT], position: u32) -> Controller
@@ -107,16 +106,6 @@ pub fn freeze(c: Controller, votes: VoteSet) -> Controller
         help: HelpState { votes, ..c.help },
         ..c
     }
-}
-
-// A help call is taken: to be kept, or answered at once.
-pub fn add_caller(c: Controller, j: u8) -> Controller
-    ensures { λ r. ⌜ r ≡ addCaller c j ⌝ }
-{
-    let callers = insert(c.help.callers, j);
-    let mut next = c;
-    next.help.callers = callers;
-    next
 }
 
 // It waits.

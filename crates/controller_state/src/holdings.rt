@@ -21,6 +21,7 @@ ghost use mathlib.Core.Bool.{cond, _||_};
 ghost use Prim.Native.Nat.{_+_, _-_};
 ghost use lib.Dec.{eqb, leb};
 ghost use Rattle.ground.specs.Lists.{nth, put};
+ghost use Rattle.ground.specs.Mask.{insert};
 ghost use Rattle.votes.specs.VoteSets.{empty};
 ghost use Rattle.model.specs.declared.Outcome.the-variants.{None};
 ghost use Rattle.protocol.specs.Controllers.{phaseIn, bump, keepAck, dropIf, dropTo, dropContradicting, keepHelped};
@@ -81,6 +82,34 @@ pub fn keep_ack(c: Controller, j: u8, s: VoteSet) -> Controller
     let mut next = c;
     next.acks = acks;
     next
+}
+
+// One of two vote sets, or a mask and a count with one more or as they are: an acknowledgement that is kept or not, part by part.
+pub fn set_if(takes: bool, s: VoteSet, other: VoteSet) -> VoteSet
+    ensures { λ r. ⌜ r ≡ cond takes s other ⌝ }
+{
+    if takes {
+        return s;
+    }
+    other
+}
+
+pub fn from_if(takes: bool, from: u32, j: u8) -> u32
+    ensures { λ r. ⌜ r ≡ cond takes (insert from j) from ⌝ }
+{
+    if takes {
+        return insert(from, j);
+    }
+    from
+}
+
+pub fn cnt_if(takes: bool, k: u8) -> u8
+    ensures { λ r. ⌜ r ≡ cond takes (bump k) k ⌝ }
+{
+    if takes {
+        return bump(k);
+    }
+    k
 }
 
 // The vote set of sender j in a list. Only as many senders as the limit have a place.

@@ -11,12 +11,12 @@ use Rattle.protocol.specs.Benches.{newBench}
 use Rattle.protocol.specs.Steps.{run}
 use Rattle.bench_run.specs.declared.RunResult.{RunResult}
 use Rattle.bench_run.specs.Schedule.{count, events}
-use Rattle.bench_run.specs.Runs.{answers}
+use Rattle.bench_run.specs.Runs.{answers, endOf}
 use Rattle.text.specs.WritingLaws.{same-fitted, rendered}
 use Rattle.bench_report.specs.declared.Summary.{Summary}
 use Rattle.bench_report.specs.Limits.{mostAnswers, isTooLong}
 use Rattle.bench_report.specs.Report.{reported}
-use Rattle.bench_output.specs.Summary.{summaryOf}
+use Rattle.bench_summary.specs.Summary.{summaryOf}
 use Rattle.bench_output.specs.Output.{outputOf}
 use Rattle.bench_output.proofs.Texts.{is-too-long, few-answers, few, counted, all-run, all-answered, is-report}
 use Rattle.bench_output.proofs.render.Statement.{statement}
@@ -57,7 +57,7 @@ short c = sym (c .before .before .before .is-too-long .ensures) ∙ c .before .b
 room : length empty ≡ mostAnswers
 room = length-replicate {A = ℕ} mostAnswers 0
 
-ran : (c : tie.After-run) → c .run .result ≡ record { complete = true; count = count (schedule c); bench = run newBench (events (schedule c)) }
+ran : (c : tie.After-run) → c .run .result ≡ endOf true (count (schedule c)) (run newBench (events (schedule c)))
 ran c = c .run .ensures .result ∙ all-run (schedule c) (short c) empty room
 
 all-counted : (c : tie.After-run) → c .run .result .count ≡ count (schedule c)
@@ -71,9 +71,6 @@ given c =
     ap (λ (n : ℕ). take n (c .run .last .1 .0)) (all-counted c)
     ∙ ap (take (count (schedule c))) (c .run .ensures .buffer)
     ∙ all-answered (schedule c) (short c) empty room
-
-summary-of-requires : tie.Need-summary-of-requires
-summary-of-requires c κs = search needs
 
 array-share-prefix-answers : tie.Need-array-share-prefix-answers
 array-share-prefix-answers c = within (c .before .before .before)
@@ -91,10 +88,9 @@ returns-2 : tie.Need-returns-2
 returns-2 c =
     let r = c .before .before .before .before .before .before .before in
     let s = schedule r in
-    let summary : c .before .before .before .before .before .summary-of .result ≡ summaryOf (run newBench (events s)) =
-    c .before .before .before .before .before .summary-of .ensures ∙ ap (λ (x : RunResult). summaryOf (x .bench)) (ran r) in
-    let text : reported (take (r .run .result .count) (r .run .last .1 .0)) (c .before .before .before .before .before .summary-of .result) ≡ outputOf s =
-    ap (λ (x : List ℕ). reported x (c .before .before .before .before .before .summary-of .result)) (given r)
+    let summary : r .run .result .summary ≡ summaryOf (run newBench (events s)) = ap (λ (x : RunResult). x .summary) (ran r) in
+    let text : reported (take (r .run .result .count) (r .run .last .1 .0)) (r .run .result .summary) ≡ outputOf s =
+    ap (λ (x : List ℕ). reported x (r .run .result .summary)) (given r)
     ∙ ap (λ (x : Summary). reported (answers s) x) summary
     ∙ few (answers s) (summaryOf (run newBench (events s))) (few-answers s (short r))
     ∙ sym (is-report s (short r)) in
@@ -110,7 +106,6 @@ render-spec =
     returns
     slice-aggregate-run
     run-requires
-    summary-of-requires
     array-share-prefix-answers
     slice-aggregate-write-report
     write-report-requires

@@ -188,7 +188,7 @@ module _ (n f : ℕ) where
           either false true e = refl
           either false false e = absurd (false≢true e)
 
-  decide-is : (w : Bool) (c : Controller) → (runs c || standsBy c) ≡ true → (standsBy c || eqb (phase c) 3) ≡ true → decide w c ≡ becomes (conclude c (wordOf w))
+  pub decide-is : (w : Bool) (c : Controller) → (runs c || standsBy c) ≡ true → (standsBy c || eqb (phase c) 3) ≡ true → decide w c ≡ becomes (conclude c (wordOf w))
   unfolding decide awaitsDecision
   decide-is w c p q = rw (both (runs c) (standsBy c) (eqb (phase c) 3) p q)
     where
@@ -197,7 +197,7 @@ module _ (n f : ℕ) where
       both true false x p q = q
       both false false x p q = absurd (false≢true p)
 
-  stop-is : (c : Controller) → (runs c || standsBy c) ≡ true → stop c ≡ becomes (cleared Stopped c)
+  pub stop-is : (c : Controller) → (runs c || standsBy c) ≡ true → stop c ≡ becomes (cleared Stopped c)
   unfolding stop
   stop-is c p = rw p
 

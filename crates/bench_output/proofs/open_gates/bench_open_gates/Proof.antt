@@ -30,10 +30,10 @@ run-requires c κs = search needs
 returns-2 : tie.Need-returns-2
 unfolding openGatesOf
 returns-2 c =
-    let s = c .before .before .before .before .before .before .before .args .s .now in
-    let e : isTooLong (length s) ≡ false = sym (c .before .before .before .before .before .is-too-long .ensures) ∙ c .before .before .before .before .if1 .left in
-    let ran = c .before .before .run .ensures .result ∙ all-run s e (replicate mostAnswers 0) (length-replicate {A = ℕ} mostAnswers 0) in
-    ap (λ (r : RunResult). r .bench .shared .counts .undecided) ran ∙ sym (rw e)
+    let s = c .before .before .before .before .before .before .args .s .now in
+    let e : isTooLong (length s) ≡ false = sym (c .before .before .before .before .is-too-long .ensures) ∙ c .before .before .before .if1 .left in
+    let ran = c .before .run .ensures .result ∙ all-run s e (replicate mostAnswers 0) (length-replicate {A = ℕ} mostAnswers 0) in
+    ap (λ (r : RunResult). r .«open_gates») ran ∙ sym (rw e)
 
 pub bench-open-gates-spec : {M : Type 1} → statement M
 bench-open-gates-spec = tie.close (tie.spec is-too-long-requires returns slice-aggregate-run run-requires returns-2)

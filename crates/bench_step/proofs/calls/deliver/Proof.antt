@@ -16,11 +16,11 @@ event s = Deliver (s .args .from) (s .args .to) (s .args .kind)
 
 asked : (c : tie.After-deliver-question) → let s = c .before .before .before .before .before .before .before .before .before in c .deliver-question .result ≡ number (firstNo (questionsOf (factsRead (s .args .b) (event s)) (event s)))
 unfolding answerTo
-asked c = rw (c .deliver-question .ensures, c .before .condition-of .ensures, c .before .before .is-contradicted .ensures, c .before .before .before .receive .ensures, c .before .before .before .before .message-to .ensures, c .before .before .before .before .before .identity .ensures, c .before .before .before .before .before .before .of-kind .ensures, c .before .before .before .before .before .before .before .station-at2 .ensures .0, c .before .before .before .before .before .before .before .before .station-at .ensures .0)
+asked c = rw (c .deliver-question .ensures, c .before .condition-of .ensures, c .before .before .is-contradicted .ensures, c .before .before .before .receive .ensures, c .before .before .before .before .message-to .ensures, c .before .before .before .before .before .identity .ensures, c .before .before .before .before .before .before .outgoing .ensures, c .before .before .before .before .before .before .before .station-at2 .ensures .0, c .before .before .before .before .before .before .before .before .station-at .ensures .0)
 
 leaves : (c : tie.After-answering) → let s = c .before .before .before .before .before .before .before .before .before .before in c .answering .result ≡ effect (s .args .b .shared) (event s) (sentRead (s .args .b) (event s)) (stationRead (s .args .b) (s .args .to))
 unfolding effectOf answerTo
-leaves c = rw (c .answering .ensures, c .before .before .before .before .receive .ensures, c .before .before .before .before .before .message-to .ensures, c .before .before .before .before .before .before .identity .ensures, c .before .before .before .before .before .before .before .of-kind .ensures, c .before .before .before .before .before .before .before .before .station-at2 .ensures .0, c .before .before .before .before .before .before .before .before .before .station-at .ensures .0)
+leaves c = rw (c .answering .ensures, c .before .before .before .before .receive .ensures, c .before .before .before .before .before .message-to .ensures, c .before .before .before .before .before .before .identity .ensures, c .before .before .before .before .before .before .before .outgoing .ensures, c .before .before .before .before .before .before .before .before .station-at2 .ensures .0, c .before .before .before .before .before .before .before .before .before .station-at .ensures .0)
 
 station-at-requires : tie.Need-station-at-requires
 station-at-requires c κs = search needs
@@ -28,8 +28,8 @@ station-at-requires c κs = search needs
 station-at-requires-2 : tie.Need-station-at-requires-2
 station-at-requires-2 c κs = search needs
 
-of-kind-requires : tie.Need-of-kind-requires
-of-kind-requires c κs = search needs
+outgoing-requires : tie.Need-outgoing-requires
+outgoing-requires c κs = search needs
 
 identity-requires : tie.Need-identity-requires
 identity-requires c κs = search needs
@@ -58,7 +58,7 @@ finish-requires c κs = let s = c .before .before .before .before .before .befor
 returns : tie.Need-returns
 returns c =
     let s = c .before .before .before .before .before .before .before .before .before .before .before in
-    c .finish .ensures ∙ one-finished (s .args .b) (event s) (c .before .before .before .before .before .before .before .before .before .before .station-at .ensures .1) _ (asked (c .before .before)) refl _ (leaves (c .before))
+    c .finish .ensures ∙ one-finished (s .args .b) (event s) (c .before .before .before .before .before .before .before .before .before .before .station-at .ensures .1) _ (asked (c .before .before)) refl _ (λ y. leaves (c .before))
 
 pub deliver-spec : {M : Type 1} → statement M
 deliver-spec =
@@ -66,7 +66,7 @@ deliver-spec =
     (tie.spec
     station-at-requires
     station-at-requires-2
-    of-kind-requires
+    outgoing-requires
     identity-requires
     message-to-requires
     receive-requires

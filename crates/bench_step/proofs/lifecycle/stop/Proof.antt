@@ -1,11 +1,12 @@
--- A stop: its questions and its controller's answer, on the station as it is read.
+-- A stop: its questions and its turn, on the station as it is read.
 use mathlib.Core.Path.{_≡_, refl, _∙_}
+use Rattle.model.specs.QuestionLaws.{AllYes}
 use Rattle.model.specs.declared.Event.{Event}
 use Rattle.model.specs.declared.Event.the-variants.{Stop}
-use Rattle.protocol.specs.Events.{answerTo}
 use Rattle.protocol.specs.Questions.{number, firstNo, questionsOf}
-use Rattle.protocol.specs.Steps.{effectOf, effect}
+use Rattle.protocol.specs.Steps.{effect}
 use Rattle.bench_step.proofs.StationsRead.{stationRead, sentRead}
+use Rattle.bench_step.proofs.Turns.{turn-stops}
 use Rattle.bench_step.proofs.StepLaws.{factsRead, one-first, one-finished}
 use borrow.Author.Needs.{needs}
 use Rattle.bench_step.proofs.lifecycle.stop.Statement.{statement}
@@ -17,9 +18,9 @@ event s = Stop (s .args .id)
 asked : (c : tie.After-present-question) → let s = c .before .before .before in c .present-question .result ≡ number (firstNo (questionsOf (factsRead (s .args .b) (event s)) (event s)))
 asked c = rw (c .present-question .ensures .0, c .before .condition-of .ensures, c .before .before .station-at .ensures .0)
 
-leaves : (c : tie.After-answering) → let s = c .before .before .before .before .before in c .answering .result ≡ effect (s .args .b .shared) (event s) (sentRead (s .args .b) (event s)) (stationRead (s .args .b) (s .args .id))
-unfolding effectOf answerTo
-leaves c = rw (c .answering .ensures, c .before .stop .ensures, c .before .before .before .before .station-at .ensures .0)
+leaves : (c : tie.After-stop-turn) → let s = c .before .before .before .before in AllYes (questionsOf (factsRead (s .args .b) (event s)) (event s))
+    → c .stop-turn .result ≡ effect (s .args .b .shared) (event s) (sentRead (s .args .b) (event s)) (stationRead (s .args .b) (s .args .id))
+leaves c y = rw (c .stop-turn .ensures, c .before .before .before .station-at .ensures .0) (turn-stops _ _ _ _ y)
 
 station-at-requires : tie.Need-station-at-requires
 station-at-requires c κs = search needs
@@ -30,28 +31,16 @@ condition-of-requires c κs = search needs
 present-question-requires : tie.Need-present-question-requires
 present-question-requires c κs = search needs
 
-stop-requires : tie.Need-stop-requires
-stop-requires c κs = search needs
-
-answering-requires : tie.Need-answering-requires
-answering-requires c κs = search needs
+stop-turn-requires : tie.Need-stop-turn-requires
+stop-turn-requires c κs = search needs
 
 finish-requires : tie.Need-finish-requires
-finish-requires c κs = let s = c .before .before .before .before .before in one-first (s .args .b) (event s) (c .before .before .before .before .station-at .ensures .1) _ (asked (c .before .before)) refl
+finish-requires c κs = let s = c .before .before .before .before in one-first (s .args .b) (event s) (c .before .before .before .station-at .ensures .1) _ (asked (c .before)) refl
 
 returns : tie.Need-returns
 returns c =
-    let s = c .before .before .before .before .before .before in
-    c .finish .ensures ∙ one-finished (s .args .b) (event s) (c .before .before .before .before .before .station-at .ensures .1) _ (asked (c .before .before .before)) refl _ (leaves (c .before))
+    let s = c .before .before .before .before .before in
+    c .finish .ensures ∙ one-finished (s .args .b) (event s) (c .before .before .before .before .station-at .ensures .1) _ (asked (c .before .before)) refl _ (leaves (c .before))
 
 pub stop-spec : {M : Type 1} → statement M
-stop-spec =
-    tie.close
-    (tie.spec
-    station-at-requires
-    condition-of-requires
-    present-question-requires
-    stop-requires
-    answering-requires
-    finish-requires
-    returns)
+stop-spec = tie.close (tie.spec station-at-requires condition-of-requires present-question-requires stop-turn-requires finish-requires returns)

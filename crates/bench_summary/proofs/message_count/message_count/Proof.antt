@@ -1,0 +1,89 @@
+-- `bench_summary::message_count::message_count` meets its contract. The invariant: the total is the sum over the first i controllers, at most 255 for each.
+use Prim.Native.Nat.{_*_, _-_, _≤_}
+use mathlib.Core.Path.{_≡_, _∙_, ap}
+use native.Mathlib.Omega.{arith}
+use lib.ListN.{length, length-map}
+use borrow.Author.Needs.{needs}
+use Rattle.ground.specs.Limit.{limit}
+use Rattle.protocol.specs.Benches.{station, freshStation, fresh, unsentAll}
+use Rattle.protocol.specs.Display.{messageCount, sentCount, sumTo}
+use Rattle.bench_summary.proofs.Stations.{sent-at}
+use Rattle.bench_summary.proofs.Sums.{no-sum, more-sum}
+use Rattle.bench_summary.proofs.message_count.message_count.Statement.{statement}
+use Rattle.bench_summary.proofs.message_count.message_count.Tie as tie
+
+abbrev Inv-loop : tie.InvT-loop
+Inv-loop b kind end stations total₀ i₀ total i = (i ≤ end) × ((total ≤ i * 255) × (total ≡ sumTo i (sentCount b kind)))
+
+abbrev μ-loop : tie.MeasureT-loop
+μ-loop b kind end stations total₀ i₀ total i = end - i
+
+cast-end : tie.Need-cast-end Inv-loop μ-loop
+cast-end c = search needs
+
+loop-holds : tie.Need-loop-holds Inv-loop μ-loop
+loop-holds c = (omega arith, (omega arith, no-sum _))
+
+place-of-requires : tie.Need-place-of-requires Inv-loop μ-loop
+place-of-requires c κs = search needs
+
+mul-s : tie.Need-mul-s Inv-loop μ-loop
+mul-s c = search needs
+
+array-copy-out-s : tie.Need-array-copy-out-s Inv-loop μ-loop
+array-copy-out-s c = search needs
+
+receivers-at-requires : tie.Need-receivers-at-requires Inv-loop μ-loop
+receivers-at-requires c κs = search needs
+
+size-requires : tie.Need-size-requires Inv-loop μ-loop
+size-requires c κs = search needs
+
+cast-total : tie.Need-cast-total Inv-loop μ-loop
+cast-total c = search needs
+
+add-total : tie.Need-add-total Inv-loop μ-loop
+add-total c = omega arith
+
+add-i : tie.Need-add-i Inv-loop μ-loop
+add-i c = omega arith
+
+loop-less : tie.Need-loop-less Inv-loop μ-loop
+loop-less c = omega arith
+
+loop-again : tie.Need-loop-again Inv-loop μ-loop
+unfolding sentCount station freshStation fresh unsentAll
+loop-again c =
+    let start = c .before .before .before .before .before .before .before .before in
+    let l = c .before .before .before .before .before .loop in
+    let sixteen : length (start .args .b .stations) ≡ limit = simp length-map at (start .good .0 .1 .1 .1 .0 .1 .0 .1) in
+    let to = c .before .receivers-at .ensures ∙ sent-at (start .args .b .stations) (start .args .kind) (l .i) (c .before .before .before .place-of .result) sixteen (c .before .before .before .place-of .ensures .1) in
+    (omega arith, (omega arith, more-sum (sentCount (start .args .b) (start .args .kind)) (l .i) (l .total) (c .size .result) (l .inv .1 .1) (rw (← to) (c .size .ensures))))
+
+returns : tie.Need-returns Inv-loop μ-loop
+unfolding messageCount
+returns c =
+    let a = c .before .before .before .before .args in
+    let l = c .before .loop in
+    let e : l .i ≡ a .b .shared .n = omega arith in
+    l .inv .1 .1 ∙ ap (λ k. sumTo k (sentCount (a .b) (a .kind))) e
+
+pub message-count-spec : {M : Type 1} → statement M
+message-count-spec =
+    tie.close
+    (tie.spec
+    Inv-loop
+    μ-loop
+    cast-end
+    loop-holds
+    place-of-requires
+    mul-s
+    array-copy-out-s
+    receivers-at-requires
+    size-requires
+    cast-total
+    add-total
+    add-i
+    loop-less
+    loop-again
+    returns)
