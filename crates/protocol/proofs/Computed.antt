@@ -11,10 +11,11 @@ use Rattle.protocol.specs.QuestionTrials.{givesAll, asAsked, schedules}
 use Rattle.protocol.specs.EarlyCallTrials.{earlyCalls, sequences}
 use Rattle.protocol.specs.Alone.{called, calledAll}
 use Rattle.protocol.specs.StrayTrials.{numbersOf, answersAs, strays}
+use Rattle.protocol.specs.AloneTrials.{takenOf, standsAs, aloneTrials}
 use Rattle.protocol.specs.Trials.{table, TrialsHold}
 
 pub trials : TrialsHold
-unfolding failing table ruleTrials standbyTrials checkpointTrials hasCheckpoint schedules asAsked givesAll earlyCalls sequences cleanOrder allEnded allAcked allVoted deliveries deliveriesOf timeouts casts passes sendsAs messagesOf messagesOfKind members shows same each answersTo openAfter answersAs strays numbersOf called calledAll wholeRun
+unfolding failing table ruleTrials standbyTrials checkpointTrials hasCheckpoint schedules asAsked givesAll earlyCalls sequences cleanOrder allEnded allAcked allVoted deliveries deliveriesOf timeouts casts passes sendsAs messagesOf messagesOfKind members shows same each answersTo openAfter answersAs strays numbersOf standsAs aloneTrials takenOf called calledAll wholeRun
 trials = record {
   starred = refl;
   rules = refl;
@@ -26,4 +27,5 @@ trials = record {
   answers = refl;
   open-gates = refl;
   stray = refl;
+  alone = refl;
 }

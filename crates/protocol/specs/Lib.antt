@@ -41,4 +41,5 @@ pub mod StandbyTrials
 pub mod QuestionTrials
 pub mod EarlyCallTrials
 pub mod StrayTrials
+pub mod AloneTrials
 pub mod Trials

@@ -85,4 +85,9 @@ schedules =
     -- "18. Was the word put in this order, and no other given?" 1 puts Stay
     ∷ (opened ++ (gives (Cast 1 true 10) 0 ∷ gives (Cast 3 true 30) 0 ∷ gives (Timeout 3) 0 ∷ gives (Decide 3 false) 18 ∷ gives (Timeout 1) 0 ∷ gives (Timeout 1) 0
     ∷ gives (Decide 3 true) 18 ∷ gives (Decide 3 false) 0 ∷ gives (Decide 3 true) 18 ∷ gives (Decide 3 false) 0 ∷ gives (Decide 1 false) 0 ∷ []))
+    -- **New order**: "Old telegrams, words put and the arbiter's choice are gone". In order 1 both put Stay and are given it; in order 2 only 2 puts a word, Move
+    ∷ (gives (Lock 2 1) 0 ∷ gives (Order 1) 0 ∷ gives (Cast 1 true 10) 0 ∷ gives (Cast 2 true 20) 0 ∷ gives (Timeout 1) 0 ∷ gives (Timeout 2) 0 ∷ gives (Timeout 1) 0 ∷ gives (Timeout 2) 0
+    ∷ gives (Deliver 2 1 Vote) 0 ∷ gives (Deliver 2 1 Ack) 0 ∷ gives (Decide 1 false) 0 ∷ gives (Decide 2 false) 0 ∷ gives (Order 2) 0 ∷ gives (Deliver 2 1 Vote) 17 ∷ gives (Deliver 2 1 Ack) 17
+    ∷ gives (Cast 1 true 10) 0 ∷ gives (Cast 2 true 20) 0 ∷ gives (Deliver 1 2 Vote) 0 ∷ gives (Timeout 2) 0 ∷ gives (Timeout 2) 0 ∷ gives (Decide 2 false) 18 ∷ gives (Decide 2 true) 0
+    ∷ gives (Decide 2 false) 18 ∷ [])
     ∷ []

@@ -45,6 +45,11 @@ standbyTrials =
     -- **New order**: "running and standing-by controllers begin at stage 0, running, without outcome. Stopped ones remain stopped."
     ∷ silent (standing ++ (Decide 1 false ∷ Decide 2 false ∷ Order 2 ∷ [])) (allAccepted 14) (C 0 None 0 ∷ C 0 None 0 ∷ []) (T 0 0 0 0) (held 0 0 ∷ held 0 0 ∷ [])
     ∷ silent (standing ++ (Stop 1 ∷ Decide 2 false ∷ Order 2 ∷ [])) (allAccepted 14) (C 8 None 0 ∷ C 0 None 0 ∷ []) (T 0 0 0 0) (held 0 0 ∷ held 0 0 ∷ [])
+    -- and every gate stays where it stands: of one that ran, of one stopped, of one standing by
+    ∷ silent (returned ++ (Decide 2 true ∷ Order 2 ∷ [])) (allAccepted 16) (C 0 None 500 ∷ C 0 None 250 ∷ []) (T 0 0 0 0) (held 0 0 ∷ held 0 0 ∷ [])
+    ∷ silent (returned ++ (Stop 1 ∷ Decide 2 true ∷ Order 2 ∷ [])) (allAccepted 17) (C 8 None 500 ∷ C 0 None 250 ∷ []) (T 0 0 0 0) (held 0 0 ∷ held 0 0 ∷ [])
+    -- also over a restore in that order, and a third one
+    ∷ silent (returned ++ (Stop 1 ∷ Decide 2 true ∷ Order 2 ∷ Restore 1 ∷ Stop 2 ∷ Order 3 ∷ [])) (allAccepted 20) (C 0 None 500 ∷ C 8 None 250 ∷ []) (T 0 0 0 0) (held 0 0 ∷ held 0 0 ∷ [])
     ∷ []
 
 -- the checkpoint (document 01: card) of a controller after some events

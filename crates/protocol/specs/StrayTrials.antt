@@ -82,6 +82,19 @@ strays =
     ∷ waiting (to5 Helped 3 4 4 ∷ to5 Help 4 0 0 ∷ to5 Help 2 4 0 ∷ []) (0 ∷ 0 ∷ 0 ∷ []) 0 2
     -- a vote set that does not suit its kind is passed over, though it contradicts: 3's vote that knows 2 as well
     ∷ backup (to1 Vote 2 2 2 ∷ to1 Vote 3 6 4 ∷ []) (0 ∷ 0 ∷ []) 0 0
+    -- question 9, of what reading would have refused. "No bit above n": 2's acknowledgement knows 6, or has it willing; "willing within known": it has 3 willing, not known
+    ∷ backup (to1 Ack 2 34 34 ∷ []) (0 ∷ []) 0 0
+    ∷ backup (to1 Ack 2 2 34 ∷ []) (0 ∷ []) 0 0
+    ∷ backup (to1 Ack 2 2 6 ∷ []) (0 ∷ []) 0 0
+    -- "kinds 2 and 4 know at least their sender": 2's knows 3 alone, or nobody; 3's answer knows 4 alone
+    ∷ backup (to1 Ack 2 4 4 ∷ []) (0 ∷ []) 0 0
+    ∷ backup (to1 Ack 2 0 0 ∷ []) (0 ∷ []) 0 0
+    ∷ waiting (to5 Helped 3 8 8 ∷ []) (0 ∷ []) 0 1
+    -- questions 7 and 10: a sender that is none of the lock, or that may not send it
+    ∷ backup (to1 Ack 6 32 32 ∷ []) (0 ∷ []) 0 0
+    ∷ backup (to1 Ack 3 4 4 ∷ []) (0 ∷ []) 0 0
+    ∷ waiting (to5 Ack 2 2 2 ∷ []) (0 ∷ []) 0 1
+    ∷ waiting (to5 Helped 1 1 1 ∷ []) (0 ∷ []) 0 1
     -- Document 01: "a controller passes over any of another order, n or f, or meant for another controller". 2's acknowledgement is counted,
     ∷ backup (ofTwo 5 1 1 1 ∷ []) (0 ∷ []) 1 0
     -- and not one of order 2, of n = 4, of f = 2, or for 3

@@ -20,6 +20,7 @@ use Rattle.protocol.specs.StandbyTrials.{standbyTrials, hasCheckpoint, c
 use Rattle.protocol.specs.QuestionTrials.{asAsked, schedules}
 use Rattle.protocol.specs.EarlyCallTrials.{earlyCalls, sequences}
 use Rattle.protocol.specs.StrayTrials.{answersAs, strays}
+use Rattle.protocol.specs.AloneTrials.{standsAs, aloneTrials}
 
 -- "Input: lock 2 1; order 1; vote 1 willing 500; vote 2 willing −250; deliver votes 1 to 2, 2 to 1; bells 1, 2;
 -- deliver acknowledgements 1 to 2, 2 to 1; bells 1, 2." With 2 willing or not.
@@ -143,3 +144,5 @@ pub record TrialsHold : Type 0 where
   pub answers : same eqb (answersTo newBench reopened) reopenedAnswers ≡ true
   pub open-gates : same eqb (openAfter newBench reopened) stillOpen ≡ true
   pub stray : AllPass answersAs strays
+  -- a controller alone, to which a call may come that the bench would refuse (AloneTrials)
+  pub alone : AllPass standsAs aloneTrials

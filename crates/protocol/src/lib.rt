@@ -249,7 +249,8 @@ pub fn controller_alone()
 
 // The starred trials of document 01, run by the definitions: every row of the table in specs/Trials.antt shows what the document says of it. And the other
 // tables: rules and one standing by, where a row alone tells right from wrong (RuleTrials, StandbyTrials); the numbers that events give (QuestionTrials); help
-// calls that come early, and messages in their sequence (EarlyCallTrials); the count of gates still open; stray messages (StrayTrials).
+// calls that come early, and messages in their sequence (EarlyCallTrials); the count of gates still open; stray messages (StrayTrials); a controller alone
+// (AloneTrials).
 pub fn trials_hold()
     ensures { λ _. ⌜ TrialsHold ⌝ }
 {}
