@@ -1,6 +1,5 @@
 -- Document 02, U12: "A weir customer has 24 gates on one order." Clean orders of them, in the manner of the table of trials; what is expected was written
 -- from the documents, and the definition runs the events.
-use mathlib.Core.Path.{_≡_}
 use mathlib.Core.Bool.{true}
 use mathlib.Core.List.{List, [], _∷_, _++_}
 use lib.Dec.{ltb}
@@ -8,7 +7,7 @@ use lib.ListN.{replicate}
 use Rattle.model.specs.declared.Outcome.the-variants.{Stay, Move}
 use Rattle.protocol.specs.CleanOrders.{cleanOrder}
 use Rattle.protocol.specs.Rows.{Trial, passes}
-use Rattle.protocol.specs.Trials.{C, T, held, silent, allAccepted, allPass}
+use Rattle.protocol.specs.RowWords.{C, T, held, silent, allAccepted, AllPass}
 
 unfoldable pub wideTable : List Trial
 wideTable =
@@ -21,4 +20,4 @@ wideTable =
     ∷ []
 
 abbrev pub WideTrialsHold : Type 0
-WideTrialsHold = allPass passes wideTable ≡ true
+WideTrialsHold = AllPass passes wideTable

@@ -4,13 +4,13 @@ use Rattle.protocol.specs.Computing.{wholeRun}
 use Rattle.protocol.specs.Sequence.{members}
 use Rattle.protocol.specs.CleanOrders.{casts, timeouts, deliveriesOf, deliveries, allVoted, allAcked, allEnded, cleanOrder}
 use Rattle.protocol.specs.Rows.{answersTo, each, same, shows, passes}
-use Rattle.protocol.specs.Trials.{allPass}
+use Rattle.protocol.specs.RowWords.{failing}
 use Rattle.wide_locks.specs.WideTrials.{wideTable, WideTrialsHold}
 use Rattle.wide_locks.proofs.wide_trials_hold.Statement.{statement}
 use Rattle.wide_locks.proofs.wide_trials_hold.Tie as tie
 
 trials : WideTrialsHold
-unfolding allPass wideTable cleanOrder allEnded allAcked allVoted deliveries deliveriesOf timeouts casts passes shows same each answersTo members wholeRun
+unfolding failing wideTable cleanOrder allEnded allAcked allVoted deliveries deliveriesOf timeouts casts passes shows same each answersTo members wholeRun
 trials = refl
 
 returns : tie.Need-returns
