@@ -1,7 +1,7 @@
 //! The bench program in Rust written for speed: one pass over the schedule, the bench changed in place, no allocation, digits by hand.
-//! It is written from document 01 with request U4 of document 02, apart from the reference implementation, which is written for clarity.
+//! It is written from document 01 with requests U4 and U12 of document 02, apart from the reference implementation, which is written for clarity.
 
-const LIMIT: usize = 16;
+const LIMIT: usize = 32;
 const LONGEST_SCHEDULE: usize = 40_960;
 
 /// No line of an answer, of a controller, of the telegrams is longer.
@@ -15,14 +15,14 @@ pub const LONGEST_REPORT: usize = (LONGEST_SCHEDULE / 10) * ANSWER_LINE + LIMIT 
 /// A sheet.
 #[derive(Clone, Copy, Default)]
 struct Votes {
-    known: u16,
-    willing: u16,
+    known: u32,
+    willing: u32,
 }
 
 /// A sheet, and to whom it was sent.
 #[derive(Clone, Copy, Default)]
 struct Outgoing {
-    to: u16,
+    to: u32,
     votes: Votes,
 }
 
@@ -60,10 +60,10 @@ struct Controller {
     outcome: Word,
     waiting: bool,
     votes: Votes,
-    acks_from: u16,
-    helped_from: u16,
+    acks_from: u32,
+    helped_from: u32,
     /// whose help calls it has taken: before stage 3 they are kept, from then on answered
-    callers: u16,
+    callers: u32,
     helped: Votes,
     help: Votes,
     target: i32,
@@ -78,8 +78,8 @@ struct Bench {
     n: u8,
     f: u8,
     /// 1 to n, and 1 to f
-    everyone: u16,
-    backups: u16,
+    everyone: u32,
+    backups: u32,
     order: u32,
     move_put: bool,
     stay_put: bool,
@@ -117,7 +117,7 @@ impl Votes {
         self.willing |= other.willing;
     }
 
-    fn word(self, everyone: u16) -> Word {
+    fn word(self, everyone: u32) -> Word {
         if self.known & self.willing & everyone == everyone {
             Word::Move
         } else {
@@ -127,13 +127,13 @@ impl Votes {
 }
 
 #[inline]
-fn bit(k: u8) -> u16 {
+fn bit(k: u8) -> u32 {
     1 << (k - 1)
 }
 
 /// 1 to k.
-fn all_to(k: u8) -> u16 {
-    ((1u32 << k) - 1) as u16
+fn all_to(k: u8) -> u32 {
+    ((1u64 << k) - 1) as u32
 }
 
 impl Controller {
@@ -200,7 +200,7 @@ impl Controller {
     }
 
     /// Are the acknowledgements of these held, and do all of them know these?
-    fn acks_know(&self, senders: u16, these: u16) -> bool {
+    fn acks_know(&self, senders: u32, these: u32) -> bool {
         if self.acks_from & senders != senders {
             return false;
         }
@@ -242,7 +242,7 @@ impl Bench {
 
     /// To whom a kind may travel from a controller.
     #[inline]
-    fn receivers(&self, kind: usize, from: u8) -> u16 {
+    fn receivers(&self, kind: usize, from: u8) -> u32 {
         let all = match kind {
             VOTE if from <= self.f => self.backups << 1 | 1,
             VOTE => self.backups,
@@ -283,7 +283,7 @@ impl Bench {
     }
 
     fn lock(&mut self, n: u8, f: u8) -> u8 {
-        if !(2 <= n && n <= 16 && 1 <= f && f < n) {
+        if !(2 <= n && usize::from(n) <= LIMIT && 1 <= f && f < n) {
             return 4;
         }
         if self.n != 0 {
@@ -594,7 +594,7 @@ impl Bench {
 
 /// A waiting controller with enough of both counts puts a word, and waits no more.
 #[inline]
-fn settle(c: &mut Controller, n: u8, f: u8, everyone: u16) -> Word {
+fn settle(c: &mut Controller, n: u8, f: u8, everyone: u32) -> Word {
     if !c.waiting {
         return Word::None;
     }

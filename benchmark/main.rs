@@ -36,12 +36,16 @@ fn main() {
     let path = std::env::args().nth(1).expect("usage: benchmark SCHEDULES");
     let file = std::fs::read(path).expect("the file of schedules is read");
     let clean_16 = schedules::clean_orders(16, 15);
+    let clean_32 = schedules::clean_orders(32, 31);
     let clean_4 = schedules::clean_orders(4, 2);
     let repeated = schedules::repeated_deliveries();
     let refused = schedules::refused();
     let one = |name, schedule| Set { name, schedules: vec![schedule] };
+    let (narrow, wide) = split(&file).into_iter().partition(|schedule| controllers(schedule) <= 16);
     let sets = [
-        Set { name: "generated mix", schedules: split(&file) },
+        Set { name: "generated mix, up to 16 controllers", schedules: narrow },
+        Set { name: "generated mix, 17 to 32 controllers", schedules: wide },
+        one("clean orders, n = 32, f = 31", &clean_32),
         one("clean orders, n = 16, f = 15", &clean_16),
         one("clean orders, n = 4, f = 2", &clean_4),
         one("repeated deliveries", &repeated),
@@ -78,6 +82,11 @@ fn seconds(report: impl FnOnce() -> usize) -> f64 {
     let start = Instant::now();
     black_box(report());
     start.elapsed().as_secs_f64()
+}
+
+/// How many controllers the schedule's lock has.
+fn controllers(schedule: &[u8]) -> usize {
+    bench_report(schedule).lines().filter(|line| line.starts_with('C')).count()
 }
 
 /// The schedules of a file that the program runs (at most 40,960 bytes each).

@@ -45,7 +45,7 @@ pub fn refused() -> Vec<u8> {
         record(Event::Deliver { from: 1, to: 2, kind: MessageKind::Vote }),
         unlisted,
         record(Event::Vote { id: 3, willing: true, target: 500 }),
-        record(Event::Lock { group: Group { n: 17, f: 1 } }),
+        record(Event::Lock { group: Group { n: 33, f: 1 } }),
         unused,
         record(Event::Timeout { id: 16 }),
         record(Event::Order { number: 1 }),

@@ -63,7 +63,8 @@ rustc --edition 2021 -D warnings -L native="$root/target/staticlib" -o "$work/fr
 say "$(cat "$work/from_rust.out")"
 
 "$ref/gen_schedules" 2000 3 > "$work/schedules"
-"$ref/compare" "$work/schedules" "$bin/program_bench" || stop "schedules differ"
+"$ref/compare" "$work/schedules" "$bin/program_bench" > "$work/schedules.out" || { cat "$work/schedules.out"; stop "schedules differ"; }
+cat "$work/schedules.out"
 "$ref/compare" "$work/schedules" "$bin/try_step" > "$work/step.out" || stop "schedules differ where they are played by the step by value"
 say "$(head -n 1 "$work/step.out") where they are played by the step by value"
 

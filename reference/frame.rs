@@ -117,7 +117,7 @@ pub fn writing_event(length: u8, event: &Event) -> [u8; LENGTH] {
     frame
 }
 
-fn message_fields(fields: &[u8]) -> Option<Message> {
+pub(crate) fn message_fields(fields: &[u8]) -> Option<Message> {
     Some(Message {
         kind: MessageKind::from_number(fields[0])?,
         group: Group {

@@ -3,7 +3,8 @@
 use crate::members::Members;
 use crate::message_kind::MessageKind;
 
-pub const MAX_CONTROLLERS: u8 = 16;
+/// Document 02, U12: "n goes up to 32".
+pub const MAX_CONTROLLERS: u8 = 32;
 
 #[derive(Clone, Copy, PartialEq, Eq, Debug)]
 pub struct Group {
@@ -12,7 +13,7 @@ pub struct Group {
 }
 
 impl Group {
-    /// "n from 2 to 16; f from 1 to n − 1"
+    /// "n from 2 to 16; f from 1 to n − 1", with U12 to 32
     pub fn in_range(self) -> bool {
         (2..=MAX_CONTROLLERS).contains(&self.n) && (1..self.n).contains(&self.f)
     }

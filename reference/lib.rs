@@ -21,5 +21,6 @@ pub mod questions;
 pub mod records;
 pub mod rng;
 pub mod tally;
+pub mod telegrams;
 pub mod text;
 pub mod vote_set;

@@ -15,6 +15,8 @@ const REFUSALS: [usize; 18] = [
 #[derive(Clone, Debug, Default)]
 pub struct Tally {
     accepted: u64,
+    /// Locks by whether they have more controllers than the short form of a telegram takes (document 02, U12).
+    locks: [u64; 2],
     refused: [u64; 25],
     sent: [u64; 4],
     stay_given: u64,
@@ -65,6 +67,7 @@ impl Tally {
             }
         }
         match *event {
+            Event::Lock { group } => self.locks[usize::from(group.n > 16)] += 1,
             Event::Decision { verdict, .. } => match verdict {
                 Verdict::Stay => self.stay_given += 1,
                 Verdict::Move => self.move_given += 1,
@@ -87,7 +90,10 @@ impl Tally {
         let [votes, acks, helps, helpeds] = self.sent;
         let mut rows = vec![("accepted events".to_string(), self.accepted)];
         rows.extend(REFUSALS.map(|number| (format!("refusals by {number}"), self.refused[number])));
+        let [narrow, wide] = self.locks;
         let others = [
+            ("locks of up to 16 controllers", narrow),
+            ("locks of 17 controllers and more", wide),
             ("votes sent", votes),
             ("acknowledgements sent", acks),
             ("help calls sent", helps),

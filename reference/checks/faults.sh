@@ -25,6 +25,6 @@ while read -r name crate; do
     expect 0 'standard input: *' "$bin/$crate < /"
 done < <(sed -e '/^#/d' -e 's/^ *\([^ |]*\) *| *\([^ |]*\).*/\1 \2/' "$root/bin/programs")
 expect 2 'run: no such program*' 'bin/run run'
-expect 2 'generate: n is to be from 2 to 16, and not 300' 'bin/generate 300 2 10 1'
+expect 2 'generate: n is to be from 2 to 32, and not 300' 'bin/generate 300 2 10 1'
 expect 2 "generate: n is to be a whole number, and not 'x'" 'bin/generate x 2 10 1'
 say "$tried starts with faults of the programs are told as docs/PROGRAMS.md says"

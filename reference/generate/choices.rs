@@ -20,7 +20,7 @@ pub fn group(rng: &mut Rng, most: u8) -> Group {
 
 pub fn bad_group(rng: &mut Rng) -> Group {
     let good = group(rng, MAX_CONTROLLERS);
-    let n = rng.pick(&[0, 1, 17, 18, 32, 255]);
+    let n = rng.pick(&[0, 1, 33, 34, 64, 255]);
     match rng.below(4) {
         0 => Group { n, f: good.f },
         1 => Group { n, f: n / 2 },
@@ -37,7 +37,7 @@ pub fn id(rng: &mut Rng, group: Group) -> u8 {
 }
 
 pub fn bad_id(rng: &mut Rng, group: Group) -> u8 {
-    rng.pick(&[0, group.n + 1, MAX_CONTROLLERS + 1, 33, 255])
+    rng.pick(&[0, group.n + 1, MAX_CONTROLLERS + 1, 64, 255])
 }
 
 pub fn position(rng: &mut Rng) -> i32 {

@@ -5,11 +5,19 @@ use crate::frame;
 use crate::group::{Group, MAX_CONTROLLERS};
 use crate::records::checkpoint::{outcome_number, Checkpoint};
 use crate::records::event::{Event, Fields};
-use crate::records::message::Message;
+use crate::records::message::{Form, Message};
 use crate::records::write_u32;
 use crate::rng::Rng;
 
 type Frame = [u8; frame::LENGTH];
+
+/// A telegram, to be read or to be written.
+pub fn telegram(rng: &mut Rng) -> Frame {
+    match rng.below(2) {
+        0 => read_message(rng),
+        _ => write_message(rng),
+    }
+}
 
 pub fn frame(rng: &mut Rng) -> Frame {
     match rng.below(6) {
@@ -30,8 +38,12 @@ fn broken_questions(rng: &mut Rng, questions: &[u8]) -> Vec<u8> {
 
 fn read_message(rng: &mut Rng) -> Frame {
     let broken = broken_questions(rng, &[1, 2, 3, 4, 7, 8, 9, 9, 10, 10]);
-    let message = message(rng, &broken, 16);
-    let mut bytes = message_bytes(&message);
+    let message = message(rng, &broken, true);
+    let mut form = message.form();
+    if broken.contains(&4) && message.group.in_range() {
+        form = other(form);
+    }
+    let mut bytes = message_bytes(&message, form);
     if broken.contains(&3) {
         match rng.below(2) {
             0 => bytes[2] = rng.pick(&[0, 5, 6, 128, 255]),
@@ -72,8 +84,8 @@ fn read_event(rng: &mut Rng) -> Frame {
 
 fn write_message(rng: &mut Rng) -> Frame {
     let broken = broken_questions(rng, &[1, 4, 7, 8, 9, 9, 10, 10]);
-    let message = message(rng, &broken, 32);
-    let length = length(rng, Message::LENGTH, &broken);
+    let message = message(rng, &broken, false);
+    let length = length(rng, message.form().length(), &broken);
     frame::writing_message(length as u8, &message)
 }
 
@@ -90,8 +102,13 @@ fn write_event(rng: &mut Rng) -> Frame {
     frame::writing_event(length as u8, &event(rng))
 }
 
-fn message(rng: &mut Rng, broken: &[u8], width: usize) -> Message {
+/// Two broken fours may meet in a message that is to be read, whose form can be the wrong one for its n.
+fn message(rng: &mut Rng, broken: &[u8], read: bool) -> Message {
     let group = choices::group(rng, MAX_CONTROLLERS);
+    let width = match Form::of(group.n) {
+        Form::Short if read => 16,
+        _ => 32,
+    };
     let kind = choices::kind(rng);
     let (from, to) = choices::route(rng, group, kind, !broken.contains(&10));
     let votes = if broken.contains(&9) {
@@ -114,10 +131,17 @@ fn message(rng: &mut Rng, broken: &[u8], width: usize) -> Message {
             _ => message.to = from,
         }
     }
-    if broken.contains(&4) {
+    if broken.contains(&4) && !(read && rng.chance(1, 2)) {
         message.group = choices::bad_group(rng);
     }
     message
+}
+
+fn other(form: Form) -> Form {
+    match form {
+        Form::Short => Form::Long,
+        Form::Long => Form::Short,
+    }
 }
 
 fn checkpoint(rng: &mut Rng, broken: &[u8]) -> Checkpoint {
@@ -151,8 +175,8 @@ fn order(rng: &mut Rng, broken: &[u8]) -> u32 {
 
 /// An event that reading lets through; what only the bench asks may be anything.
 fn event(rng: &mut Rng) -> Event {
-    let id = rng.pick(&[0, 1, 2, 16, 17, 255]);
-    let other = rng.pick(&[0, 1, 3, 16, 255]);
+    let id = rng.pick(&[0, 1, 2, 16, 17, 32, 33, 255]);
+    let other = rng.pick(&[0, 1, 3, 16, 32, 255]);
     match rng.below(9) {
         0 => Event::Lock {
             group: Group { n: id, f: other },
@@ -212,7 +236,7 @@ fn length(rng: &mut Rng, right: usize, broken: &[u8]) -> usize {
         return right;
     }
     loop {
-        let near = [right - 1, right + 1, 0, 2, 10, 14, 16];
+        let near = [right - 1, right + 1, 0, 2, 10, 14, 16, 20];
         let length = match rng.below(2) {
             0 => rng.pick(&near),
             _ => rng.between(0, frame::MAX_SLICE),
@@ -229,7 +253,8 @@ fn spoil_mark(rng: &mut Rng, bytes: &mut [u8]) {
     while bytes[..2] == right {
         let other = rng.byte();
         let wrong = [
-            Message::MARK,
+            Form::Short.mark(),
+            Form::Long.mark(),
             Checkpoint::MARK,
             Event::MARK,
             [right[1], right[0]],
@@ -240,9 +265,9 @@ fn spoil_mark(rng: &mut Rng, bytes: &mut [u8]) {
     }
 }
 
-fn message_bytes(message: &Message) -> [u8; Message::LENGTH] {
-    let mut bytes = [0; Message::LENGTH];
-    bytes[..2].copy_from_slice(&Message::MARK);
+fn message_bytes(message: &Message, form: Form) -> Vec<u8> {
+    let mut bytes = vec![0; form.length()];
+    bytes[..2].copy_from_slice(&form.mark());
     bytes[2] = message.kind.number();
     bytes[3] = message.group.n;
     bytes[4] = message.group.f;
@@ -250,7 +275,13 @@ fn message_bytes(message: &Message) -> [u8; Message::LENGTH] {
     bytes[6] = message.to;
     write_u32(&mut bytes, 8, message.order);
     let (known, willing) = (message.votes.known.0, message.votes.willing.0);
-    write_u32(&mut bytes, 12, known << 16 | willing);
+    match form {
+        Form::Short => write_u32(&mut bytes, 12, known << 16 | willing & 0xFFFF),
+        Form::Long => {
+            write_u32(&mut bytes, 12, known);
+            write_u32(&mut bytes, 16, willing);
+        }
+    }
     bytes
 }
 

@@ -17,14 +17,59 @@ pub struct Message {
     pub votes: VoteSet,
 }
 
-impl Message {
-    pub const MARK: [u8; 2] = [0x4C, 0x4B];
-    pub const LENGTH: usize = 16;
+/// Document 02, U12: "Up to 16 the telegram remains as it is. From 17 up it is 20 bytes with mark 4C 4C, known and
+/// willing of 4 bytes each."
+#[derive(Clone, Copy, PartialEq, Eq, Debug)]
+pub enum Form {
+    Short,
+    Long,
+}
 
-    /// "Telegram, 16 bytes: 4C 4B; kind ..; n; f; from; to; 0; order (4); known (2); willing (2)."
+impl Form {
+    pub const ALL: [Form; 2] = [Form::Short, Form::Long];
+
+    pub fn of(n: u8) -> Form {
+        if n <= 16 {
+            Form::Short
+        } else {
+            Form::Long
+        }
+    }
+
+    pub fn mark(self) -> [u8; 2] {
+        match self {
+            Form::Short => [0x4C, 0x4B],
+            Form::Long => [0x4C, 0x4C],
+        }
+    }
+
+    pub fn length(self) -> usize {
+        match self {
+            Form::Short => 16,
+            Form::Long => 20,
+        }
+    }
+
+    fn votes(self, bytes: &[u8]) -> VoteSet {
+        let [known, willing] = match self {
+            Form::Short => [12, 14].map(|at| read_u16(bytes, at).into()),
+            Form::Long => [12, 16].map(|at| read_u32(bytes, at)),
+        };
+        VoteSet {
+            known: Members(known),
+            willing: Members(willing),
+        }
+    }
+}
+
+impl Message {
+    /// "Telegram, 16 bytes: 4C 4B; kind ..; n; f; from; to; 0; order (4); known (2); willing (2)." U12: "On reading,
+    /// question 1 admits both lengths, and a mark of the other length gets 2. The long form with n below 17, and the
+    /// short form with n above 16, get 4".
     pub fn read(bytes: &[u8]) -> Result<Message, u8> {
-        ask(1, bytes.len() == Self::LENGTH)?;
-        ask(2, bytes[..2] == Self::MARK)?;
+        let of_length = |form: &Form| form.length() == bytes.len();
+        let form = Form::ALL.into_iter().find(of_length).ok_or(1)?;
+        ask(2, bytes[..2] == form.mark())?;
         let kind = MessageKind::from_number(bytes[2]).ok_or(3)?;
         ask(3, bytes[7] == 0)?;
         let message = Message {
@@ -36,13 +81,16 @@ impl Message {
             from: bytes[5],
             to: bytes[6],
             order: read_u32(bytes, 8),
-            votes: VoteSet {
-                known: Members(read_u16(bytes, 12).into()),
-                willing: Members(read_u16(bytes, 14).into()),
-            },
+            votes: form.votes(bytes),
         };
+        ask(4, form == message.form())?;
         message.ask_contents()?;
         Ok(message)
+    }
+
+    /// The form in which it is written.
+    pub fn form(&self) -> Form {
+        Form::of(self.group.n)
     }
 
     /// Answers 0, or the question refused; then the buffer is untouched.
@@ -51,9 +99,10 @@ impl Message {
     }
 
     fn try_write(&self, buffer: &mut [u8]) -> Result<(), u8> {
-        ask(1, buffer.len() == Self::LENGTH)?;
+        let form = self.form();
+        ask(1, buffer.len() == form.length())?;
         self.ask_contents()?;
-        buffer[..2].copy_from_slice(&Self::MARK);
+        buffer[..2].copy_from_slice(&form.mark());
         buffer[2] = self.kind.number();
         buffer[3] = self.group.n;
         buffer[4] = self.group.f;
@@ -61,8 +110,15 @@ impl Message {
         buffer[6] = self.to;
         buffer[7] = 0;
         write_u32(buffer, 8, self.order);
-        // Question 9 has shown that both sets fit in sixteen bits.
-        write_u32(buffer, 12, self.votes.known.0 << 16 | self.votes.willing.0);
+        let (known, willing) = (self.votes.known.0, self.votes.willing.0);
+        match form {
+            // Question 9 has shown that both sets fit in sixteen bits.
+            Form::Short => write_u32(buffer, 12, known << 16 | willing),
+            Form::Long => {
+                write_u32(buffer, 12, known);
+                write_u32(buffer, 16, willing);
+            }
+        }
         Ok(())
     }
 

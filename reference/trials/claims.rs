@@ -22,7 +22,7 @@ struct Seen {
 fn every_run_keeps_the_claims() {
     let mut rng = Rng::new(20);
     let (mut clean, mut ended) = (0, 0);
-    for place in 0..300 {
+    for place in 0..600 {
         let schedule = schedules::schedule(&mut rng, place);
         if schedule.len() <= text::MAX_SCHEDULE {
             let (more_clean, more_ended) = check(&schedule);
@@ -95,7 +95,7 @@ fn check_messages(lock: &Lock) {
     let bound = 2 * usize::from(group.f) * usize::from(group.n);
     assert!(count(VOTE) + count(ACK) <= bound);
     if let Some(message) = lock.sent().last() {
-        let mut bytes = [0; Message::LENGTH];
+        let mut bytes = vec![0; message.form().length()];
         assert_eq!(message.write(&mut bytes), 0);
         assert_eq!(Message::read(&bytes).as_ref(), Ok(message));
     }

@@ -33,8 +33,8 @@ fn first_event() {
 #[test]
 fn reads_back() {
     for start in 1..100 {
-        let file = wanted(16, 15, 300, start).file().unwrap();
-        assert_eq!(file.len(), 10 * (2 + 16 + 300));
+        let file = wanted(32, 31, 300, start).file().unwrap();
+        assert_eq!(file.len(), 10 * (2 + 32 + 300));
         assert!(file.chunks(10).all(|record| Event::read(record).is_ok()));
     }
 }

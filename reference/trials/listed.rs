@@ -49,13 +49,13 @@ fn trial_3_no_delivery() {
     assert_eq!(bench_state(&bench), "C 1 3 - 0\nC 2 3 - 0\nT 2 2 0 0\n");
 }
 
-/// "4★ n = 16, f = 15 accepted; n = 17, f = 0 and f = n give 4."
+/// "4★ n = 16, f = 15 accepted; n = 17, f = 0 and f = n give 4." U12: "question 4 with its trials follows".
 #[test]
 fn trial_4_group_ranges() {
-    bench_after(&[lock(16, 15)]);
+    bench_after(&[lock(32, 31)]);
     let refused = [
-        lock(17, 1),
-        lock(17, 16),
+        lock(33, 1),
+        lock(33, 32),
         lock(1, 1),
         lock(0, 0),
         lock(4, 0),

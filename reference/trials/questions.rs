@@ -28,8 +28,8 @@ fn question_5_before_all_others() {
 #[test]
 fn questions_4_and_6_of_a_second_lock() {
     let mut bench = bench_after(&[lock(2, 1)]);
-    refuse_all(&mut bench, 4, &[lock(17, 1), lock(2, 2)]);
-    refuse_all(&mut bench, 6, &[lock(2, 1), lock(16, 15)]);
+    refuse_all(&mut bench, 4, &[lock(33, 1), lock(2, 2)]);
+    refuse_all(&mut bench, 6, &[lock(2, 1), lock(32, 31)]);
 }
 
 #[test]

@@ -4,7 +4,7 @@ use reference::group::Group;
 use reference::members::Members;
 use reference::records::checkpoint::Checkpoint;
 use reference::records::event::Event;
-use reference::records::message::{Message, MessageKind};
+use reference::records::message::{Form, Message, MessageKind};
 use reference::vote_set::{Verdict, VoteSet};
 
 /// An acknowledgement of 1 to 3, in a group of 5 with 2 backups.
@@ -87,6 +87,52 @@ fn messages_refused() {
     assert_eq!(message_refusal(&[(5, 4)]), 9);
     assert_eq!(message_refusal(&[(5, 5)]), 10);
     assert_eq!(message_refusal(&[(5, 2)]), 0);
+}
+
+/// Document 02, U12: the acknowledgement of 1 to 17, all but 16 willing, byte for byte; and n on both sides of 16.
+#[test]
+fn long_form() {
+    let bytes: [u8; 20] = [
+        0x4C, 0x4C, 2, 17, 16, 1, 17, 0, 0, 0, 0, 7, 0, 1, 0xFF, 0xFF, 0, 1, 0x7F, 0xFF,
+    ];
+    let wide = Message {
+        group: Group { n: 17, f: 16 },
+        to: 17,
+        order: 7,
+        votes: VoteSet {
+            known: Members(0x1_FFFF),
+            willing: Members(0x1_7FFF),
+        },
+        ..ack()
+    };
+    assert_eq!(Message::read(&bytes), Ok(wide));
+    let mut buffer = [0xA5; 20];
+    assert_eq!(wide.write(&mut buffer), 0);
+    assert_eq!(buffer, bytes);
+    assert_eq!(wide.write(&mut buffer[..16]), 1);
+    assert_eq!(ack().write(&mut buffer), 1);
+    assert_eq!(buffer, bytes);
+    let read = |changes: &[(usize, u8)]| {
+        let mut bytes = bytes;
+        for &(at, byte) in changes {
+            bytes[at] = byte;
+        }
+        Message::read(&bytes).err().unwrap_or(0)
+    };
+    // "a mark of the other length gets 2"
+    assert_eq!(read(&[(1, 0x4B), (2, 0)]), 2);
+    assert_eq!(message_refusal(&[(1, 0x4C), (2, 0)]), 2);
+    // "The long form with n below 17, and the short form with n above 16, get 4", after 3 and before 7
+    assert_eq!(read(&[(2, 5), (3, 16), (4, 15)]), 3);
+    assert_eq!(read(&[(3, 16), (4, 15), (5, 0)]), 4);
+    assert_eq!(message_refusal(&[(3, 17), (4, 16), (5, 0)]), 4);
+    assert_eq!(read(&[(3, 33)]), 4);
+    assert_eq!(read(&[(5, 18)]), 7);
+    assert_eq!(read(&[(13, 3)]), 9);
+    for length in 0..40 {
+        let admitted = Form::ALL.iter().any(|form| form.length() == length);
+        assert_eq!(Message::read(&vec![0; length]), Err(if admitted { 2 } else { 1 }));
+    }
 }
 
 #[test]

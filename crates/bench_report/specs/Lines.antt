@@ -33,7 +33,7 @@ letter Move = ascii "M"
 abbrev pub controllerLine : ℕ → Row → List ℕ
 controllerLine k row = line (ascii "C" ∷ decimal k ∷ decimal (row .stage) ∷ letter (row .outcome) ∷ signed (row .position) ∷ [])
 
--- one for each of 1 to n. (A lock has n up to 16. In a value with a larger n, the numbers above 16 show a controller that has just begun.)
+-- one for each of 1 to n. (A lock has n up to the limit. In a value with a larger n, the numbers above the limit show a controller that has just begun.)
 abbrev pub blankRow : Row
 blankRow = record { stage = 0; outcome = None; position = 0 }
 

@@ -9,7 +9,7 @@ use Rattle.model.specs.Ranges.{sizesInRange, isController, positionInRange}
 use Rattle.model.specs.declared.Checkpoint.{Checkpoint}
 use Rattle.records.specs.Bytes.{one, four}
 use Rattle.records.specs.Codes.{isOutcome, outcomeOf}
-use Rattle.records.specs.Codec.{marked, Reading, isRecord, isRefusal, Codec}
+use Rattle.records.specs.Codec.{marked, Reading, isRecord, isRefusal, Form, Codec, oneForm}
 use Rattle.checkpoint_record.specs.declared.ReadCheckpoint.{ReadCheckpoint}
 use Rattle.checkpoint_record.specs.declared.ReadCheckpoint.the-variants.{Read, Refused}
 
@@ -29,15 +29,15 @@ aboutCheckpoint p =
     ask 4 (sizesInRange (p .n) (p .f)) ∷ ask 7 (isController (p .n) (p .id)) ∷ ask 8 (leb 1 (p .order)) ∷ ask 11 (positionInRange (p .position)) ∷ []
 
 -- "Card, 14 bytes: 4C 53; controller; n; f; outcome (0 none, 1 Stay, 2 Move); order (4); position (4, two's complement)."
-abbrev pub checkpoints : Codec Checkpoint ReadCheckpoint
-checkpoints = record {
+abbrev pub checkpointForm : Form Checkpoint
+checkpointForm = record {
   mark = marked 0x4C53;
   widths = one ∷ one ∷ one ∷ one ∷ four ∷ four ∷ [];
   fields = λ p. p .id ∷ p .n ∷ p .f ∷ outcomeNumber (p .outcome) ∷ p .order ∷ p .position ∷ [];
   value = checkpointOf;
   listed = λ v. isOutcome (getD v 3 0);
   asked = aboutCheckpoint;
-  read = Read;
-  refusal = Refused;
-  answer = answerOf;
 }
+
+abbrev pub checkpoints : Codec (Unit {0}) Checkpoint ReadCheckpoint
+checkpoints = oneForm checkpointForm Read Refused answerOf

@@ -10,9 +10,9 @@ ghost use mathlib.Core.Path.{_≡_};
 ghost use mathlib.Core.List.{[], _∷_};
 ghost use lib.ListN.{length};
 ghost use Rattle.model.specs.Questions.{firstNo, number};
-ghost use Rattle.records.specs.Codec.{recordLength, valueOn, bytesOf, reads, writeReply, writes};
+ghost use Rattle.records.specs.Codec.{formLength, valueOn, bytesOf, reads, writeReply, writes};
 ghost use Rattle.records.specs.Promises.{Promises, AskedInSequence};
-ghost use Rattle.checkpoint_record.specs.Checkpoints.{aboutCheckpoint, answerOf, checkpoints};
+ghost use Rattle.checkpoint_record.specs.Checkpoints.{aboutCheckpoint, answerOf, checkpointForm, checkpoints};
 
 // A record, or the number of the first question that was answered "no".
 pub enum ReadCheckpoint {
@@ -22,7 +22,7 @@ pub enum ReadCheckpoint {
 
 // The checkpoint as it stands on the record.
 fn checkpoint_in(s: &[u8]) -> Checkpoint
-    requires { ⌜ length (now s) ≡ recordLength checkpoints ⌝ }
+    requires { ⌜ length (now s) ≡ formLength checkpointForm ⌝ }
     ensures { λ r. ⌜ r ≡ valueOn checkpoints (now (s .entry)) ⌝ }
 {
     Checkpoint {

@@ -102,11 +102,13 @@ all-listed e = event-listed e
 
 lawful : Lawful events
 lawful = record {
-  mark-fits = omega arith;
-  value-of-fields = value-of-fields;
-  fields-of-value = fields-of-value;
-  all-listed = all-listed;
+  mark-fits = λ k. omega arith;
+  value-of-fields = λ e all. value-of-fields e;
+  fields-of-value = λ k. fields-of-value;
+  all-listed = λ e all. all-listed e;
   fit = λ e h all. (tt, (tt, (tt, (tt, (h .0, tt)))));
+  told-apart = λ k e. refl;
+  own = λ k v l all. refl;
   answer-read = λ e. refl;
   answer-refusal = λ q. refl;
 }

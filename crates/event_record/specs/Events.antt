@@ -8,7 +8,7 @@ use Rattle.model.specs.declared.Event.{Event}
 use Rattle.model.specs.declared.Event.the-variants.{Lock, Order, Cast, Deliver, Timeout, Decide, Stop, Save, Restore}
 use Rattle.records.specs.Bytes.{one, four}
 use Rattle.records.specs.Codes.{isKind, kindOf, isFlag, flagOf, flagNumber, unused}
-use Rattle.records.specs.Codec.{marked, Reading, isRecord, isRefusal, Codec, recordLength, bytesOf, reads}
+use Rattle.records.specs.Codec.{marked, Reading, isRecord, isRefusal, Form, formLength, Codec, oneForm, bytesOf, reads}
 use Rattle.records.specs.Rows.{KindRow, row, rowOf}
 use Rattle.event_record.specs.declared.Fields.{Fields}
 use Rattle.event_record.specs.declared.ReadEvent.{ReadEvent}
@@ -60,22 +60,22 @@ unfoldable pub rowFor : Fields → KindRow Event
 rowFor x = rowOf (Lock 0 0) (x .kind) (rows x)
 
 -- "Event, 10 bytes: 4C 45; kind; a; b; c; value (4)." "Reading an event record puts 1 to 3", and writing 1.
-abbrev pub events : Codec Event ReadEvent
-events = record {
+abbrev pub eventForm : Form Event
+eventForm = record {
   mark = marked 0x4C45;
   widths = one ∷ one ∷ one ∷ one ∷ four ∷ [];
   fields = λ e. numbersIn (fieldsOf e);
   value = λ v. rowFor (fieldsIn v) .value;
   listed = λ v. rowFor (fieldsIn v) .listed;
   asked = λ e. [];
-  read = Read;
-  refusal = Refused;
-  answer = answerOf;
 }
+
+abbrev pub events : Codec (Unit {0}) Event ReadEvent
+events = oneForm eventForm Read Refused answerOf
 
 -- short names for those who read schedules
 abbrev pub eventLength : ℕ
-eventLength = recordLength events
+eventLength = formLength eventForm
 
 abbrev pub readEvent : List ℕ → ReadEvent
 readEvent s = reads events s

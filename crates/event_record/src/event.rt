@@ -13,14 +13,14 @@ ghost use mathlib.Core.Path.{_≡_};
 ghost use mathlib.Core.List.{[], _∷_};
 ghost use lib.ListN.{length};
 ghost use Rattle.model.specs.Questions.{number};
-ghost use Rattle.records.specs.Codec.{fieldsOn, writeReply, writes};
+ghost use Rattle.records.specs.Codec.{fieldsBy, writeReply, writes};
 ghost use Rattle.records.specs.Promises.{Promises, AskedInSequence};
-ghost use Rattle.event_record.specs.Events.{answerOf, fieldsIn, fieldsOf, events, eventLength, readEvent, eventBytes};
+ghost use Rattle.event_record.specs.Events.{answerOf, fieldsIn, fieldsOf, eventForm, events, eventLength, readEvent, eventBytes};
 
 // The fields as they stand on the record.
 fn fields_in(s: &[u8]) -> Fields
     requires { ⌜ length (now s) ≡ eventLength ⌝ }
-    ensures { λ r. ⌜ r ≡ fieldsIn (fieldsOn events (now (s .entry))) ⌝ }
+    ensures { λ r. ⌜ r ≡ fieldsIn (fieldsBy eventForm (now (s .entry))) ⌝ }
 {
     Fields {
         kind: s[2],

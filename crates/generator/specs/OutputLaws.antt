@@ -25,7 +25,7 @@ use Rattle.generator.specs.ReplyLaws.{not-refused, file-reply}
 use Rattle.generator.specs.Claim.{recordsIn}
 use Rattle.generator.specs.Output.{fileOrRefusal, outputFor, outputOf, longestOutput, AllFit}
 
--- at most 16 controllers and 4,000 drawn events
+-- at most the limit of controllers, and 4,000 drawn events
 limits : (n f count start : ℕ) → refusalOf n f count start ≡ accepted → (n ≤ limit) × (count ≤ mostDrawn)
 unfolding refusalOf
 limits n f count start e =

@@ -18,7 +18,7 @@ module _ (n f count start : ℕ) where
   unfolding refusalOf
   not-refused q e z = reply-accepted (asked n f count start) q refl e z
 
-  -- "n from 2 to 16"
+  -- n from 2 up
   pub some-controllers : refusalOf n f count start ≡ accepted → 0 < n
   unfolding refusalOf
   some-controllers e = omega (arith, ranges n f (all-yes (asked n f count start) e .0) .some)

@@ -15,7 +15,7 @@ pub use mask::up_to;
 pub use mask::within;
 
 // The most controllers that a lock has.
-pub const LIMIT: usize = 16;
+pub const LIMIT: usize = 32;
 
 // The definitions' limit is the code's.
 pub fn limit_is_one() -> usize

@@ -3,8 +3,9 @@ use mathlib.Core.Path.{_≡_, refl}
 use mathlib.Core.Bool.{true}
 use Rattle.model.specs.QuestionLaws.{numbered}
 use Rattle.model.specs.declared.Message.{Message}
-use Rattle.message_record.specs.Messages.{aboutMessage}
+use Rattle.message_record.specs.declared.MessageWidth.{MessageWidth}
+use Rattle.message_record.specs.Messages.{aboutMessage, messageForm}
 
-pub message-numbered : (x : Message) → numbered (aboutMessage x) ≡ true
+pub message-numbered : (w : MessageWidth) (x : Message) → numbered (messageForm w .asked x) ≡ true
 unfolding aboutMessage
-message-numbered x = refl
+message-numbered w x = refl

@@ -1,1 +1,4 @@
 pub mod Messages
+pub mod OldCabinets
+pub mod TwoForms
+pub mod Telegrams

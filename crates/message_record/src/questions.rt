@@ -1,9 +1,11 @@
 // What is asked of a message, read or to be written.
+use crate::MessageWidth;
+use crate::widths::suits_width;
 use model::Kind;
 use model::Message;
 ghost use mathlib.Core.Path.{_≡_};
 ghost use Rattle.model.specs.Questions.{firstNo, number};
-ghost use Rattle.message_record.specs.Messages.{bitsInRange, knowsForKind, suits, aboutMessage};
+ghost use Rattle.message_record.specs.Messages.{bitsInRange, knowsForKind, suits, aboutMessage, messageForm};
 
 // Question 9: "No bit above n".
 fn bits_in_range(m: Message) -> bool
@@ -41,7 +43,7 @@ pub fn suits(m: Message) -> bool
 }
 
 // Questions 4, 7, 8, 9 and 10: 0, or the number of the first that is answered "no".
-pub(crate) fn question(m: Message) -> u8
+fn question(m: Message) -> u8
     ensures { λ r. ⌜ r ≡ number (firstNo (aboutMessage m)) ⌝ }
 {
     if !model::sizes_in_range(m.n, m.f) {
@@ -61,4 +63,14 @@ pub(crate) fn question(m: Message) -> u8
         return 10;
     }
     0
+}
+
+// The same in that form, which question 4 asks about first.
+pub(crate) fn question_in(width: MessageWidth, m: Message) -> u8
+    ensures { λ r. ⌜ r ≡ number (firstNo (messageForm width .asked m)) ⌝ }
+{
+    if !suits_width(width, m.n) {
+        return 4;
+    }
+    question(m)
 }

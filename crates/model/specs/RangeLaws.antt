@@ -8,7 +8,7 @@ use Rattle.ground.specs.Limit.{limit}
 use Rattle.ground.specs.Tests.{and-i, and-l, and-r}
 use Rattle.model.specs.Ranges.{sizesInRange, isController}
 
--- "n from 2 to 16; f from 1 to n − 1"
+-- n from 2 to the limit, "f from 1 to n − 1"
 pub record Ranges (n f : ℕ) : Type 0 where
   pub some : 2 ≤ n
   pub small : n ≤ limit

@@ -4,7 +4,7 @@ use mathlib.Core.Bool.{Bool, not, _&&_, _||_}
 use lib.Dec.{eqb, leb, ltb}
 use Rattle.ground.specs.Limit.{limit}
 
--- "n from 2 to 16; f from 1 to n − 1" (question 4)
+-- "n from 2 to 16; f from 1 to n − 1" (question 4). Document 02, U12: "n goes up to 32, in demand 2 too, and question 4 with its trials follows."
 unfoldable pub sizesInRange : ℕ → ℕ → Bool
 sizesInRange n f = leb 2 n && leb n limit && leb 1 f && ltb f n
 

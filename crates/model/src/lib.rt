@@ -71,9 +71,17 @@ pub enum Event {
 }
 
 impl Message {
-    pub const MARK: u32 = 0x4C4B;
+    // the short form, for locks of up to so many controllers
+    pub const SHORT_LIMIT: u8 = 16;
 
-    pub const LENGTH: usize = 16;
+    pub const SHORT_MARK: u32 = 0x4C4B;
+
+    pub const SHORT_LENGTH: usize = 16;
+
+    // the long form, for locks of more
+    pub const LONG_MARK: u32 = 0x4C4C;
+
+    pub const LONG_LENGTH: usize = 20;
 }
 
 impl Checkpoint {

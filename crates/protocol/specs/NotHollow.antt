@@ -54,7 +54,7 @@ pub record StayEnd (n f : ℕ) : Type 0 where
   pub list : EndedList n f (λ k. false) Stay
   pub unwilling : OneUnwilling (cleanOrder n f (λ k. false))
 
--- "n from 2 to 16; f from 1 to n − 1", and any controller i of 1 to n; and to the end of the order
+-- n from 2 to the limit, "f from 1 to n − 1", and any controller i of 1 to n; and to the end of the order
 pub record NotHollow : Type 0 where
   pub moves : (n f i : ℕ) → sizesInRange n f ≡ true → 1 ≤ i → i ≤ n → MoveList n f i
   pub stays : (n f i : ℕ) → sizesInRange n f ≡ true → 1 ≤ i → i ≤ n → StayList n f i

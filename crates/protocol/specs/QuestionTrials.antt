@@ -46,7 +46,7 @@ schedules =
     (gives (Order 0) 5 ∷ gives (Cast 0 true 20001) 5 ∷ gives (Deliver 1 1 Help) 5 ∷ gives (Timeout 0) 5 ∷ gives (Decide 0 true) 5 ∷ gives (Stop 0) 5 ∷ gives (Save 0) 5
     ∷ gives (Restore 0) 5 ∷ [])
     -- "4. Are n and f in range?" before "6. Is no lock set up yet? (lock)"
-    ∷ (locked ++ (gives (Lock 17 1) 4 ∷ gives (Lock 3 1) 6 ∷ gives (Lock 2 1) 6 ∷ []))
+    ∷ (locked ++ (gives (Lock 33 1) 4 ∷ gives (Lock 3 1) 6 ∷ gives (Lock 2 1) 6 ∷ []))
     -- "7. Are controller numbers in 1 to n, sender and receiver different?" of every event with a controller, of a delivery's sender as of its receiver;
     -- before 10, 11 and 14
     ∷ (locked ++ (gives (Cast 0 true 20001) 7 ∷ gives (Cast 4 true 20001) 7 ∷ gives (Deliver 0 1 Vote) 7 ∷ gives (Deliver 4 1 Vote) 7 ∷ gives (Deliver 1 0 Ack) 7

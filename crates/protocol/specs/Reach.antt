@@ -69,9 +69,9 @@ pub record Reach : Type 0 where
   pub checkpoints-pass : (es : List Event) (i : ℕ) (p : Checkpoint) → IsSaved (after es) i p → firstNo (aboutCheckpoint p) ≡ accepted
   pub checkpoints-own : (es : List Event) (i : ℕ) (p : Checkpoint) → IsSaved (after es) i p → p .id ≡ i
   -- and so it can be written into a buffer of the record's length,
-  pub messages-written : (es : List Event) (kind : Kind) (i j : ℕ) (out : List ℕ) → length out ≡ recordLength messages → WasSent (after es) kind i j
+  pub messages-written : (es : List Event) (kind : Kind) (i j : ℕ) (out : List ℕ) → length out ≡ recordLength messages (messageAt (after es) kind i j) → WasSent (after es) kind i j
       → writes messages out (messageAt (after es) kind i j) ≡ bytesOf messages (messageAt (after es) kind i j)
-  pub checkpoints-written : (es : List Event) (i : ℕ) (p : Checkpoint) (out : List ℕ) → length out ≡ recordLength checkpoints → IsSaved (after es) i p
+  pub checkpoints-written : (es : List Event) (i : ℕ) (p : Checkpoint) (out : List ℕ) → length out ≡ recordLength checkpoints p → IsSaved (after es) i p
       → writes checkpoints out p ≡ bytesOf checkpoints p
   -- and is read back as it was
   pub messages-back : (es : List Event) (kind : Kind) (i j : ℕ) → AllRead es → WasSent (after es) kind i j

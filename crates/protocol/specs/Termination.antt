@@ -149,7 +149,7 @@ lackings =
 pub record Termination : Type 0 where
   -- "each running controller has an outcome"
   pub hears : (es : List Event) → ((p : Premise) → Meets p es) → (i : ℕ) → RunsAt es i → HoldsSome es i
-  -- "n from 2 to 16; f from 1 to n − 1"
+  -- n from 2 to the limit, "f from 1 to n − 1"
   pub met : (n f : ℕ) → sizesInRange n f ≡ true → MetList n f
   -- f up to n − 2; with n − f ≡ 1 a controller's own answer is enough, and none waits
   pub waited : (n f : ℕ) → sizesInRange n f ≡ true → suc (suc f) ≤ n → WaitedList n f

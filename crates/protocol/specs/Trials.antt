@@ -57,8 +57,8 @@ table =
       words = Stay ∷ [];
       inside = proposed Stay 1 0 ∷ proposed Stay 0 1 ∷ [];
     }
-    -- 4★ "n = 16, f = 15 accepted; n = 17, f = 0 and f = n give 4." Then "every controller is running at stage 0", and "with no order T is all 0"
-    ∷ silent (Lock 17 16 ∷ Lock 16 0 ∷ Lock 16 16 ∷ Lock 16 15 ∷ []) (4 ∷ 4 ∷ 4 ∷ 0 ∷ []) (replicate 16 (C 0 None 0)) (T 0 0 0 0) (replicate 16 (held 0 0))
+    -- 4★ "n = 16, f = 15 accepted; n = 17, f = 0 and f = n give 4", by document 02, U12 with 32, 31 and 33. Then "every controller is running at stage 0", and "with no order T is all 0"
+    ∷ silent (Lock 33 32 ∷ Lock 32 0 ∷ Lock 32 32 ∷ Lock 32 31 ∷ []) (4 ∷ 4 ∷ 4 ∷ 0 ∷ []) (replicate 32 (C 0 None 0)) (T 0 0 0 0) (replicate 32 (held 0 0))
     -- 5★ "n = 3, f = 1, all willing; votes of 2 and 3 reach 1, nothing else before the bells; 3 gets 2's help answer and puts Stay;
     ∷ record {
       events = helped;

@@ -172,7 +172,7 @@ pub struct Shared {
     pub counts: Counts,
 }
 
-// The bench: what is shared, and up to 16 controllers.
+// The bench: what is shared, and up to LIMIT controllers.
 pub struct Bench {
     pub shared: Shared,
     pub stations: [Station; LIMIT],

@@ -38,8 +38,8 @@ isRecord a = record { number = 0; values = a ∷ [] }
 abbrev pub isRefusal : {A : Type 0} → ℕ → Reading A
 isRefusal q = record { number = q; values = [] }
 
--- the description of a record: A is what it stands for, R what its reader returns
-pub record Codec (A R : Type 0) : Type 0 where
+-- one form in which a value of A stands as bytes
+pub record Form (A : Type 0) : Type 0 where
   pub mark : Mark
   -- the fields after the mark: how wide they are, what a value writes there, and the value that they stand for
   pub widths : List Width
@@ -49,30 +49,60 @@ pub record Codec (A R : Type 0) : Type 0 where
   pub listed : List ℕ → Bool
   -- the questions from 4 on, of the value; reading and writing ask them alike
   pub asked : A → List Question
+
+module _ {A : Type 0} (k : Form A) where
+  abbrev pub formLength : ℕ
+  formLength = markLength (k .mark) + totalWidth (k .widths)
+
+  -- what stands in the fields of a record of this form, and the value of it
+  abbrev pub fieldsBy : List ℕ → List ℕ
+  fieldsBy s = numbersAt (k .widths) s (markLength (k .mark))
+
+  abbrev pub valueBy : List ℕ → A
+  valueBy s = k .value (fieldsBy s)
+
+  abbrev pub formBytes : A → List ℕ
+  formBytes a = markBytes (k .mark) ++ bytesOfWidths (k .widths) (k .fields a)
+
+  -- "In this sequence": 1, "Is the slice exactly the record's length?"; 2; 3; the rest
+  abbrev pub formQuestions : List ℕ → List Question
+  formQuestions s = ask 1 (eqb (length s) formLength) ∷ (markQuestion (k .mark) s ++ (ask 3 (k .listed (fieldsBy s)) ∷ k .asked (valueBy s)))
+
+-- the description of a record: S has a name for each of its forms, A is what it stands for, R what its reader returns
+pub record Codec (S A R : Type 0) : Type 0 where
+  pub form : S → Form A
+  -- by which form bytes are read, from their length and mark alone; and in which form a value is written
+  pub formOn : List ℕ → S
+  pub formOf : A → S
   -- what the reader returns for a value and for a refusal, and the one definition of what that says
   pub read : A → R
   pub refusal : ℕ → R
   pub answer : R → Reading A
 
-module _ {A R : Type 0} (c : Codec A R) where
-  abbrev pub recordLength : ℕ
-  recordLength = markLength (c .mark) + totalWidth (c .widths)
+-- a record of one form
+abbrev pub oneForm : {A R : Type 0} → Form A → (A → R) → (ℕ → R) → (R → Reading A) → Codec (Unit {0}) A R
+oneForm k read refusal answer = record { form = λ u. k; formOn = λ s. tt; formOf = λ a. tt; read = read; refusal = refusal; answer = answer }
 
-  -- what stands in the fields of a record, and the value of it
-  abbrev pub fieldsOn : List ℕ → List ℕ
-  fieldsOn s = numbersAt (c .widths) s (markLength (c .mark))
+module _ {S A R : Type 0} (c : Codec S A R) where
+  -- the form of bytes, and that of a value
+  abbrev pub formAt : List ℕ → Form A
+  formAt s = c .form (c .formOn s)
+
+  abbrev pub ownForm : A → Form A
+  ownForm a = c .form (c .formOf a)
+
+  abbrev pub recordLength : A → ℕ
+  recordLength a = formLength (ownForm a)
 
   abbrev pub valueOn : List ℕ → A
-  valueOn s = c .value (fieldsOn s)
+  valueOn s = valueBy (formAt s) s
 
   -- the record of a value
   abbrev pub bytesOf : A → List ℕ
-  bytesOf a = markBytes (c .mark) ++ bytesOfWidths (c .widths) (c .fields a)
+  bytesOf a = formBytes (ownForm a) a
 
-  -- "In this sequence": 1, "Is the slice exactly the record's length?"; 2; 3; the rest
   abbrev pub readQuestions : List ℕ → List Question
-  readQuestions s =
-      ask 1 (eqb (length s) recordLength) ∷ (markQuestion (c .mark) s ++ (ask 3 (c .listed (fieldsOn s)) ∷ c .asked (valueOn s)))
+  readQuestions s = formQuestions (formAt s) s
 
   -- "A refused read returns the number and no record"
   abbrev pub returned : Reply → A → R
@@ -84,7 +114,7 @@ module _ {A R : Type 0} (c : Codec A R) where
 
   -- writing asks 1 of the buffer; there is no mark to ask 2 of, and kinds, outcomes and flags are listed ones
   abbrev pub writeQuestions : List ℕ → A → List Question
-  writeQuestions out a = ask 1 (eqb (length out) recordLength) ∷ c .asked a
+  writeQuestions out a = ask 1 (eqb (length out) (recordLength a)) ∷ ownForm a .asked a
 
   unfoldable pub writeReply : List ℕ → A → Reply
   writeReply out a = firstNo (writeQuestions out a)

@@ -1,7 +1,7 @@
 -- The promises hold of every description that is lawful. A field's number and its bytes give each other back, then all fields of a record by going
 -- along the widths, then the record by its questions.
 use Prim.Native.Nat.{ℕ, _+_, _*_, _<_, _≤_, _^_}
-use mathlib.Core.Path.{_≡_, refl, sym, _∙_, ap}
+use mathlib.Core.Path.{_≡_, refl, sym, _∙_, ap, subst}
 use mathlib.Core.Bool.{true}
 use mathlib.Core.List.{List, [], _∷_, _++_, append-assoc}
 use native.Mathlib.Omega.{arith}
@@ -14,7 +14,7 @@ use Rattle.model.specs.Questions.{Reply, accepted, refused, Question, firstNo}
 use Rattle.model.specs.QuestionLaws.{AllYes, all-yes, yes-all}
 use Rattle.records.specs.Bytes.{byte, number2, bytes2, bytes4, AllBytes, Width, one, two, four, size, numberAt, bytesOfWidth, numbersAt, bytesOfWidths, totalWidth}
 use Rattle.records.specs.ByteLaws.{number-of-two, number-of-four, of-two, of-four}
-use Rattle.records.specs.Codec.{Mark, marked, unmarked, markBytes, markLength, markQuestion, Reading, isRecord, isRefusal, Codec, recordLength, fieldsOn, valueOn, bytesOf, readQuestions, returned, reads, writeReply, written, writes}
+use Rattle.records.specs.Codec.{Mark, marked, unmarked, markBytes, markLength, markQuestion, Reading, isRecord, isRefusal, Form, formLength, fieldsBy, valueBy, formBytes, formQuestions, Codec, ownForm, valueOn, bytesOf, readQuestions, returned, reads, writeReply, written, writes}
 use Rattle.records.specs.Promises.{In32Bits, answerBy, Promises}
 
 -- numbers that their widths hold; what the code holds as a byte is one
@@ -125,12 +125,17 @@ mark-right (marked m) h rest qs y = (eq-eqb (number2 (bytes2 m ++ rest) 0) m (nu
 mark-right unmarked h rest qs y = y
 
 -- what a record's crate shows of its description
-pub record Lawful {A R : Type 0} (c : Codec A R) : Type 0 where
-  pub mark-fits : MarkFits (c .mark)
-  pub value-of-fields : (a : A) → c .value (c .fields a) ≡ a
-  pub fields-of-value : (vs : List ℕ) → length vs ≡ length (c .widths) → c .listed vs ≡ true → c .fields (c .value vs) ≡ vs
-  pub all-listed : (a : A) → c .listed (c .fields a) ≡ true
-  pub fit : (a : A) → In32Bits (c .widths) (c .fields a) → AllYes (c .asked a) → Fit (c .widths) (c .fields a)
+pub record Lawful {S A R : Type 0} (c : Codec S A R) : Type 0 where
+  -- of each form: a mark of two bytes, and listed fields are those of their value
+  pub mark-fits : (k : S) → MarkFits (c .form k .mark)
+  pub fields-of-value : (k : S) (vs : List ℕ) → length vs ≡ length (c .form k .widths) → c .form k .listed vs ≡ true → c .form k .fields (c .form k .value vs) ≡ vs
+  -- of each value that passes its questions, in its own form
+  pub value-of-fields : (a : A) → AllYes (ownForm c a .asked a) → ownForm c a .value (ownForm c a .fields a) ≡ a
+  pub all-listed : (a : A) → AllYes (ownForm c a .asked a) → ownForm c a .listed (ownForm c a .fields a) ≡ true
+  pub fit : (a : A) → In32Bits (ownForm c a .widths) (ownForm c a .fields a) → AllYes (ownForm c a .asked a) → Fit (ownForm c a .widths) (ownForm c a .fields a)
+  -- the forms never overlap: bytes of a form are read by that form, and a value read by a form is written in it
+  pub told-apart : (k : S) (a : A) → c .formOn (formBytes (c .form k) a) ≡ k
+  pub own : (k : S) (vs : List ℕ) → c .form k .listed vs ≡ true → AllYes (c .form k .asked (c .form k .value vs)) → c .formOf (c .form k .value vs) ≡ k
   pub answer-read : (a : A) → c .answer (c .read a) ≡ isRecord a
   pub answer-refusal : (q : ℕ) → c .answer (c .refusal q) ≡ isRefusal q
 
@@ -139,7 +144,7 @@ told : {A : Type 0} (r : Reply) (x a : A) → answerBy r x ≡ isRecord a → (r
 told {A = A} accepted x a e = (refl, ap (λ (y : Reading A). getD (y .values) 0 x) e)
 told {A = A} (refused q) x a e = let z : _≡_ {A = ℕ} 0 1 = ap (λ (y : Reading A). length (y .values)) e in absurd (omega arith)
 
-module _ {A R : Type 0} (c : Codec A R) (law : Lawful c) where
+module _ {S A R : Type 0} (c : Codec S A R) (law : Lawful c) where
   answer-of : (r : Reply) (a : A) → c .answer (returned c r a) ≡ answerBy r a
   answer-of accepted a = law .answer-read a
   answer-of (refused q) a = law .answer-refusal q
@@ -148,42 +153,69 @@ module _ {A R : Type 0} (c : Codec A R) (law : Lawful c) where
   unfolding reads
   answered s = answer-of (firstNo (readQuestions c s)) (valueOn c s)
 
+  -- bytes that one form lets through: they are the bytes of their value in that form, and that form is the value's own
+  same-bytes : (k : S) (s : List ℕ) → AllBytes s → AllYes (formQuestions (c .form k) s)
+      → (formBytes (c .form k) (valueBy (c .form k) s) ≡ s) × (c .formOf (valueBy (c .form k) s) ≡ k)
+  same-bytes k s all told-all =
+      let g : Form A = c .form k in
+      let l : length s ≡ formLength g = eqb-true (length s) (formLength g) (told-all .0) in
+      let marks : (markBytes (g .mark) ++ drop (markLength (g .mark)) s ≡ s) × ((g .listed (fieldsBy g s) ≡ true) × AllYes (g .asked (valueBy g s))) =
+      mark-same (g .mark) s _ all (omega arith) (told-all .1) in
+      let vs : g .fields (valueBy g s) ≡ fieldsBy g s = law .fields-of-value k (fieldsBy g s) (count-of-numbers (g .widths) s (markLength (g .mark))) (marks .1 .0) in
+      let body : bytesOfWidths (g .widths) (g .fields (valueBy g s)) ≡ drop (markLength (g .mark)) s =
+      ap (bytesOfWidths (g .widths)) vs ∙ numbers-same (g .widths) s (markLength (g .mark)) all l in
+      (ap (λ (x : List ℕ). markBytes (g .mark) ++ x) body ∙ marks .0, law .own k (fieldsBy g s) (marks .1 .0) (marks .1 .1))
+
   writes-back : (s : List ℕ) (a : A) → AllBytes s → reads c s ≡ c .read a → bytesOf c a ≡ s
   unfolding reads
   writes-back s a all q =
       let r : (firstNo (readQuestions c s) ≡ accepted) × (valueOn c s ≡ a) =
       told (firstNo (readQuestions c s)) (valueOn c s) a (sym (answered s) ∙ (ap (c .answer) q ∙ law .answer-read a)) in
-      let yes : AllYes (readQuestions c s) = all-yes (readQuestions c s) (r .0) in
-      let l : length s ≡ recordLength c = eqb-true (length s) (recordLength c) (yes .0) in
-      let marks : (markBytes (c .mark) ++ drop (markLength (c .mark)) s ≡ s) × ((c .listed (fieldsOn c s) ≡ true) × AllYes (c .asked (valueOn c s))) =
-      mark-same (c .mark) s _ all (omega arith) (yes .1) in
-      let vs : c .fields (valueOn c s) ≡ fieldsOn c s = law .fields-of-value (fieldsOn c s) (count-of-numbers (c .widths) s (markLength (c .mark))) (marks .1 .0) in
-      let body : bytesOfWidths (c .widths) (c .fields (valueOn c s)) ≡ drop (markLength (c .mark)) s =
-      ap (bytesOfWidths (c .widths)) vs ∙ numbers-same (c .widths) s (markLength (c .mark)) all l in
-      ap (bytesOf c) (sym (r .1)) ∙ (ap (λ (x : List ℕ). markBytes (c .mark) ++ x) body ∙ marks .0)
+      let b = same-bytes (c .formOn s) s all (all-yes (readQuestions c s) (r .0)) in
+      ap (bytesOf c) (sym (r .1)) ∙ (ap (λ (k : S). formBytes (c .form k) (valueOn c s)) (b .1) ∙ b .0)
 
-  reads-back : (a : A) → In32Bits (c .widths) (c .fields a) → firstNo (c .asked a) ≡ accepted → reads c (bytesOf c a) ≡ c .read a
+  -- the bytes of a value in its own form pass that form's questions and stand for the value
+  same-value : (a : A) → In32Bits (ownForm c a .widths) (ownForm c a .fields a) → firstNo (ownForm c a .asked a) ≡ accepted
+      → (firstNo (formQuestions (ownForm c a) (bytesOf c a)) ≡ accepted) × (valueBy (ownForm c a) (bytesOf c a) ≡ a)
+  same-value a h passes =
+      let g : Form A = ownForm c a in
+      let s : List ℕ = bytesOf c a in
+      let rest : List ℕ = bytesOfWidths (g .widths) (g .fields a) in
+      let yes : AllYes (g .asked a) = all-yes (g .asked a) passes in
+      let fit : Fit (g .widths) (g .fields a) = law .fit a h yes in
+      let vs : fieldsBy g s ≡ g .fields a = numbers-back (g .widths) (g .fields a) fit (markBytes (g .mark)) (markLength (g .mark)) (mark-length (g .mark)) in
+      let back : valueBy g s ≡ a = ap (g .value) vs ∙ law .value-of-fields a yes in
+      let l : length rest ≡ totalWidth (g .widths) = length-of-widths (g .widths) (g .fields a) fit in
+      let m : markLength (g .mark) ≡ length (markBytes (g .mark)) = mark-length (g .mark) in
+      let whole : length (markBytes (g .mark) ++ rest) ≡ length (markBytes (g .mark)) + length rest = length-append (markBytes (g .mark)) rest in
+      let lengths : eqb (length s) (formLength g) ≡ true = eq-eqb (length s) (formLength g) (omega arith) in
+      let lists : g .listed (fieldsBy g s) ≡ true = ap (g .listed) vs ∙ law .all-listed a yes in
+      let about : AllYes (g .asked (valueBy g s)) = subst (λ (x : A). AllYes (g .asked x)) (sym back) yes in
+      (yes-all (formQuestions g s) (lengths, mark-right (g .mark) (law .mark-fits (c .formOf a)) rest _ (lists, about)), back)
+
+  reads-back : (a : A) → In32Bits (ownForm c a .widths) (ownForm c a .fields a) → firstNo (ownForm c a .asked a) ≡ accepted → reads c (bytesOf c a) ≡ c .read a
   unfolding reads
   reads-back a h passes =
-      let s : List ℕ = bytesOf c a in
-      let rest : List ℕ = bytesOfWidths (c .widths) (c .fields a) in
-      let yes : AllYes (c .asked a) = all-yes (c .asked a) passes in
-      let fit : Fit (c .widths) (c .fields a) = law .fit a h yes in
-      let vs : fieldsOn c s ≡ c .fields a = numbers-back (c .widths) (c .fields a) fit (markBytes (c .mark)) (markLength (c .mark)) (mark-length (c .mark)) in
-      let back : valueOn c s ≡ a = ap (c .value) vs ∙ law .value-of-fields a in
-      let l : length rest ≡ totalWidth (c .widths) = length-of-widths (c .widths) (c .fields a) fit in
-      let m : markLength (c .mark) ≡ length (markBytes (c .mark)) = mark-length (c .mark) in
-      let whole : length (markBytes (c .mark) ++ rest) ≡ length (markBytes (c .mark)) + length rest = length-append (markBytes (c .mark)) rest in
-      let lengths : eqb (length s) (recordLength c) ≡ true = eq-eqb (length s) (recordLength c) (omega arith) in
-      let lists : c .listed (fieldsOn c s) ≡ true = ap (c .listed) vs ∙ law .all-listed a in
-      let about : AllYes (c .asked (valueOn c s)) = rw back yes in
-      let all : firstNo (readQuestions c s) ≡ accepted =
-      yes-all (readQuestions c s) (lengths, mark-right (c .mark) (law .mark-fits) rest _ (lists, about)) in
-      rw (all, back)
+      let b = same-value a h passes in
+      ap (λ (k : S). returned c (firstNo (formQuestions (c .form k) (bytesOf c a))) (valueBy (c .form k) (bytesOf c a))) (law .told-apart (c .formOf a) a)
+      ∙ (ap (λ (r : Reply). returned c r (valueBy (ownForm c a) (bytesOf c a))) (b .0) ∙ ap (c .read) (b .1))
+
+  -- bytes of a form are read by it, whichever it is
+  form-told : (k : S) (s : List ℕ) → AllBytes s → firstNo (formQuestions (c .form k) s) ≡ accepted → c .formOn s ≡ k
+  form-told k s all p =
+      ap (c .formOn) (sym (same-bytes k s all (all-yes (formQuestions (c .form k) s) p) .0)) ∙ law .told-apart k (valueBy (c .form k) s)
+
+  forms-read : (k : S) (s : List ℕ) → AllBytes s → firstNo (formQuestions (c .form k) s) ≡ accepted → reads c s ≡ c .read (valueBy (c .form k) s)
+  unfolding reads
+  forms-read k s all p =
+      ap (λ (x : S). returned c (firstNo (formQuestions (c .form x) s)) (valueBy (c .form x) s)) (form-told k s all p) ∙ ap (λ (r : Reply). returned c r (valueBy (c .form k) s)) p
+
+  one-form : (k k′ : S) (s : List ℕ) → AllBytes s → firstNo (formQuestions (c .form k) s) ≡ accepted → firstNo (formQuestions (c .form k′) s) ≡ accepted → k ≡ k′
+  one-form k k′ s all p q = sym (form-told k s all p) ∙ form-told k′ s all q
 
   untouched : (out : List ℕ) (a : A) (q : ℕ) → writeReply c out a ≡ refused q → writes c out a ≡ out
   unfolding writes
   untouched out a q e = ap (λ (r : Reply). written c r a out) e
 
   pub promises-kept : Promises c
-  promises-kept = record { answered = answered; reads-back = reads-back; writes-back = writes-back; untouched = untouched }
+  promises-kept = record { answered = answered; reads-back = reads-back; writes-back = writes-back; forms-read = forms-read; one-form = one-form; untouched = untouched }

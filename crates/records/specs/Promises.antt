@@ -4,7 +4,7 @@ use mathlib.Core.Path.{_≡_}
 use mathlib.Core.List.{List, [], _∷_}
 use Rattle.model.specs.Questions.{Reply, accepted, refused, numbersAsked, firstNo}
 use Rattle.records.specs.Bytes.{AllBytes, Width, one, two, four}
-use Rattle.records.specs.Codec.{Reading, isRecord, isRefusal, Codec, bytesOf, valueOn, readQuestions, reads, writeQuestions, writeReply, writes}
+use Rattle.records.specs.Codec.{Reading, isRecord, isRefusal, valueBy, formQuestions, Codec, ownForm, bytesOf, valueOn, readQuestions, reads, writeQuestions, writeReply, writes}
 
 -- the code holds what stands in four bytes as a number of 32 bits
 abbrev pub In32Bits : List Width → List ℕ → Type 0
@@ -19,17 +19,20 @@ abbrev pub answerBy : {A : Type 0} → Reply → A → Reading A
 answerBy accepted a = isRecord a
 answerBy (refused q) a = isRefusal q
 
-pub record Promises {A R : Type 0} (c : Codec A R) : Type 0 where
+pub record Promises {S A R : Type 0} (c : Codec S A R) : Type 0 where
   -- "The first "no" gives its number", and 0 is a record
   pub answered : (s : List ℕ) → c .answer (reads c s) ≡ answerBy (firstNo (readQuestions c s)) (valueOn c s)
   -- what is written reads back as it was: every value that passes the questions
-  pub reads-back : (a : A) → In32Bits (c .widths) (c .fields a) → firstNo (c .asked a) ≡ accepted → reads c (bytesOf c a) ≡ c .read a
+  pub reads-back : (a : A) → In32Bits (ownForm c a .widths) (ownForm c a .fields a) → firstNo (ownForm c a .asked a) ≡ accepted → reads c (bytesOf c a) ≡ c .read a
   -- what was read, written again, gives the same bytes: only written forms are read
   pub writes-back : (s : List ℕ) (a : A) → AllBytes s → reads c s ≡ c .read a → bytesOf c a ≡ s
+  -- bytes that pass the questions of any of the forms are read, and none are of two forms
+  pub forms-read : (k : S) (s : List ℕ) → AllBytes s → firstNo (formQuestions (c .form k) s) ≡ accepted → reads c s ≡ c .read (valueBy (c .form k) s)
+  pub one-form : (k k′ : S) (s : List ℕ) → AllBytes s → firstNo (formQuestions (c .form k) s) ≡ accepted → firstNo (formQuestions (c .form k′) s) ≡ accepted → k ≡ k′
   -- "a refused write leaves its buffer untouched"
   pub untouched : (out : List ℕ) (a : A) (q : ℕ) → writeReply c out a ≡ refused q → writes c out a ≡ out
 
 -- "In this sequence, each where it applies": the numbers of the questions that reading puts, and of those that writing does
-pub record AskedInSequence {A R : Type 0} (c : Codec A R) (reading writing : List ℕ) : Type 0 where
+pub record AskedInSequence {S A R : Type 0} (c : Codec S A R) (reading writing : List ℕ) : Type 0 where
   pub at-reading : (s : List ℕ) → numbersAsked (readQuestions c s) ≡ reading
   pub at-writing : (out : List ℕ) (a : A) → numbersAsked (writeQuestions c out a) ≡ writing

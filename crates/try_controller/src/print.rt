@@ -142,11 +142,11 @@ fn put_message(out: &mut [u8], at: usize, m: Message) -> usize {
     put_number(out, next, b'>', m.to as u32)
 }
 
-// The messages of an answer, one by one as a cabinet sends them: at most four kinds to sixteen receivers.
+// The messages of an answer, one by one as a cabinet sends them: at most four kinds to LIMIT receivers.
 fn put_messages(out: &mut [u8], at: usize, me: Identity, sends: Sends) -> usize {
     let mut next = at;
     let mut k: u8 = 0;
-    while k < 64 {
+    while k < 128 {
         let ToSend::Next(m) = nth_message(me, sends, k) else {
             return next;
         };
@@ -163,7 +163,7 @@ pub(crate) fn flush(out: &[u8], n: usize) {
     }
 }
 
-// A line, which has at most some 500 bytes. A buffer that is nearly full is written out, and begins again at 0.
+// A line, which has at most some 1,000 bytes. A buffer that is nearly full is written out, and begins again at 0.
 pub(crate) fn put_line(out: &mut [u8], at: usize, me: Identity, a: Answer, saved: Saved) -> usize {
     let sends = a.sends;
     let mut next = put_answer(out, at, a);

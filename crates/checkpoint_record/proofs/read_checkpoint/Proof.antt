@@ -14,12 +14,12 @@ frame-question-requires : tie.Need-frame-question-requires
 frame-question-requires c κs = search needs
 
 returns : tie.Need-returns
-returns c = frame-refused checkpoints 0x4C53 refl _ _ (c .before .frame-question .ensures) (c .if1 .taken)
+returns c = frame-refused checkpoints _ tt refl 0x4C53 refl _ (c .before .frame-question .ensures) (c .if1 .taken)
 
 shared-slice-read-is-outcome : tie.Need-shared-slice-read-is-outcome
 shared-slice-read-is-outcome c =
     let s = c .before .before .before .before .args .s .now in
-    let l : length s ≡ 14 = frame-length checkpoints 0x4C53 refl s _ (c .before .before .frame-question .ensures) (c .before .if1 .left) in
+    let l : length s ≡ 14 = frame-length checkpoints s tt refl 0x4C53 refl _ (c .before .before .frame-question .ensures) (c .before .if1 .left) in
     omega arith
 
 is-outcome-requires : tie.Need-is-outcome-requires
@@ -28,12 +28,12 @@ is-outcome-requires c κs = search needs
 returns-2 : tie.Need-returns-2
 returns-2 c =
     let framed = c .before .before .before in
-    unlisted checkpoints 0x4C53 refl _ _ (framed .before .frame-question .ensures) (framed .if1 .left) (sym (c .before .is-outcome .ensures) ∙ not-true (c .before .is-outcome .result) (c .if2 .taken))
+    unlisted checkpoints _ tt refl 0x4C53 refl _ (framed .before .frame-question .ensures) (framed .if1 .left) (sym (c .before .is-outcome .ensures) ∙ not-true (c .before .is-outcome .result) (c .if2 .taken))
 
 checkpoint-in-requires : tie.Need-checkpoint-in-requires
 checkpoint-in-requires c κs =
     let framed = c .before .before .before in
-    frame-length checkpoints 0x4C53 refl (framed .before .before .before .args .s .now) _ (framed .before .frame-question .ensures) (framed .if1 .left)
+    frame-length checkpoints (framed .before .before .before .args .s .now) tt refl 0x4C53 refl _ (framed .before .frame-question .ensures) (framed .if1 .left)
 
 question-requires : tie.Need-question-requires
 question-requires c κs = search needs
@@ -42,14 +42,14 @@ returns-3 : tie.Need-returns-3
 returns-3 c =
     let listed = c .before .before .before in
     let framed = listed .before .before .before in
-    question-refused checkpoints 0x4C53 refl _ _ (framed .before .frame-question .ensures) (framed .if1 .left) (sym (listed .before .is-outcome .ensures) ∙ not-false (listed .before .is-outcome .result) (listed .if2 .left))
+    question-refused checkpoints _ tt refl 0x4C53 refl _ (framed .before .frame-question .ensures) (framed .if1 .left) (sym (listed .before .is-outcome .ensures) ∙ not-false (listed .before .is-outcome .result) (listed .if2 .left))
     _ (c .before .before .checkpoint-in .ensures) _ (c .before .question .ensures) (c .if3 .taken)
 
 returns-4 : tie.Need-returns-4
 returns-4 c =
     let listed = c .before .before .before in
     let framed = listed .before .before .before in
-    questions-passed checkpoints 0x4C53 refl _ _ (framed .before .frame-question .ensures) (framed .if1 .left) (sym (listed .before .is-outcome .ensures) ∙ not-false (listed .before .is-outcome .result) (listed .if2 .left))
+    questions-passed checkpoints _ tt refl 0x4C53 refl _ (framed .before .frame-question .ensures) (framed .if1 .left) (sym (listed .before .is-outcome .ensures) ∙ not-false (listed .before .is-outcome .result) (listed .if2 .left))
     _ (c .before .before .checkpoint-in .ensures) _ (c .before .question .ensures) (checkpoint-numbered _) (c .if3 .left)
 
 pub read-checkpoint-spec : {M : Type 1} → statement M

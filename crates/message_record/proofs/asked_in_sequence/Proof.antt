@@ -5,7 +5,7 @@ use Rattle.message_record.specs.Messages.{aboutMessage, messages}
 use Rattle.message_record.proofs.asked_in_sequence.Statement.{statement}
 use Rattle.message_record.proofs.asked_in_sequence.Tie as tie
 
-asked : AskedInSequence messages (1 ∷ 2 ∷ 3 ∷ 4 ∷ 7 ∷ 8 ∷ 9 ∷ 10 ∷ []) (1 ∷ 4 ∷ 7 ∷ 8 ∷ 9 ∷ 10 ∷ [])
+asked : AskedInSequence messages (1 ∷ 2 ∷ 3 ∷ 4 ∷ 4 ∷ 7 ∷ 8 ∷ 9 ∷ 10 ∷ []) (1 ∷ 4 ∷ 4 ∷ 7 ∷ 8 ∷ 9 ∷ 10 ∷ [])
 unfolding aboutMessage
 asked = record { at-reading = λ s. refl; at-writing = λ out a. refl }
 

@@ -1,41 +1,55 @@
--- `write_message` meets its contract.
-use mathlib.Core.Path.{refl}
-use Rattle.records.specs.FrameLaws.{record-written}
-use Rattle.message_record.specs.Messages.{messages}
-use Rattle.message_record.proofs.Numbered.{message-numbered}
 use borrow.Author.Needs.{needs}
+use Rattle.message_record.proofs.Framing.{written-in}
 use Rattle.message_record.proofs.write_message.Statement.{statement}
 use Rattle.message_record.proofs.write_message.Tie as tie
 
-message-bytes-requires : tie.Need-message-bytes-requires
-message-bytes-requires c κs = search needs
+width-for-requires : tie.Need-width-for-requires
+width-for-requires c κs = search needs
 
-slice-aggregate-write-record : tie.Need-slice-aggregate-write-record
-slice-aggregate-write-record c = search needs
+question-in-requires : tie.Need-question-in-requires
+question-in-requires c κs = search needs
 
-question-requires : tie.Need-question-requires
-question-requires c κs = search needs
+enum-told : tie.Need-enum-told
+enum-told c = search needs
 
-write-record-requires : tie.Need-write-record-requires
-write-record-requires c κs = search needs
+write-short-requires : tie.Need-write-short-requires
+write-short-requires c κs = search needs
+
+enum-told-2 : tie.Need-enum-told-2
+enum-told-2 c = search needs
+
+write-long-requires : tie.Need-write-long-requires
+write-long-requires c κs = search needs
 
 same-length : tie.Need-same-length
 same-length c = search needs
 
 returns : tie.Need-returns
 returns c =
-    let written = c .before .before in
-    let asked = written .before in
-    let made = asked .before .before .before in
-    record-written messages _ _ _ (made .message-bytes .ensures) refl _ (asked .question .ensures) (message-numbered _) (written .write-record .ensures)
+    let told = c .before .before .before .before in
+    let asked = told .before .before in
+    written-in _ _ _ _ _ _ _ (asked .before .width-for .ensures) (told .enum-told .given .1) (asked .question-in .ensures) (c .before .before .write-short .ensures)
+
+same-length-2 : tie.Need-same-length-2
+same-length-2 c = search needs
+
+returns-2 : tie.Need-returns-2
+returns-2 c =
+    let told = c .before .before .before .before in
+    let asked = told .before .before in
+    written-in _ _ _ _ _ _ _ (asked .before .width-for .ensures) (told .enum-told2 .given .1) (asked .question-in .ensures) (c .before .before .write-long .ensures)
 
 pub write-message-spec : {M : Type 1} → statement M
 write-message-spec =
     tie.close
     (tie.spec
-    message-bytes-requires
-    slice-aggregate-write-record
-    question-requires
-    write-record-requires
+    width-for-requires
+    question-in-requires
+    enum-told
+    write-short-requires
+    enum-told-2
+    write-long-requires
     same-length
-    returns)
+    returns
+    same-length-2
+    returns-2)

@@ -26,9 +26,9 @@ use Rattle.model.specs.declared.Kind.the-variants.{Vote, Ack, Help, Helped}
 use Rattle.model.specs.declared.Checkpoint.{Checkpoint}
 use Rattle.model.specs.declared.Event.{Event}
 use Rattle.model.specs.declared.Event.the-variants.{Lock, Order, Cast, Deliver, Timeout, Decide, Stop, Save, Restore}
-use Rattle.records.specs.Codec.{Codec, recordLength, bytesOf, writeReply, writes}
+use Rattle.records.specs.Codec.{Codec, ownForm, recordLength, bytesOf, writeReply, writes}
 use Rattle.message_record.specs.Messages.{bitsInRange, knowsForKind, suits, aboutMessage, messages}
-use Rattle.message_record.proofs.RoundTrips.{promises}
+use Rattle.message_record.proofs.RoundTrips.{own-passes, message-back}
 use Rattle.checkpoint_record.specs.Checkpoints.{aboutCheckpoint, checkpoints}
 use Rattle.checkpoint_record.proofs.RoundTrips.{promises as checkpoint-promises}
 use Rattle.protocol.specs.declared.Sent.{Sent}
@@ -232,7 +232,7 @@ checkpoint-passes b i p (inr a) h e =
     )
 
 -- what passes is written
-written-out : {A R : Type 0} (k : Codec A R) (a : A) (out : List ℕ) → length out ≡ recordLength k → firstNo (k .asked a) ≡ accepted → writes k out a ≡ bytesOf k a
+written-out : {S A R : Type 0} (k : Codec S A R) (a : A) (out : List ℕ) → length out ≡ recordLength k a → firstNo (ownForm k a .asked a) ≡ accepted → writes k out a ≡ bytesOf k a
 unfolding writes writeReply firstNo unless
 written-out k a out h p = rw (eq-eqb _ _ h, p)
 
@@ -248,9 +248,9 @@ reach = record {
   messages-pass = λ es kind i j e. message-passes (after es) kind i j (reached es) (all-in es) e;
   checkpoints-pass = λ es i p e. checkpoint-passes (after es) i p (reached es) (all-in es) e;
   checkpoints-own = λ es i p e. own-checkpoint (after es) i p (reached es) (all-in es) e;
-  messages-written = λ es kind i j out h e. written-out messages (messageAt (after es) kind i j) out h (message-passes (after es) kind i j (reached es) (all-in es) e);
+  messages-written = λ es kind i j out h e. written-out messages (messageAt (after es) kind i j) out h (own-passes (messageAt (after es) kind i j) (message-passes (after es) kind i j (reached es) (all-in es) e));
   checkpoints-written = λ es i p out h e. written-out checkpoints p out h (checkpoint-passes (after es) i p (reached es) (all-in es) e);
-  messages-back = λ es kind i j r e. promises .reads-back (messageAt (after es) kind i j) (unfold view in all-short es r .order, tt) (message-passes (after es) kind i j (reached es) (all-in es) e);
+  messages-back = λ es kind i j r e. message-back (messageAt (after es) kind i j) (unfold view in all-short es r .order) (message-passes (after es) kind i j (reached es) (all-in es) e);
   checkpoints-back = λ es i p r e. let s : SavedIn Short Short short-0 ((after es) .shared .n) ((after es) .shared .f) i p = (unfold view in all-short es r .saved i p e) in
       checkpoint-promises .reads-back p (s .order-in, (s .position, tt)) (checkpoint-passes (after es) i p (reached es) (all-in es) e);
 }

@@ -2,6 +2,7 @@ use Prim.Native.Nat.{suc, _<_, _^_}
 use native.Mathlib.Omega.{arith}
 use native.Mathlib.Numerals.{add-one}
 use Rattle.ground.specs.Inclusion.{has-past}
+use Rattle.ground.specs.Lists.{nth}
 use Rattle.protocol.specs.Rules.{secondKnows}
 use borrow.Author.Needs.{needs}
 use Rattle.controller_rules.proofs.deciding.second_knows.Statement.{statement}
@@ -14,6 +15,12 @@ returns c =
     let fits : start .c .acks .from < 2 ^ 32 = search needs in
     simp (has-past 32 (start .c .acks .from) (suc (start .f)) fits (omega arith))
 
+mul-s : tie.Need-mul-s
+mul-s c = search needs
+
+array-copy-out-s : tie.Need-array-copy-out-s
+array-copy-out-s c = search needs
+
 add-held-complete : tie.Need-add-held-complete
 add-held-complete c = search needs
 
@@ -21,8 +28,10 @@ held-complete-requires : tie.Need-held-complete-requires
 held-complete-requires c κs = search needs
 
 returns-2 : tie.Need-returns-2
-unfolding secondKnows
+unfolding secondKnows nth
 returns-2 c = simp (c .held-complete .ensures, add-one)
 
 pub second-knows-spec : {M : Type 1} → statement M
-second-knows-spec = tie.close (tie.spec returns add-held-complete held-complete-requires returns-2)
+second-knows-spec =
+    tie.close
+    (tie.spec returns mul-s array-copy-out-s add-held-complete held-complete-requires returns-2)

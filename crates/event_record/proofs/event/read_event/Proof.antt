@@ -13,10 +13,10 @@ frame-question-requires : tie.Need-frame-question-requires
 frame-question-requires c κs = search needs
 
 returns : tie.Need-returns
-returns c = frame-refused events 0x4C45 refl _ _ (c .before .frame-question .ensures) (c .if1 .taken)
+returns c = frame-refused events _ tt refl 0x4C45 refl _ (c .before .frame-question .ensures) (c .if1 .taken)
 
 fields-in-requires : tie.Need-fields-in-requires
-fields-in-requires c κs = frame-length events 0x4C45 refl (c .before .before .before .args .s .now) _ (c .before .frame-question .ensures) (c .if1 .left)
+fields-in-requires c κs = frame-length events (c .before .before .before .args .s .now) tt refl 0x4C45 refl _ (c .before .frame-question .ensures) (c .if1 .left)
 
 row-for-requires : tie.Need-row-for-requires
 row-for-requires c κs = search needs
@@ -25,7 +25,7 @@ returns-2 : tie.Need-returns-2
 returns-2 c =
     let row = c .before .before in
     let framed = row .before .before in
-    unlisted events 0x4C45 refl _ _ (framed .before .frame-question .ensures) (framed .if1 .left)
+    unlisted events _ tt refl 0x4C45 refl _ (framed .before .frame-question .ensures) (framed .if1 .left)
     (ap (λ (x : Fields). rowFor x .listed) (sym (row .before .fields-in .ensures)) ∙ sym (row .row-for .ensures .0) ∙ not-true (row .row-for .result .listed) (c .if2 .taken))
 
 returns-3 : tie.Need-returns-3
@@ -33,7 +33,7 @@ unfolding firstNo
 returns-3 c =
     let row = c .before .before in
     let framed = row .before .before in
-    questions-passed events 0x4C45 refl _ _ (framed .before .frame-question .ensures) (framed .if1 .left)
+    questions-passed events _ tt refl 0x4C45 refl _ (framed .before .frame-question .ensures) (framed .if1 .left)
     (ap (λ (x : Fields). rowFor x .listed) (sym (row .before .fields-in .ensures)) ∙ sym (row .row-for .ensures .0) ∙ not-false (row .row-for .result .listed) (c .if2 .left))
     _ (row .row-for .ensures .1 ∙ ap (λ (x : Fields). rowFor x .value) (row .before .fields-in .ensures)) 0 refl refl refl
 

@@ -7,10 +7,10 @@ use Rattle.try_controller.proofs.print.put_messages.Statement.{statemen
 use Rattle.try_controller.proofs.print.put_messages.Tie as tie
 
 abbrev Inv-loop : tie.InvT-loop
-Inv-loop out₀ at me sends next₀ k₀ out next k = (k ≤ 64) × (length out ≡ length out₀)
+Inv-loop out₀ at me sends next₀ k₀ out next k = (k ≤ 128) × (length out ≡ length out₀)
 
 abbrev μ-loop : tie.MeasureT-loop
-μ-loop out₀ at me sends next₀ k₀ out next k = 64 - k
+μ-loop out₀ at me sends next₀ k₀ out next k = 128 - k
 
 loop-holds : tie.Need-loop-holds Inv-loop μ-loop
 loop-holds c = search needs

@@ -1,6 +1,6 @@
 use borrow.Author.Needs.{needs}
-use Rattle.message_record.proofs.message_bytes.Statement.{statement}
-use Rattle.message_record.proofs.message_bytes.Tie as tie
+use Rattle.message_record.proofs.short_bytes.Statement.{statement}
+use Rattle.message_record.proofs.short_bytes.Tie as tie
 
 low-byte-requires : tie.Need-low-byte-requires
 low-byte-requires c κs = search needs
@@ -38,8 +38,8 @@ low-byte-requires-10 c κs = search needs
 returns : tie.Need-returns
 returns c = simp (← c .before .before .before .before .before .before .before .before .before .before .before .before .before .before .before .low-byte .ensures, ← c .before .before .before .before .before .before .before .before .before .before .before .before .before .before .low-byte2 .ensures, ← c .before .before .before .before .before .before .before .before .before .before .before .before .before .kind-number .ensures, ← c .before .before .before .before .before .before .before .before .before .before .before .low-byte3 .ensures, ← c .before .before .before .before .before .before .before .before .before .low-byte4 .ensures, ← c .before .before .before .before .before .before .before .low-byte5 .ensures, ← c .before .before .before .before .before .before .low-byte6 .ensures, ← c .before .before .before .before .low-byte7 .ensures, ← c .before .before .before .low-byte8 .ensures, ← c .before .low-byte9 .ensures, c .low-byte10 .ensures)
 
-pub message-bytes-spec : {M : Type 1} → statement M
-message-bytes-spec =
+pub short-bytes-spec : {M : Type 1} → statement M
+short-bytes-spec =
     tie.close
     (tie.spec
     low-byte-requires

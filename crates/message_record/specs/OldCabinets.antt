@@ -1,0 +1,40 @@
+-- Document 01's telegram, as cabinets of before document 02, U12 read and write it: locks of 2 to 16 controllers, one form.
+use Prim.Native.Nat.{ℕ}
+use mathlib.Core.Bool.{Bool, _&&_}
+use mathlib.Core.List.{[], _∷_}
+use lib.Dec.{leb, ltb}
+use lib.ListN.{getD}
+use Rattle.model.specs.Numbers.{kindNumber}
+use Rattle.model.specs.Questions.{ask}
+use Rattle.model.specs.Ranges.{differentControllers}
+use Rattle.model.specs.Routes.{route}
+use Rattle.model.specs.declared.Message.{Message}
+use Rattle.records.specs.Bytes.{one, two, four}
+use Rattle.records.specs.Codes.{isKind, unused}
+use Rattle.records.specs.Codec.{marked, Form, Codec, oneForm}
+use Rattle.message_record.specs.declared.ReadMessage.{ReadMessage}
+use Rattle.message_record.specs.declared.ReadMessage.the-variants.{Read, Refused}
+use Rattle.message_record.specs.Messages.{answerOf, messageOf, suits}
+
+-- "n from 2 to 16; f from 1 to n − 1"
+unfoldable pub oldSizes : ℕ → ℕ → Bool
+oldSizes n f = leb 2 n && leb n 16 && leb 1 f && ltb f n
+
+-- "Telegram, 16 bytes: 4C 4B; kind (1 vote, 2 acknowledgement, 3 help call, 4 help answer); n; f; from; to; 0; order (4); known (2); willing (2)."
+abbrev pub oldForm : Form Message
+oldForm = record {
+  mark = marked 0x4C4B;
+  widths = one ∷ one ∷ one ∷ one ∷ one ∷ one ∷ four ∷ two ∷ two ∷ [];
+  fields = λ m. kindNumber (m .kind) ∷ m .n ∷ m .f ∷ m .from ∷ m .to ∷ 0 ∷ m .order ∷ m .votes .known ∷ m .votes .willing ∷ [];
+  value = messageOf;
+  listed = λ v. isKind (getD v 0 0) && unused (getD v 5 0);
+  asked = λ m. ask 4 (oldSizes (m .n) (m .f))
+      ∷ ask 7 (differentControllers (m .n) (m .from) (m .to))
+      ∷ ask 8 (leb 1 (m .order))
+      ∷ ask 9 (suits m)
+      ∷ ask 10 (route (m .f) (m .kind) (m .from) (m .to))
+      ∷ [];
+}
+
+abbrev pub oldMessages : Codec (Unit {0}) Message ReadMessage
+oldMessages = oneForm oldForm Read Refused answerOf
