@@ -1,0 +1,13 @@
+-- `survey::ended::some_with` meets its contract.
+use borrow.Author.Tests.{eq-eqb, ne-eqb}
+use Rattle.survey.proofs.ended.some_with.Statement.{statement}
+use Rattle.survey.proofs.ended.some_with.Tie as tie
+
+returns : tie.Need-returns
+returns c = simp (eq-eqb _ _ (c .if1 .taken))
+
+returns-2 : tie.Need-returns-2
+returns-2 c = simp (ne-eqb _ _ (c .if1 .left))
+
+pub some-with-spec : {M : Type 1} → statement M
+some-with-spec = tie.close (tie.spec returns returns-2)
