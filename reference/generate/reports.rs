@@ -6,7 +6,7 @@ use crate::rng::Rng;
 use crate::survey::{Record, MAX_SCHEDULES};
 
 /// So many events are drawn for a seeded record, all its schedules together; for the large ones at the ends, more.
-const DRAWN: usize = 6_000;
+const DRAWN: usize = 20_000;
 
 /// The ends first: each refusal, alone and with those that come after it; the least and the most of each number. Then seeded ones.
 pub fn inputs(rng: &mut Rng, count: usize) -> Vec<Vec<u8>> {

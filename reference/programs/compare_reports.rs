@@ -100,16 +100,11 @@ impl Met {
     }
 
     fn add_report(&mut self, report: &Report) {
-        for (name, ending) in [
-            ("all three", None),
-            ("some Move", Some(Verdict::Move)),
-            ("some Stay", Some(Verdict::Stay)),
-        ] {
-            let some = report.ended(ending) > 0;
-            let all = [None, Some(Verdict::Move), Some(Verdict::Stay)];
-            let each = all.into_iter().all(|one| report.ended(one) > 0);
-            self.count(name, if ending.is_none() { each } else { some });
-        }
+        let [moved, stayed, rest] = [Some(Verdict::Move), Some(Verdict::Stay), None].map(|outcome| report.ended(outcome) > 0);
+        self.count("some ended Move", moved);
+        self.count("some ended Stay", stayed);
+        self.count("some in the rest", rest);
+        self.count("some of each", moved && stayed && rest);
         let schedules = &report.0;
         self.count("nobody left unstopped in one", schedules.iter().any(|one| !one.is_anyone_left));
         self.count("an ending that hangs on one standing by", schedules.iter().any(|one| one.hangs_on_standby));

@@ -1,6 +1,6 @@
 -- How a schedule ended. Document 02, U13.
 use Prim.Native.Nat.{ℕ}
-use mathlib.Core.Bool.{Bool, true, false, cond, not, _&&_, _||_}
+use mathlib.Core.Bool.{Bool, true, false, cond, not, _||_}
 use lib.Dec.{eqb}
 use Rattle.ground.specs.Lists.{nth}
 use Rattle.ground.specs.Quantify.{allTo, anyTo}
@@ -28,9 +28,13 @@ hasEnded false o = isStay o
 abbrev pub endedIf : Bool → Row → Bool
 endedIf move r = not (isPresent r) || hasEnded move (r .outcome)
 
--- "every controller not stopped ended Move, likewise Stay"; "A schedule with no controller left unstopped is in the rest."
+-- "every controller not stopped ended Move, likewise Stay"
 unfoldable pub allEnded : Bool → Summary → Bool
-allEnded move end = anyTo (end .n) (λ i. isPresent (rowOf end i)) && allTo (end .n) (λ i. endedIf move (rowOf end i))
+allEnded move end = allTo (end .n) (λ i. endedIf move (rowOf end i))
+
+-- "A schedule with no controller left unstopped is in the rest."
+unfoldable pub anyPresent : Summary → Bool
+anyPresent end = anyTo (end .n) (λ i. isPresent (rowOf end i))
 
 unfoldable pub endingOf : Summary → Ending
-endingOf end = cond (allEnded true end) Moved (cond (allEnded false end) Stayed Rest)
+endingOf end = cond (anyPresent end) (cond (allEnded true end) Moved (cond (allEnded false end) Stayed Rest)) Rest

@@ -19,7 +19,7 @@ use Rattle.bench_report.specs.declared.Summary.{Summary}
 use Rattle.bench_report.specs.Listing.{page as asPage}
 use Rattle.survey.specs.declared.Ending.{Ending}
 use Rattle.survey.specs.declared.Ending.the-variants.{Moved, Stayed, Rest}
-use Rattle.survey.specs.Ended.{allEnded, endingOf}
+use Rattle.survey.specs.Ended.{anyPresent, allEnded, endingOf}
 use Rattle.survey.specs.Surveys.{withOne, surveyOf}
 use Rattle.survey.specs.Questions.{numbersInRange, refusalOf}
 use Rattle.survey.specs.Page.{page}
@@ -53,7 +53,7 @@ pub endings : map endingOf (
     ∷ end []
     ∷ [])
     ≡ Moved ∷ Moved ∷ Rest ∷ Moved ∷ Stayed ∷ Rest ∷ Rest ∷ Rest ∷ Rest ∷ []
-unfolding endingOf allEnded nth allTo anyTo
+unfolding endingOf anyPresent allEnded nth allTo anyTo
 endings = refl
 
 -- n, f, count, s and k of a record, and the answer: 0, or the refusal
@@ -112,5 +112,5 @@ pub printed : page (surveyOf ends 7 4) 4 ≡ asPage (
     "9 10 4 2" ∷
     "9 8" ∷
     "25 4" ∷ [])
-unfolding page surveyOf withOne endingOf allEnded nth allTo anyTo digits decimal
+unfolding page surveyOf withOne endingOf anyPresent allEnded nth allTo anyTo digits decimal
 printed = refl
