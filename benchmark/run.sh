@@ -1,5 +1,5 @@
 #!/usr/bin/env bash
-# Measures the proved bench beside the reference implementation and beside one written for speed, then an order event alone: ./benchmark/run.sh
+# Measures the proved bench beside the reference implementation and beside one written for speed, then an order event alone and reports over many schedules: ./benchmark/run.sh
 set -euo pipefail
 cd "$(dirname "$0")/.."
 ref=target/reference
@@ -8,10 +8,14 @@ for tool in rt rustc; do
 done
 mkdir -p target
 echo "benchmark: the bench is proved and built first, which takes some minutes where nothing was proved yet" >&2
-rt staticlib bench_output > target/staticlib.log 2>&1 || { tail -n 5 target/staticlib.log >&2; exit 1; }
+for crate in bench_output survey_output; do
+    rt staticlib "$crate" > target/staticlib.log 2>&1 || { tail -n 5 target/staticlib.log >&2; exit 1; }
+done
 reference/build.sh
 rustc --edition 2021 -O -L native=target/staticlib --extern reference="$ref/libreference.rlib" -o "$ref/benchmark" benchmark/main.rs
 "$ref/gen_schedules" 400 21 > "$ref/benchmark.schedules"
 "$ref/benchmark" "$ref/benchmark.schedules"
 rustc --edition 2021 -O -L native=target/staticlib -o "$ref/orders" benchmark/orders.rs
 "$ref/orders"
+rustc --edition 2021 -O -L native=target/staticlib --extern reference="$ref/libreference.rlib" -o "$ref/reports" benchmark/reports.rs
+"$ref/reports"

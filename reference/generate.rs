@@ -9,6 +9,7 @@ pub mod hearing;
 pub mod orders;
 pub mod player;
 pub mod ranges;
+pub mod reports;
 pub mod schedules;
 pub mod sheets;
 pub mod wanted;

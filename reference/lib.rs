@@ -20,6 +20,7 @@ pub mod process;
 pub mod questions;
 pub mod records;
 pub mod rng;
+pub mod survey;
 pub mod tally;
 pub mod telegrams;
 pub mod text;

@@ -22,6 +22,8 @@ mod records;
 mod strays;
 #[path = "trials/support.rs"]
 mod support;
+#[path = "trials/survey.rs"]
+mod survey;
 #[path = "trials/levels.rs"]
 mod levels;
 #[path = "trials/dues.rs"]

@@ -10,6 +10,7 @@ use ground::LIMIT;
 use lines::put_answers;
 use lines::put_controllers;
 use lines::put_messages;
+pub use lines::row_at;
 use model::Event;
 use model::Outcome;
 use text::write_refusal;

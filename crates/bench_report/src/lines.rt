@@ -141,7 +141,7 @@ fn put_controller(out: &mut [u8], at: usize, k: u32, row: Row) -> usize
 }
 
 // The row at an index; past the last, a blank one.
-fn row_at(rows: [Row; LIMIT], i: usize) -> Row
+pub fn row_at(rows: [Row; LIMIT], i: usize) -> Row
     ensures { λ r. ⌜ r ≡ getD rows i blankRow ⌝ }
 {
     if LIMIT <= i {

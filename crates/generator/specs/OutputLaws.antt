@@ -26,7 +26,7 @@ use Rattle.generator.specs.Claim.{recordsIn}
 use Rattle.generator.specs.Output.{fileOrRefusal, outputFor, outputOf, longestOutput, AllFit}
 
 -- at most the limit of controllers, and 4,000 drawn events
-limits : (n f count start : ℕ) → refusalOf n f count start ≡ accepted → (n ≤ limit) × (count ≤ mostDrawn)
+pub limits : (n f count start : ℕ) → refusalOf n f count start ≡ accepted → (n ≤ limit) × (count ≤ mostDrawn)
 unfolding refusalOf
 limits n f count start e =
     let y = all-yes (asked n f count start) e in

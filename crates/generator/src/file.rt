@@ -13,10 +13,10 @@ ghost use Rattle.generator.specs.File.{votesTo, drawnFrom, fileOf, refus
 ghost use Rattle.generator.specs.Claim.{recordsIn, Files};
 
 // The most events that are drawn.
-pub(crate) const MOST_DRAWN: u32 = 4000;
+pub const MOST_DRAWN: u32 = 4000;
 
 // Ten bytes for each record: lock, order, votes, drawn events.
-pub(crate) fn file_length(n: u8, count: u32) -> usize
+pub fn file_length(n: u8, count: u32) -> usize
     ensures { λ r. ⌜ r ≡ eventLength * recordsIn n count ⌝ }
 {
     Event::LENGTH * (2 + n as usize + count as usize)

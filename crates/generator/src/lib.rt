@@ -3,6 +3,8 @@ mod drawing;
 mod file;
 mod output;
 
+pub use file::MOST_DRAWN;
+pub use file::file_length;
 pub use file::files;
 pub use file::generate;
 use model::Event;

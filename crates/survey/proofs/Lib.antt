@@ -1,0 +1,3 @@
+pub mod Figures
+pub mod Record
+pub mod Widths

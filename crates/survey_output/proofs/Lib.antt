@@ -1,0 +1,4 @@
+pub mod Ends
+pub mod Runs
+pub mod Rooms
+pub mod Texts
