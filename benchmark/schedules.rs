@@ -9,7 +9,7 @@ const MOST: usize = 4_096;
 /// Clean orders of that lock, all willing, one after the other, as many whole ones as there is room for.
 pub fn clean_orders(n: u8, f: u8) -> Vec<u8> {
     let group = Group { n, f };
-    let mut records = vec![record(Event::Lock { group })];
+    let mut records = vec![record(Event::Lock { group, ballots: false })];
     let mut number = 0;
     loop {
         number += 1;
@@ -24,7 +24,7 @@ pub fn clean_orders(n: u8, f: u8) -> Vec<u8> {
 /// The vote telegrams of one order at n = 16, f = 15, delivered again and again.
 pub fn repeated_deliveries() -> Vec<u8> {
     let group = Group { n: 16, f: 15 };
-    let mut records = vec![record(Event::Lock { group }), record(Event::Order { number: 1 })];
+    let mut records = vec![record(Event::Lock { group, ballots: false }), record(Event::Order { number: 1 })];
     records.extend(votes(group));
     let deliveries = deliveries(group, MessageKind::Vote);
     let again = deliveries.iter().cycle().take(MOST - records.len());
@@ -45,7 +45,7 @@ pub fn refused() -> Vec<u8> {
         record(Event::Deliver { from: 1, to: 2, kind: MessageKind::Vote }),
         unlisted,
         record(Event::Vote { id: 3, willing: true, target: 500 }),
-        record(Event::Lock { group: Group { n: 33, f: 1 } }),
+        record(Event::Lock { group: Group { n: 33, f: 1 }, ballots: false }),
         unused,
         record(Event::Timeout { id: 16 }),
         record(Event::Order { number: 1 }),

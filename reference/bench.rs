@@ -2,6 +2,7 @@
 
 pub mod lock;
 
+use crate::ballot::{self, BallotKind};
 use crate::controller::{Controller, Reception};
 use crate::group::Group;
 use crate::questions::{
@@ -50,7 +51,7 @@ impl Bench {
     /// Answers 0, or the question refused: "a refused event leaves the bench untouched".
     pub fn step(&mut self, event: &Event) -> u8 {
         answer(match *event {
-            Event::Lock { group } => self.set_up(group),
+            Event::Lock { group, ballots } => self.set_up(group, ballots),
             Event::Order { number } => self.order(number),
             Event::Vote {
                 id,
@@ -63,15 +64,22 @@ impl Bench {
             Event::Stop { id } => self.stop(id),
             Event::Save { id } => self.save(id),
             Event::Restore { id } => self.restore(id),
+            Event::DeliverBallot {
+                from,
+                to,
+                kind,
+                ballot,
+            } => self.deliver_ballot(from, to, kind, ballot),
+            Event::OpenBallot { id, ballot } => self.open_ballot(id, ballot),
         })
     }
 
     /// "After the lock event every controller is running at stage 0, without outcome or card."
-    fn set_up(&mut self, group: Group) -> Result<(), u8> {
+    fn set_up(&mut self, group: Group, has_ballots: bool) -> Result<(), u8> {
         group_in_range(group)?;
         // 6. "Is no lock set up yet?"
         ask(6, self.lock.is_none())?;
-        self.lock = Some(Lock::new(group));
+        self.lock = Some(Lock::new(group, has_ballots));
         Ok(())
     }
 
@@ -138,9 +146,7 @@ impl Bench {
         ask_not_stopped(controller)?;
         // 16. "arbiter 3, if running"
         ask(16, controller.phase().is_none_or(|phase| phase == 3))?;
-        // 18. "Was the word put in this order, and no other given?"
-        let no_other_given = lock.decision().is_none_or(|given| given == verdict);
-        ask(18, lock.is_proposed(verdict) && no_other_given)?;
+        ask(18, may_be_given(lock, verdict))?;
         lock.give(verdict);
         let answer = lock.controller_mut(id).decide(verdict);
         lock.note(id, answer);
@@ -180,13 +186,63 @@ impl Bench {
         Ok(())
     }
 
+    /// Document 02, U14: "Event kind 10 (a, value = b ..) lets the owner, running and having put a word, open each of its
+    /// ballots once an order".
+    fn open_ballot(&mut self, id: u8, number: u32) -> Result<(), u8> {
+        let lock = self.locked()?;
+        controller_in_range(lock.group(), id)?;
+        ask_order_open(lock)?;
+        let controller = lock.controller(id);
+        ask_running(controller)?;
+        // 28. "a ballot outside 1 to 255, or one to open that is not the controller's, was opened or is below its highest
+        // promise"
+        let ballot = ballot::from_number(number).ok_or(28)?;
+        let is_own = ballot::owner(lock.group(), ballot) == Some(id);
+        let may_open = controller.ballots().is_none_or(|own| own.may_open(ballot));
+        ask(28, is_own && may_open)?;
+        // 29. "a ballot to open at a lock with c = 0 or by a controller with no word put"
+        ask(29, lock.has_ballots() && controller.proposed().is_some())?;
+        let answer = lock.controller_mut(id).open_ballot(ballot);
+        lock.note(id, answer);
+        Ok(())
+    }
+
+    /// Question 10 refuses none: these kinds "go between any two".
+    fn deliver_ballot(
+        &mut self,
+        from: u8,
+        to: u8,
+        kind: BallotKind,
+        number: u32,
+    ) -> Result<(), u8> {
+        let lock = self.locked()?;
+        route_in_range(lock.group(), from, to)?;
+        ask_order_open(lock)?;
+        ask_running(lock.controller(to))?;
+        let ballot = ballot::from_number(number).ok_or(28)?;
+        let message = lock.ballot_message(kind, from, to, ballot).ok_or(17)?;
+        let answer = lock.controller_mut(to).receive_ballot(&message);
+        lock.note(to, answer);
+        Ok(())
+    }
+
     /// 5. "Is a lock set up? (every event but lock)"
     fn locked(&mut self) -> Result<&mut Lock, u8> {
         self.lock.as_mut().ok_or(5)
     }
 }
 
-/// 14. "Is an order open? (kinds 2 to 8)"
+/// 18. "Was the word put in this order, and no other given?" At a lock with ballots it "asks instead whether more than n/2
+/// have taken the word in one ballot".
+fn may_be_given(lock: &Lock, verdict: Verdict) -> bool {
+    if lock.has_ballots() {
+        return lock.is_chosen(verdict);
+    }
+    let no_other_given = lock.decision().is_none_or(|given| given == verdict);
+    lock.is_proposed(verdict) && no_other_given
+}
+
+/// 14. "Is an order open? (kinds 2 to 8)", and 10 with U14.
 fn ask_order_open(lock: &Lock) -> Result<(), u8> {
     ask(14, lock.is_order_open())
 }

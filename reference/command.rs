@@ -1,8 +1,10 @@
 //! Commands of 24 bytes to one controller.
 
+use crate::ballot::BallotKind;
 use crate::controller::{Answer, Controller};
 use crate::group::Group;
 use crate::members::Members;
+use crate::records::ballot_message::BallotMessage;
 use crate::records::checkpoint::{outcome_from_number, outcome_number, Checkpoint};
 use crate::records::message::{Message, MessageKind};
 use crate::records::{read_u32, write_u32};
@@ -14,6 +16,7 @@ pub const LENGTH: usize = 24;
 pub enum Command {
     Fresh {
         group: Group,
+        has_ballots: bool,
         id: u8,
         order: u32,
     },
@@ -34,6 +37,8 @@ pub enum Command {
         order: u32,
         position: i32,
     },
+    ReceiveBallot(BallotMessage),
+    OpenBallot(u8),
 }
 
 impl Command {
@@ -47,8 +52,9 @@ impl Command {
             f: bytes[2],
         };
         Some(match bytes[0] {
-            0 => Command::Fresh {
+            0 if bytes[8] <= 1 => Command::Fresh {
                 group,
+                has_ballots: bytes[8] == 1,
                 id: bytes[3],
                 order: read_u32(bytes, 4),
             },
@@ -59,6 +65,19 @@ impl Command {
                 willing: bytes[1] == 1,
                 target: read_u32(bytes, 4) as i32,
             },
+            3 if bytes[1] > 4 => Command::ReceiveBallot(BallotMessage {
+                kind: BallotKind::from_number(bytes[1])?,
+                group: Group {
+                    n: bytes[2],
+                    f: bytes[3],
+                },
+                from: bytes[4],
+                to: bytes[5],
+                order: read_u32(bytes, 8),
+                ballot: bytes[20],
+                last: bytes[21],
+                word: outcome_from_number(bytes[22])?,
+            }),
             3 => Command::Receive(Message {
                 kind: MessageKind::from_number(bytes[1])?,
                 group: Group {
@@ -83,6 +102,7 @@ impl Command {
                 order: read_u32(bytes, 4),
                 position: read_u32(bytes, 8) as i32,
             },
+            10 => Command::OpenBallot(bytes[1]),
             _ => return None,
         })
     }
@@ -90,9 +110,15 @@ impl Command {
     pub fn bytes(&self) -> [u8; LENGTH] {
         let mut bytes = [0; LENGTH];
         match *self {
-            Command::Fresh { group, id, order } => {
+            Command::Fresh {
+                group,
+                has_ballots,
+                id,
+                order,
+            } => {
                 bytes[..4].copy_from_slice(&[0, group.n, group.f, id]);
                 write_u32(&mut bytes, 4, order);
+                bytes[8] = u8::from(has_ballots);
             }
             Command::NewOrder { order } => {
                 bytes[0] = 1;
@@ -124,6 +150,13 @@ impl Command {
                 write_u32(&mut bytes, 4, order);
                 write_u32(&mut bytes, 8, position as u32);
             }
+            Command::ReceiveBallot(m) => {
+                let Group { n, f } = m.group;
+                bytes[..6].copy_from_slice(&[3, m.kind.number(), n, f, m.from, m.to]);
+                write_u32(&mut bytes, 8, m.order);
+                bytes[20..23].copy_from_slice(&[m.ballot, m.last, outcome_number(m.word)]);
+            }
+            Command::OpenBallot(ballot) => bytes[..2].copy_from_slice(&[10, ballot]),
         }
         bytes
     }
@@ -131,13 +164,20 @@ impl Command {
     /// Puts the command to the controller; answers also the checkpoint that a save makes.
     pub fn call(&self, controller: &mut Controller) -> (Answer, Option<Checkpoint>) {
         let answer = match *self {
-            Command::Fresh { group, id, order } => {
-                *controller = Controller::new(group, id, order);
+            Command::Fresh {
+                group,
+                has_ballots,
+                id,
+                order,
+            } => {
+                *controller = Controller::of_lock(group, has_ballots, id, order);
                 Answer::taken()
             }
             Command::NewOrder { order } => controller.new_order(order),
             Command::Vote { willing, target } => controller.vote(willing, target),
             Command::Receive(message) => controller.receive(&message),
+            Command::ReceiveBallot(message) => controller.receive_ballot(&message),
+            Command::OpenBallot(ballot) => controller.open_ballot(ballot),
             Command::Timeout => controller.timeout(),
             Command::Decide(verdict) => controller.decide(verdict),
             Command::Stop => controller.stop(),

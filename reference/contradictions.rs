@@ -65,8 +65,7 @@ impl Contradictions {
         answer: &Answer,
     ) -> Result<(), String> {
         // "takes the telegram as not received"
-        let silent = answer.sent.is_empty() && answer.proposal.is_none();
-        if !answer.is_taken() && (after != before || !silent) {
+        if !answer.is_taken() && (after != before || !answer.is_silent()) {
             return Err(format!("{command:?} was not taken and did something"));
         }
         match command {

@@ -1,12 +1,16 @@
 //! One controller as a step machine, off the bench: its condition and what outlives it.
 
+pub mod ballots;
 pub mod participant;
 
+use crate::ballot::{BallotKind, Taking};
 use crate::group::Group;
 use crate::members::Members;
+use crate::records::ballot_message::BallotMessage;
 use crate::records::checkpoint::Checkpoint;
 use crate::records::message::{Message, MessageKind};
 use crate::vote_set::{Verdict, VoteSet};
+use ballots::Ballots;
 use participant::Participant;
 
 /// "A controller's condition is running, stopped or standing by, and it carries the outcome, if any."
@@ -20,6 +24,8 @@ pub enum Condition {
 #[derive(Clone, PartialEq, Eq, Debug)]
 pub struct Controller {
     group: Group,
+    /// Whether the controllers settle the word among themselves: the lock's c (document 02, U14).
+    has_ballots: bool,
     id: u8,
     order: u32,
     position: i32,
@@ -32,6 +38,16 @@ pub struct Sending {
     pub kind: MessageKind,
     pub receivers: Members,
     pub votes: VoteSet,
+}
+
+/// One message of a ballot to several receivers.
+#[derive(Clone, Copy, PartialEq, Eq, Debug)]
+pub struct BallotSending {
+    pub kind: BallotKind,
+    pub receivers: Members,
+    pub ballot: u8,
+    pub last: u8,
+    pub word: Option<Verdict>,
 }
 
 /// What became of a call; unless it was taken nothing changed.
@@ -51,6 +67,9 @@ pub struct Answer {
     pub sent: Vec<Sending>,
     /// The word put to the arbiter.
     pub proposal: Option<Verdict>,
+    pub ballots_sent: Vec<BallotSending>,
+    /// The ballot that the controller took.
+    pub taking: Option<Taking>,
 }
 
 impl Answer {
@@ -91,22 +110,52 @@ impl Answer {
         self.proposal = proposal;
         self
     }
+
+    pub fn sending_ballot(mut self, sending: BallotSending) -> Answer {
+        self.ballots_sent.push(sending);
+        self
+    }
+
+    pub fn taking(mut self, taking: Taking) -> Answer {
+        self.taking = Some(taking);
+        self
+    }
+
+    /// Whether the call sent, put and took nothing.
+    pub fn is_silent(&self) -> bool {
+        let nothing = Answer {
+            reception: self.reception,
+            ..Answer::default()
+        };
+        *self == nothing
+    }
 }
 
 impl Controller {
-    /// "a gate starts at 0"; "every controller is running at stage 0, without outcome".
+    /// A controller of a lock with an arbiter. "a gate starts at 0"; "every controller is running at stage 0, without
+    /// outcome".
     pub fn new(group: Group, id: u8, order: u32) -> Controller {
+        Controller::of_lock(group, false, id, order)
+    }
+
+    /// A controller of a lock of either kind.
+    pub fn of_lock(group: Group, has_ballots: bool, id: u8, order: u32) -> Controller {
         Controller {
             group,
+            has_ballots,
             id,
             order,
             position: 0,
-            condition: Condition::Running(Participant::new(group, id)),
+            condition: Condition::Running(Participant::new(group, has_ballots, id)),
         }
     }
 
     pub fn group(&self) -> Group {
         self.group
+    }
+
+    pub fn has_ballots(&self) -> bool {
+        self.has_ballots
     }
 
     pub fn id(&self) -> u8 {
@@ -157,6 +206,22 @@ impl Controller {
         }
     }
 
+    /// The word that a running controller has put in this order.
+    pub fn proposed(&self) -> Option<Verdict> {
+        match &self.condition {
+            Condition::Running(participant) => participant.proposed(),
+            Condition::Stopped | Condition::Standby(_) => None,
+        }
+    }
+
+    /// A running controller's part in the ballots: "Those standing by, and all at c = 0, take no part."
+    pub fn ballots(&self) -> Option<&Ballots> {
+        match &self.condition {
+            Condition::Running(participant) => participant.ballots(),
+            Condition::Stopped | Condition::Standby(_) => None,
+        }
+    }
+
     pub fn is_running(&self) -> bool {
         matches!(self.condition, Condition::Running(_))
     }
@@ -169,7 +234,8 @@ impl Controller {
     pub fn new_order(&mut self, order: u32) -> Answer {
         self.order = order;
         if !self.is_stopped() {
-            self.condition = Condition::Running(Participant::new(self.group, self.id));
+            let participant = Participant::new(self.group, self.has_ballots, self.id);
+            self.condition = Condition::Running(participant);
         }
         Answer::taken()
     }
@@ -191,6 +257,25 @@ impl Controller {
         self.while_running(|participant| {
             participant.receive(message.kind, message.from, message.votes)
         })
+    }
+
+    /// Document 02, U14: "lets the owner, running and having put a word, open each of its ballots once an order". Any other
+    /// opening is passed over.
+    pub fn open_ballot(&mut self, ballot: u8) -> Answer {
+        self.while_running(|participant| participant.open_ballot(ballot))
+    }
+
+    /// A message of a ballot; one that reading would have refused is passed over.
+    pub fn receive_ballot(&mut self, message: &BallotMessage) -> Answer {
+        let is_meant = message.order == self.order
+            && message.group == self.group
+            && message.to == self.id
+            && message.from != self.id
+            && self.group.has(message.from);
+        if !is_meant || !message.suits_kind() {
+            return Answer::passed_over();
+        }
+        self.while_running(|participant| participant.receive_ballot(message))
     }
 
     /// "Arbiter's word: becomes the outcome if there is none."

@@ -1,10 +1,13 @@
 //! Frames of 40 bytes: one record to read or to write, with the length of the slice or buffer.
 
+use crate::ballot::BallotKind;
 use crate::group::Group;
 use crate::members::Members;
+use crate::records::ballot_message::BallotMessage;
 use crate::records::checkpoint::{outcome_from_number, outcome_number, Checkpoint};
 use crate::records::event::{Event, Fields};
 use crate::records::message::{Message, MessageKind};
+use crate::records::telegram::Telegram;
 use crate::records::{read_u32, write_u32};
 use crate::vote_set::VoteSet;
 use std::fmt::Write;
@@ -34,12 +37,12 @@ pub fn line(frame: &[u8]) -> Result<String, &'static str> {
     let slice = &frame[2..2 + length];
     let fields = &frame[2..];
     Ok(match frame[0] {
-        READ_MESSAGE => read_line(Message::read(slice).map(message_text)),
+        READ_MESSAGE => read_line(Telegram::read(slice).map(telegram_text)),
         READ_CHECKPOINT => read_line(Checkpoint::read(slice).map(checkpoint_text)),
         READ_EVENT => read_line(Event::read(slice).map(event_text)),
         WRITE_MESSAGE => {
-            let message = message_fields(fields).ok_or("unlisted kind")?;
-            write_line(length, |buffer| message.write(buffer))
+            let telegram = telegram_fields(fields).ok_or("unlisted telegram")?;
+            write_line(length, |buffer| telegram.write(buffer))
         }
         WRITE_CHECKPOINT => {
             let checkpoint = checkpoint_fields(fields).ok_or("unlisted outcome")?;
@@ -62,7 +65,14 @@ pub fn reading(what: u8, slice: &[u8]) -> [u8; LENGTH] {
     frame
 }
 
-pub fn writing_message(length: u8, message: &Message) -> [u8; LENGTH] {
+pub fn writing_telegram(length: u8, telegram: &Telegram) -> [u8; LENGTH] {
+    match telegram {
+        Telegram::Votes(message) => writing_message(length, message),
+        Telegram::Ballot(message) => writing_ballot_message(length, message),
+    }
+}
+
+fn writing_message(length: u8, message: &Message) -> [u8; LENGTH] {
     let Message {
         kind,
         group,
@@ -72,18 +82,30 @@ pub fn writing_message(length: u8, message: &Message) -> [u8; LENGTH] {
         votes,
     } = *message;
     let mut frame = [0; LENGTH];
-    frame[..7].copy_from_slice(&[
-        WRITE_MESSAGE,
-        length,
-        kind.number(),
-        group.n,
-        group.f,
-        from,
-        to,
-    ]);
+    frame[..2].copy_from_slice(&[WRITE_MESSAGE, length]);
+    frame[2..7].copy_from_slice(&[kind.number(), group.n, group.f, from, to]);
     write_u32(&mut frame, 7, order);
     write_u32(&mut frame, 11, votes.known.0);
     write_u32(&mut frame, 15, votes.willing.0);
+    frame
+}
+
+fn writing_ballot_message(length: u8, message: &BallotMessage) -> [u8; LENGTH] {
+    let BallotMessage {
+        kind,
+        group,
+        from,
+        to,
+        order,
+        ballot,
+        last,
+        word,
+    } = *message;
+    let mut frame = [0; LENGTH];
+    frame[..2].copy_from_slice(&[WRITE_MESSAGE, length]);
+    frame[2..7].copy_from_slice(&[kind.number(), group.n, group.f, from, to]);
+    write_u32(&mut frame, 7, order);
+    frame[19..22].copy_from_slice(&[ballot, last, outcome_number(word)]);
     frame
 }
 
@@ -117,21 +139,40 @@ pub fn writing_event(length: u8, event: &Event) -> [u8; LENGTH] {
     frame
 }
 
-pub(crate) fn message_fields(fields: &[u8]) -> Option<Message> {
-    Some(Message {
-        kind: MessageKind::from_number(fields[0])?,
-        group: Group {
-            n: fields[1],
-            f: fields[2],
-        },
-        from: fields[3],
-        to: fields[4],
-        order: read_u32(fields, 5),
-        votes: VoteSet {
-            known: Members(read_u32(fields, 9)),
-            willing: Members(read_u32(fields, 13)),
-        },
-    })
+/// The telegram that a frame names; none where there is no such value: an unlisted kind or word, a sheet with a ballot, or a
+/// ballot without one of its kinds.
+pub(crate) fn telegram_fields(fields: &[u8]) -> Option<Telegram> {
+    let group = Group {
+        n: fields[1],
+        f: fields[2],
+    };
+    let (from, to, order) = (fields[3], fields[4], read_u32(fields, 5));
+    let votes = VoteSet {
+        known: Members(read_u32(fields, 9)),
+        willing: Members(read_u32(fields, 13)),
+    };
+    let [ballot, last, word] = [fields[17], fields[18], fields[19]];
+    match (MessageKind::from_number(fields[0]), BallotKind::from_number(fields[0])) {
+        (Some(kind), _) if [ballot, last, word] == [0; 3] => Some(Telegram::Votes(Message {
+            kind,
+            group,
+            from,
+            to,
+            order,
+            votes,
+        })),
+        (_, Some(kind)) if votes == VoteSet::EMPTY => Some(Telegram::Ballot(BallotMessage {
+            kind,
+            group,
+            from,
+            to,
+            order,
+            ballot,
+            last,
+            word: outcome_from_number(word)?,
+        })),
+        _ => None,
+    }
 }
 
 fn checkpoint_fields(fields: &[u8]) -> Option<Checkpoint> {
@@ -173,6 +214,13 @@ fn write_line(length: usize, write: impl FnOnce(&mut [u8]) -> u8) -> String {
     text
 }
 
+fn telegram_text(telegram: Telegram) -> String {
+    match telegram {
+        Telegram::Votes(message) => message_text(message),
+        Telegram::Ballot(message) => ballot_message_text(message),
+    }
+}
+
 fn message_text(message: Message) -> String {
     let Message {
         kind,
@@ -185,6 +233,22 @@ fn message_text(message: Message) -> String {
     let (kind, n, f) = (kind.number(), group.n, group.f);
     let (known, willing) = (votes.known.0, votes.willing.0);
     format!("{kind} {n} {f} {from} {to} {order} {known} {willing}")
+}
+
+fn ballot_message_text(message: BallotMessage) -> String {
+    let BallotMessage {
+        kind,
+        group,
+        from,
+        to,
+        order,
+        ballot,
+        last,
+        word,
+    } = message;
+    let (kind, n, f) = (kind.number(), group.n, group.f);
+    let word = outcome_number(word);
+    format!("{kind} {n} {f} {from} {to} {order} 0 0 {ballot} {last} {word}")
 }
 
 fn checkpoint_text(checkpoint: Checkpoint) -> String {

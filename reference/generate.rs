@@ -1,6 +1,8 @@
 //! Seeded input for the programs: record frames, controller commands and bench schedules.
 
 pub mod acts;
+pub mod ballot_frames;
+pub mod ballots;
 pub mod choices;
 pub mod clean_orders;
 pub mod commands;

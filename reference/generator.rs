@@ -64,7 +64,8 @@ impl Wanted {
         } = self;
         group_in_range(group)?;
         ask(23, start != 0 && count <= MAX_DRAWN)?;
-        let mut events = vec![Event::Lock { group }, Event::Order { number: 1 }];
+        let ballots = false;
+        let mut events = vec![Event::Lock { group, ballots }, Event::Order { number: 1 }];
         events.extend(group.ids().map(|id| Event::Vote {
             id,
             willing: true,

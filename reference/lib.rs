@@ -1,5 +1,9 @@
 //! Reference implementation of the order engine of document 01.
 
+pub mod ballot;
+pub mod ballot_tally;
+pub mod ballot_commands;
+pub mod ballot_records;
 pub mod bench;
 pub mod clean;
 pub mod command;
@@ -20,6 +24,8 @@ pub mod process;
 pub mod questions;
 pub mod records;
 pub mod rng;
+pub mod rows;
+pub mod search;
 pub mod survey;
 pub mod tally;
 pub mod telegrams;

@@ -1,5 +1,6 @@
 //! Programs under test.
 
+use crate::text::bench_report;
 use std::io::{self, Write};
 use std::process::{Command, Stdio};
 use std::thread;
@@ -27,4 +28,27 @@ pub fn output_of(command: &[String], input: &[u8]) -> io::Result<Vec<u8>> {
         )));
     }
     Ok(output.stdout)
+}
+
+/// Runs a schedule on the reference and on the bench program that the command runs; an error names the first line that
+/// differs.
+pub fn compare_bench(schedule: &[u8], command: &[String]) -> io::Result<()> {
+    let expected = bench_report(schedule);
+    let printed = output_of(command, schedule)?;
+    if printed == expected.as_bytes() {
+        return Ok(());
+    }
+    let printed = String::from_utf8_lossy(&printed);
+    let lines = expected.split('\n').zip(printed.split('\n'));
+    let same = lines.take_while(|(a, b)| a == b).count();
+    let line = |text: &str| match text.split('\n').nth(same) {
+        Some(line) => format!("{line:?}"),
+        None => "nothing".to_string(),
+    };
+    Err(io::Error::other(format!(
+        "line {}: expected {}, printed {}",
+        same + 1,
+        line(&expected),
+        line(&printed)
+    )))
 }

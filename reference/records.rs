@@ -1,9 +1,13 @@
 //! Document 01, "Records": "Each record has a two-byte mark of its own kind". Reading asks the questions in
 //! sequence; writing asks the same but the mark's, and question 1 of the buffer's length.
 
+pub mod ballot_message;
 pub mod checkpoint;
+pub(crate) mod envelope;
 pub mod event;
+pub mod form;
 pub mod message;
+pub mod telegram;
 
 /// "Numbers of several bytes are big-endian."
 pub(crate) fn read_u16(bytes: &[u8], at: usize) -> u16 {

@@ -67,7 +67,7 @@ impl Tally {
             }
         }
         match *event {
-            Event::Lock { group } => self.locks[usize::from(group.n > 16)] += 1,
+            Event::Lock { group, .. } => self.locks[usize::from(group.n > 16)] += 1,
             Event::Decision { verdict, .. } => match verdict {
                 Verdict::Stay => self.stay_given += 1,
                 Verdict::Move => self.move_given += 1,

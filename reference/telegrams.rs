@@ -1,9 +1,13 @@
-//! What a set of frames meets of telegrams in their two forms (document 02, U12).
+//! What a set of frames meets of telegrams of kinds 1 to 4 in their two forms (document 02, U12).
 
 use crate::frame::{self, READ_MESSAGE, WRITE_MESSAGE};
-use crate::records::message::{Form, Message};
+use crate::records::form::Form;
+use crate::records::telegram::Telegram;
 
-const READ_REFUSALS: [usize; 8] = [1, 2, 3, 4, 7, 8, 9, 10];
+/// The forms of kinds 1 to 4.
+const FORMS: [Form; 2] = [Form::Short, Form::Long];
+
+const READ_REFUSALS: [usize; 6] = [3, 4, 7, 8, 9, 10];
 const WRITE_REFUSALS: [usize; 6] = [1, 4, 7, 8, 9, 10];
 
 #[derive(Clone, Debug, Default)]
@@ -11,9 +15,12 @@ pub struct Telegrams {
     frames: u64,
     read: [u64; 2],
     written: [u64; 2],
-    not_read: [u64; 11],
-    not_written: [u64; 11],
-    /// "a mark of the other length gets 2", by the form of the length.
+    /// By question, by the form that length and mark tell; 1 and 2 come before that.
+    no_form: [u64; 3],
+    not_read: [[u64; 11]; 2],
+    not_written: [[u64; 11]; 2],
+    /// "a mark of the other length gets 2", by the form of the length; but U14 has a form of 20 bytes with the mark of 16,
+    /// which kinds 1 to 4 do not suit: 3.
     other_mark: [u64; 2],
     /// "The long form with n below 17, and the short form with n above 16, get 4", by form; n and f are in range.
     other_form: [u64; 2],
@@ -28,8 +35,8 @@ impl Telegrams {
         match frame[0] {
             READ_MESSAGE => self.add_read(&frame[2..2 + length]),
             WRITE_MESSAGE => {
-                if let Some(message) = frame::message_fields(&frame[2..]) {
-                    self.add_written(&message, length);
+                if let Some(telegram) = frame::telegram_fields(&frame[2..]) {
+                    self.add_written(&telegram, length);
                 }
             }
             _ => {}
@@ -42,16 +49,23 @@ impl Telegrams {
 
     fn add_read(&mut self, bytes: &[u8]) {
         self.frames += 1;
-        let number = match Message::read(bytes) {
-            Ok(message) => return self.read[message.form() as usize] += 1,
+        let number = match Telegram::read(bytes) {
+            Ok(telegram) => return self.read[telegram.form() as usize] += 1,
             Err(number) => number,
         };
-        self.not_read[usize::from(number)] += 1;
-        for (form, other) in [(Form::Short, Form::Long), (Form::Long, Form::Short)] {
+        match Form::of_bytes(bytes) {
+            Err(_) => self.no_form[usize::from(number)] += 1,
+            Ok(form @ (Form::Short | Form::Long)) => {
+                self.not_read[form as usize][usize::from(number)] += 1;
+            }
+            Ok(_) => {}
+        }
+        for (form, refusal) in [(Form::Short, 2), (Form::Long, 3)] {
             if bytes.len() != form.length() {
                 continue;
             }
-            if number == 2 && bytes[..2] == other.mark() {
+            let other = form.of_other_width();
+            if number == refusal && bytes[..2] == other.mark() {
                 self.other_mark[form as usize] += 1;
             }
             let n = bytes[3];
@@ -61,14 +75,14 @@ impl Telegrams {
         }
     }
 
-    fn add_written(&mut self, message: &Message, length: usize) {
+    fn add_written(&mut self, telegram: &Telegram, length: usize) {
         self.frames += 1;
-        let form = message.form();
-        match message.write(&mut vec![0; length]) {
+        let form = telegram.form();
+        match telegram.write(&mut vec![0; length]) {
             0 => self.written[form as usize] += 1,
-            number => self.not_written[usize::from(number)] += 1,
+            number => self.not_written[form as usize][usize::from(number)] += 1,
         }
-        let lengths = Form::ALL.map(Form::length);
+        let lengths = FORMS.map(Form::length);
         if length != form.length() && lengths.contains(&length) {
             self.other_buffer[form as usize] += 1;
         }
@@ -79,22 +93,26 @@ impl Telegrams {
         let by_form = [
             ("read in the FORM form", self.read),
             ("written in the FORM form", self.written),
-            ("of the FORM form's length with the other's mark, 2", self.other_mark),
             ("in the FORM form where n wants the other, 4", self.other_form),
             ("to be written in the FORM form into a buffer for the other, 1", self.other_buffer),
         ];
         let mut rows = Vec::new();
         for (name, counts) in by_form {
-            for form in Form::ALL {
-                let word = match form {
-                    Form::Short => "short",
-                    Form::Long => "long",
-                };
+            for (form, word) in FORMS.into_iter().zip(["short", "long"]) {
                 rows.push((name.replace("FORM", word), counts[form as usize]));
             }
         }
-        rows.extend(READ_REFUSALS.map(|q| (format!("refused by {q}, read"), self.not_read[q])));
-        rows.extend(WRITE_REFUSALS.map(|q| (format!("refused by {q}, written"), self.not_written[q])));
+        let [short, long] = self.other_mark;
+        rows.push(("of 16 bytes with mark 4C 4C, 2".to_string(), short));
+        rows.push(("of 20 bytes with mark 4C 4B, 3".to_string(), long));
+        rows.extend([1, 2].map(|q| (format!("refused by {q}, read"), self.no_form[q])));
+        for (form, word) in FORMS.into_iter().zip(["short", "long"]) {
+            let (read, written) = (self.not_read[form as usize], self.not_written[form as usize]);
+            rows.extend(READ_REFUSALS.map(|q| (format!("refused by {q}, read, {word}"), read[q])));
+            rows.extend(
+                WRITE_REFUSALS.map(|q| (format!("refused by {q}, written, {word}"), written[q])),
+            );
+        }
         rows
     }
 }

@@ -99,6 +99,28 @@ pub fn controller_line(
             let _ = write!(text, " {}>{to}", sending.kind.number());
         }
     }
+    if controller.has_ballots() {
+        text + &ballots_text(controller, answer)
+    } else {
+        text
+    }
+}
+
+/// Highest promise, ballot last taken and its word, then what the call sent of ballots, one by one as it goes out.
+fn ballots_text(controller: &Controller, answer: &Answer) -> String {
+    let ballots = controller.ballots();
+    let promise = ballots.map_or(0, |ballots| ballots.highest_promise());
+    let taken = ballots.and_then(|ballots| ballots.last_taken());
+    let last = taken.map_or(0, |taking| taking.ballot);
+    let word = outcome_number(taken.map(|taking| taking.word));
+    let mut text = format!(" B {promise} {last} {word}");
+    for sending in &answer.ballots_sent {
+        let (kind, ballot, last) = (sending.kind.number(), sending.ballot, sending.last);
+        let word = outcome_number(sending.word);
+        for to in sending.receivers.iter() {
+            let _ = write!(text, " {kind}:{ballot}:{last}:{word}>{to}");
+        }
+    }
     text
 }
 

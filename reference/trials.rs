@@ -1,5 +1,11 @@
 //! Document 01's trials, the readings of its open places and the claims it makes, tried on the reference.
 
+#[path = "trials/ballot_controller.rs"]
+mod ballot_controller;
+#[path = "trials/ballot_records.rs"]
+mod ballot_records;
+#[path = "trials/ballots.rs"]
+mod ballots;
 #[path = "trials/claims.rs"]
 mod claims;
 #[path = "trials/controller.rs"]
@@ -18,6 +24,8 @@ mod open_gates;
 mod readings;
 #[path = "trials/records.rs"]
 mod records;
+#[path = "trials/search.rs"]
+mod search;
 #[path = "trials/strays.rs"]
 mod strays;
 #[path = "trials/support.rs"]

@@ -1,7 +1,10 @@
 //! One lock: its controllers, and what line, consensus and checkpoint store keep for them.
 
+use crate::ballot::{is_majority, BallotKind, Taking};
 use crate::controller::{Answer, Controller};
 use crate::group::Group;
+use crate::members::Members;
+use crate::records::ballot_message::BallotMessage;
 use crate::records::checkpoint::Checkpoint;
 use crate::records::message::{Message, MessageKind};
 use crate::vote_set::Verdict;
@@ -9,6 +12,8 @@ use crate::vote_set::Verdict;
 #[derive(Clone, PartialEq, Eq, Debug)]
 pub struct Lock {
     group: Group,
+    /// Whether the controllers settle the word among themselves (document 02, U14).
+    has_ballots: bool,
     controllers: Vec<Controller>,
     /// The newest of each controller.
     checkpoints: Vec<Option<Checkpoint>>,
@@ -20,26 +25,37 @@ pub struct Lock {
     proposals: Vec<Verdict>,
     /// "the arbiter's choice": the word given in this order.
     decision: Option<Verdict>,
+    /// The messages of ballots sent in this order. A controller sends each kind for a ballot to another at most once.
+    ballots_sent: Vec<BallotMessage>,
+    /// "the bench notes each taking, and a stop keeps the note": who took which ballot in this order.
+    takings: Vec<(u8, Taking)>,
 }
 
 impl Lock {
-    pub fn new(group: Group) -> Lock {
+    pub fn new(group: Group, has_ballots: bool) -> Lock {
         Lock {
             group,
+            has_ballots,
             controllers: group
                 .ids()
-                .map(|id| Controller::new(group, id, 0))
+                .map(|id| Controller::of_lock(group, has_ballots, id, 0))
                 .collect(),
             checkpoints: vec![None; usize::from(group.n)],
             order: 0,
             sent: Vec::new(),
             proposals: Vec::new(),
             decision: None,
+            ballots_sent: Vec::new(),
+            takings: Vec::new(),
         }
     }
 
     pub fn group(&self) -> Group {
         self.group
+    }
+
+    pub fn has_ballots(&self) -> bool {
+        self.has_ballots
     }
 
     pub fn controllers(&self) -> &[Controller] {
@@ -82,6 +98,41 @@ impl Lock {
         self.sent.iter().find(route).copied()
     }
 
+    /// The messages of ballots sent in this order.
+    pub fn ballots_sent(&self) -> &[BallotMessage] {
+        &self.ballots_sent
+    }
+
+    pub fn ballot_message(
+        &self,
+        kind: BallotKind,
+        from: u8,
+        to: u8,
+        ballot: u8,
+    ) -> Option<BallotMessage> {
+        let is_meant = |m: &&BallotMessage| {
+            m.kind == kind && m.from == from && m.to == to && m.ballot == ballot
+        };
+        self.ballots_sent.iter().find(is_meant).copied()
+    }
+
+    /// Who took which ballot in this order.
+    pub fn takings(&self) -> &[(u8, Taking)] {
+        &self.takings
+    }
+
+    /// Who took that word in that ballot.
+    pub fn takers(&self, taking: Taking) -> Members {
+        let takers = self.takings.iter().filter(|(_, taken)| *taken == taking);
+        takers.fold(Members::NONE, |set, (id, _)| set.union(Members::only(*id)))
+    }
+
+    /// "whether more than n/2 have taken the word in one ballot"
+    pub fn is_chosen(&self, word: Verdict) -> bool {
+        let mut of_word = self.takings.iter().filter(|(_, taking)| taking.word == word);
+        of_word.any(|(_, taking)| is_majority(self.group, self.takers(*taking).count()))
+    }
+
     /// The words put in this order.
     pub fn proposals(&self) -> &[Verdict] {
         &self.proposals
@@ -106,6 +157,9 @@ impl Lock {
         self.sent.clear();
         self.proposals.clear();
         self.decision = None;
+        // "A new order forgets ballots, promises and takings."
+        self.ballots_sent.clear();
+        self.takings.clear();
         for controller in &mut self.controllers {
             controller.new_order(number);
         }
@@ -126,6 +180,21 @@ impl Lock {
             }
         }
         self.proposals.extend(answer.proposal);
+        for sending in answer.ballots_sent {
+            for to in sending.receivers.iter() {
+                self.ballots_sent.push(BallotMessage {
+                    kind: sending.kind,
+                    group: self.group,
+                    from,
+                    to,
+                    order: self.order,
+                    ballot: sending.ballot,
+                    last: sending.last,
+                    word: sending.word,
+                });
+            }
+        }
+        self.takings.extend(answer.taking.map(|taking| (from, taking)));
     }
 }
 

@@ -1,8 +1,11 @@
-//! A running controller within one order: document 01, "A controller's rules", with document 02, U4 and U7.
+//! A running controller within one order: document 01, "A controller's rules", with document 02, U4 and U7. Its part in
+//! ballots is in `ballots.rs`.
 
+use super::ballots::Ballots;
 use super::Answer;
 use crate::group::{Group, MAX_CONTROLLERS};
 use crate::members::Members;
+use crate::records::ballot_message::BallotMessage;
 use crate::records::message::MessageKind;
 use crate::vote_set::{Verdict, VoteSet};
 
@@ -28,10 +31,14 @@ pub struct Participant {
     /// The callers to be answered at the second timeout, and those that got their help answer.
     kept: Members,
     answered: Members,
+    /// The word put in this order.
+    proposed: Option<Verdict>,
+    /// At a lock with ballots.
+    ballots: Option<Ballots>,
 }
 
 impl Participant {
-    pub fn new(group: Group, id: u8) -> Participant {
+    pub fn new(group: Group, has_ballots: bool, id: u8) -> Participant {
         Participant {
             group,
             id,
@@ -46,6 +53,8 @@ impl Participant {
             helped_votes: VoteSet::EMPTY,
             kept: Members::NONE,
             answered: Members::NONE,
+            proposed: None,
+            ballots: has_ballots.then(|| Ballots::new(group, id)),
         }
     }
 
@@ -68,6 +77,14 @@ impl Participant {
     /// The callers whose help calls are kept.
     pub fn kept(&self) -> Members {
         self.kept
+    }
+
+    pub fn proposed(&self) -> Option<Verdict> {
+        self.proposed
+    }
+
+    pub fn ballots(&self) -> Option<&Ballots> {
+        self.ballots.as_ref()
     }
 
     /// "Vote (stage 0): takes willing or not, and a target position."
@@ -131,7 +148,8 @@ impl Participant {
             Answer::taken()
         } else if self.cnt() >= 1 {
             // "Otherwise, if at least one is held, it puts the word of their join to the arbiter."
-            Answer::taken().proposing(Some(verdict))
+            self.proposed = Some(verdict);
+            Answer::taken().proposing(self.proposed)
         } else {
             // "Otherwise it waits, sends help calls to all others of f + 1 to n, and counts its own help sheet as an
             // answer."
@@ -249,7 +267,8 @@ impl Participant {
         } else {
             self.helped_votes
         };
-        Some(joined.verdict(self.group.everyone()))
+        self.proposed = Some(joined.verdict(self.group.everyone()));
+        self.proposed
     }
 
     /// "Acknowledgements and help answers are counted apart, one per sender."
@@ -277,6 +296,22 @@ impl Participant {
     fn count_help_answer(&mut self, from: u8, votes: VoteSet) {
         self.helped_by = self.helped_by.union(Members::only(from));
         self.helped_votes = joined(self.helped_votes, votes);
+    }
+
+    /// Document 02, U14: by one "having put a word", at a lock with ballots.
+    pub fn open_ballot(&mut self, ballot: u8) -> Answer {
+        match (&mut self.ballots, self.proposed) {
+            (Some(ballots), Some(own_word)) => ballots.open(ballot, own_word),
+            _ => Answer::passed_over(),
+        }
+    }
+
+    /// A message of a ballot that may come from its sender to this controller.
+    pub fn receive_ballot(&mut self, message: &BallotMessage) -> Answer {
+        match &mut self.ballots {
+            Some(ballots) => ballots.receive(message),
+            None => Answer::passed_over(),
+        }
     }
 
     fn send(&self, kind: MessageKind, votes: VoteSet) -> Answer {

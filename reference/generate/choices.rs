@@ -70,6 +70,17 @@ pub fn kind(rng: &mut Rng) -> MessageKind {
     rng.pick(&MessageKind::ALL)
 }
 
+/// A number for a ballot: one of the controller's, one of another's, or one outside the range.
+pub fn ballot_number(rng: &mut Rng, group: Group, id: u8) -> u32 {
+    let outside = rng.pick(&[0, 256, 257, 65_536 + u32::from(id), 1 << 31, u32::MAX]);
+    let turns = rng.below(3) as u32;
+    match rng.below(6) {
+        0 => outside,
+        1 => rng.between(1, 255) as u32,
+        _ => u32::from(id) + turns * u32::from(group.n),
+    }
+}
+
 pub fn verdict(rng: &mut Rng) -> Verdict {
     rng.pick(&[Verdict::Stay, Verdict::Move])
 }

@@ -22,7 +22,8 @@ pub fn clean_order(rng: &mut Rng, group: Group, unwilling: Option<u8>) -> Vec<Ev
         deliveries(group, MessageKind::Ack),
         group.ids().map(timeout).collect(),
     ];
-    let mut events = vec![Event::Lock { group }, Event::Order { number: 1 }];
+    let ballots = false;
+    let mut events = vec![Event::Lock { group, ballots }, Event::Order { number: 1 }];
     for mut part in parts {
         rng.shuffle(&mut part);
         for event in part {

@@ -1,5 +1,6 @@
 //! Sequences of commands to one controller, led by its state so that they reach deep into an order.
 
+mod ballots;
 mod messages;
 
 use super::choices;
@@ -9,6 +10,7 @@ use crate::group::{Group, MAX_CONTROLLERS};
 use crate::members::Members;
 use crate::records::message::{Message, MessageKind};
 use crate::rng::Rng;
+use ballots::BallotPlan;
 
 /// What the second timeout should lead to.
 #[derive(Clone, Copy, PartialEq, Eq)]
@@ -36,6 +38,8 @@ struct Script<'a> {
     /// The senders heard in this order, by kind of message.
     heard: [Members; 4],
     last_message: Option<Message>,
+    /// In sequences with ballots.
+    ballots: Option<BallotPlan>,
 }
 
 /// A `Fresh` and 8 to 40 commands.
@@ -56,10 +60,47 @@ pub fn sequence(rng: &mut Rng) -> Vec<Command> {
     let mut script = Script {
         rng,
         controller: Controller::new(group, id, order),
-        commands: vec![Command::Fresh { group, id, order }],
+        commands: vec![Command::Fresh {
+            group,
+            has_ballots: false,
+            id,
+            order,
+        }],
         plan,
         heard: [Members::NONE; 4],
         last_message: None,
+        ballots: None,
+    };
+    while script.commands.len() <= length {
+        script.add();
+    }
+    script.commands
+}
+
+/// A `Fresh` and 20 to 60 commands with ballots (document 02, U14), mostly at a lock that has them.
+pub fn sequence_with_ballots(rng: &mut Rng) -> Vec<Command> {
+    let most = rng.pick(&[2, 3, 3, 4, 5, 7, MAX_CONTROLLERS]);
+    let group = choices::group(rng, most);
+    let id = choices::id(rng, group);
+    let order = choices::order(rng);
+    let has_ballots = rng.chance(15, 16);
+    let mut plan = plan(rng, group);
+    plan.contrary = 0;
+    plan.stray = rng.pick(&[0, 2, 10]);
+    let length = rng.between(20, 60);
+    let mut script = Script {
+        rng,
+        controller: Controller::of_lock(group, has_ballots, id, order),
+        commands: vec![Command::Fresh {
+            group,
+            has_ballots,
+            id,
+            order,
+        }],
+        plan,
+        heard: [Members::NONE; 4],
+        last_message: None,
+        ballots: Some(BallotPlan::default()),
     };
     while script.commands.len() <= length {
         script.add();
@@ -102,14 +143,16 @@ impl Script<'_> {
     }
 
     fn add(&mut self) {
-        let command = if self.rng.chance(self.plan.stray, 100) {
-            self.stray()
-        } else {
-            self.fitting()
+        let ballot_command = self.ballot_command();
+        let command = match ballot_command {
+            Some(command) => command,
+            None if self.rng.chance(self.plan.stray, 100) => self.stray(),
+            None => self.fitting(),
         };
         let acks_before = self.controller.acks_held();
         let (answer, _) = command.call(&mut self.controller);
         self.commands.push(command);
+        self.note_ballots(&command, &answer);
         match command {
             // What was dropped may come again, and now and then what was refused by 24.
             Command::Vote { .. } => {

@@ -6,10 +6,11 @@ use crate::group::{Group, MAX_CONTROLLERS};
 use crate::records::checkpoint::{outcome_number, Checkpoint};
 use crate::records::event::{Event, Fields};
 use crate::records::message::{Form, Message};
+use crate::records::telegram::Telegram;
 use crate::records::write_u32;
 use crate::rng::Rng;
 
-type Frame = [u8; frame::LENGTH];
+pub(super) type Frame = [u8; frame::LENGTH];
 
 /// A telegram, to be read or to be written.
 pub fn telegram(rng: &mut Rng) -> Frame {
@@ -31,7 +32,7 @@ pub fn frame(rng: &mut Rng) -> Frame {
 }
 
 /// None, one or two of the questions, to be answered with no.
-fn broken_questions(rng: &mut Rng, questions: &[u8]) -> Vec<u8> {
+pub(super) fn broken_questions(rng: &mut Rng, questions: &[u8]) -> Vec<u8> {
     let count = rng.pick(&[0, 1, 1, 2]);
     (0..count).map(|_| rng.pick(questions)).collect()
 }
@@ -41,7 +42,7 @@ fn read_message(rng: &mut Rng) -> Frame {
     let message = message(rng, &broken, true);
     let mut form = message.form();
     if broken.contains(&4) && message.group.in_range() {
-        form = other(form);
+        form = form.of_other_width();
     }
     let mut bytes = message_bytes(&message, form);
     if broken.contains(&3) {
@@ -86,7 +87,7 @@ fn write_message(rng: &mut Rng) -> Frame {
     let broken = broken_questions(rng, &[1, 4, 7, 8, 9, 9, 10, 10]);
     let message = message(rng, &broken, false);
     let length = length(rng, message.form().length(), &broken);
-    frame::writing_message(length as u8, &message)
+    frame::writing_telegram(length as u8, &Telegram::Votes(message))
 }
 
 fn write_checkpoint(rng: &mut Rng) -> Frame {
@@ -105,9 +106,10 @@ fn write_event(rng: &mut Rng) -> Frame {
 /// Two broken fours may meet in a message that is to be read, whose form can be the wrong one for its n.
 fn message(rng: &mut Rng, broken: &[u8], read: bool) -> Message {
     let group = choices::group(rng, MAX_CONTROLLERS);
-    let width = match Form::of(group.n) {
-        Form::Short if read => 16,
-        _ => 32,
+    let width = if read && !Form::of(group.n, false).is_long() {
+        16
+    } else {
+        32
     };
     let kind = choices::kind(rng);
     let (from, to) = choices::route(rng, group, kind, !broken.contains(&10));
@@ -137,13 +139,6 @@ fn message(rng: &mut Rng, broken: &[u8], read: bool) -> Message {
     message
 }
 
-fn other(form: Form) -> Form {
-    match form {
-        Form::Short => Form::Long,
-        Form::Long => Form::Short,
-    }
-}
-
 fn checkpoint(rng: &mut Rng, broken: &[u8]) -> Checkpoint {
     let group = choices::group(rng, MAX_CONTROLLERS);
     let mut checkpoint = Checkpoint {
@@ -165,7 +160,7 @@ fn checkpoint(rng: &mut Rng, broken: &[u8]) -> Checkpoint {
     checkpoint
 }
 
-fn order(rng: &mut Rng, broken: &[u8]) -> u32 {
+pub(super) fn order(rng: &mut Rng, broken: &[u8]) -> u32 {
     if broken.contains(&8) {
         0
     } else {
@@ -180,6 +175,7 @@ fn event(rng: &mut Rng) -> Event {
     match rng.below(9) {
         0 => Event::Lock {
             group: Group { n: id, f: other },
+            ballots: false,
         },
         1 => Event::Order {
             number: rng.pick(&[0, 1, 0x8000_0000, u32::MAX]),
@@ -222,7 +218,7 @@ fn unlisted_event(rng: &mut Rng) -> Fields {
     }
 }
 
-fn reading(rng: &mut Rng, what: u8, bytes: &[u8], broken: &[u8]) -> Frame {
+pub(super) fn reading(rng: &mut Rng, what: u8, bytes: &[u8], broken: &[u8]) -> Frame {
     let mut slice = bytes.to_vec();
     let length = length(rng, bytes.len(), broken);
     let filler = rng.pick(&[0, 0x4C, 255]);
@@ -231,7 +227,7 @@ fn reading(rng: &mut Rng, what: u8, bytes: &[u8], broken: &[u8]) -> Frame {
 }
 
 /// The record's length, or another of 0 to 32.
-fn length(rng: &mut Rng, right: usize, broken: &[u8]) -> usize {
+pub(super) fn length(rng: &mut Rng, right: usize, broken: &[u8]) -> usize {
     if !broken.contains(&1) {
         return right;
     }
@@ -248,7 +244,7 @@ fn length(rng: &mut Rng, right: usize, broken: &[u8]) -> usize {
 }
 
 /// One byte changed, both exchanged, or another record's mark.
-fn spoil_mark(rng: &mut Rng, bytes: &mut [u8]) {
+pub(super) fn spoil_mark(rng: &mut Rng, bytes: &mut [u8]) {
     let right = [bytes[0], bytes[1]];
     while bytes[..2] == right {
         let other = rng.byte();
@@ -275,12 +271,11 @@ fn message_bytes(message: &Message, form: Form) -> Vec<u8> {
     bytes[6] = message.to;
     write_u32(&mut bytes, 8, message.order);
     let (known, willing) = (message.votes.known.0, message.votes.willing.0);
-    match form {
-        Form::Short => write_u32(&mut bytes, 12, known << 16 | willing & 0xFFFF),
-        Form::Long => {
-            write_u32(&mut bytes, 12, known);
-            write_u32(&mut bytes, 16, willing);
-        }
+    if form.is_long() {
+        write_u32(&mut bytes, 12, known);
+        write_u32(&mut bytes, 16, willing);
+    } else {
+        write_u32(&mut bytes, 12, known << 16 | willing & 0xFFFF);
     }
     bytes
 }

@@ -14,7 +14,10 @@ pub fn schedule(rng: &mut Rng) -> Vec<u8> {
     let mut player = Player::new(rng.fork(), MAX_SCHEDULE / Event::LENGTH);
     let most = player.rng.pick(&[3, 5, MAX_CONTROLLERS]);
     let group = choices::group(&mut player.rng, most);
-    player.play(Event::Lock { group });
+    player.play(Event::Lock {
+        group,
+        ballots: false,
+    });
     player.play(Event::Order { number: 1 });
     let stops = match player.rng.below(3) {
         0 => player.rng.between(0, group.f.into()),

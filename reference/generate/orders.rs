@@ -1,7 +1,7 @@
 //! Ways in which an order may go on the bench.
 
-mod courses;
-mod deliveries;
+pub(super) mod courses;
+pub(super) mod deliveries;
 
 use super::choices;
 use super::player::Player;
@@ -28,7 +28,7 @@ pub fn play_order(player: &mut Player) {
     }
 }
 
-fn open(player: &mut Player) {
+pub(super) fn open(player: &mut Player) {
     let last = player.lock().last_order();
     let step = match player.rng.below(60) {
         // The highest number leaves no order to follow.
@@ -48,7 +48,7 @@ fn open(player: &mut Player) {
 }
 
 /// Brings every running controller to an outcome, or stops it.
-fn end(player: &mut Player) {
+pub(super) fn end(player: &mut Player) {
     for phase in 0..3 {
         for id in player.ids_where(|c| c.phase() == Some(phase)) {
             if phase == 0 {
@@ -76,7 +76,7 @@ fn end(player: &mut Player) {
 }
 
 /// Late messages, stops and restores once the outcomes are there.
-fn aftermath(player: &mut Player) {
+pub(super) fn aftermath(player: &mut Player) {
     let group = player.group();
     let events = player.rng.pick(&[0, 0, 2, 6]);
     for _ in 0..events {

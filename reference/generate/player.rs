@@ -1,10 +1,12 @@
 //! Builds a schedule while running it, so that most of its events are accepted.
 
 use super::choices;
+use crate::ballot::BallotKind;
 use crate::bench::lock::Lock;
 use crate::bench::Bench;
 use crate::controller::Controller;
 use crate::group::{Group, MAX_CONTROLLERS};
+use crate::records::ballot_message::BallotMessage;
 use crate::records::event::Event;
 use crate::records::message::{Message, MessageKind};
 use crate::rng::Rng;
@@ -20,6 +22,10 @@ pub struct Player {
     stray: usize,
     /// By the place among the messages sent in this order.
     delivered: Vec<bool>,
+    /// The same of the messages of ballots.
+    ballots_delivered: Vec<bool>,
+    /// Whether stray events are of ballots too.
+    with_ballots: bool,
 }
 
 impl Player {
@@ -32,7 +38,15 @@ impl Player {
             limit,
             stray,
             delivered: Vec::new(),
+            ballots_delivered: Vec::new(),
+            with_ballots: false,
         }
+    }
+
+    /// Among its stray events are some of ballots.
+    pub fn with_ballots(mut self) -> Player {
+        self.with_ballots = true;
+        self
     }
 
     pub fn into_bytes(self) -> Vec<u8> {
@@ -91,9 +105,12 @@ impl Player {
         let accepted = self.bench.step_record(&record) == 0;
         if accepted && matches!(Event::read(&record), Ok(Event::Order { .. })) {
             self.delivered.clear();
+            self.ballots_delivered.clear();
         }
         let sent = self.bench.lock().map_or(0, |lock| lock.sent().len());
         self.delivered.resize(sent, false);
+        let sent = self.bench.lock().map_or(0, |lock| lock.ballots_sent().len());
+        self.ballots_delivered.resize(sent, false);
     }
 
     /// Something that changes no order's course: a save, a refused event or a damaged record.
@@ -138,6 +155,9 @@ impl Player {
 
     /// Any event with fields in or near their ranges.
     fn any_event(&mut self) -> Event {
+        if self.with_ballots && self.rng.chance(1, 2) {
+            return self.any_ballot_event();
+        }
         let lock = self.bench.lock();
         let last = lock.map_or(0, Lock::last_order);
         let group = match lock {
@@ -148,9 +168,11 @@ impl Player {
         match self.rng.below(12) {
             0 if self.rng.chance(1, 2) => Event::Lock {
                 group: choices::bad_group(&mut self.rng),
+                ballots: false,
             },
             0 => Event::Lock {
                 group: choices::group(&mut self.rng, MAX_CONTROLLERS),
+                ballots: false,
             },
             1 => Event::Order {
                 number: self
@@ -183,6 +205,33 @@ impl Player {
             9 if self.rng.chance(1, 4) => Event::Stop { id },
             10 => Event::Save { id },
             _ => Event::Restore { id },
+        }
+    }
+
+    /// Any event of ballots, or a lock of either kind, with fields in or near their ranges.
+    fn any_ballot_event(&mut self) -> Event {
+        let group = match self.bench.lock() {
+            Some(lock) => lock.group(),
+            None => choices::group(&mut self.rng, MAX_CONTROLLERS),
+        };
+        let id = self.near_id(group);
+        let ballot = choices::ballot_number(&mut self.rng, group, id);
+        match self.rng.below(8) {
+            0 => Event::Lock {
+                group,
+                ballots: self.rng.chance(1, 2),
+            },
+            1..=3 => Event::OpenBallot { id, ballot },
+            4 => Event::Decision {
+                id,
+                verdict: choices::verdict(&mut self.rng),
+            },
+            _ => Event::DeliverBallot {
+                from: id,
+                to: self.near_id(group),
+                kind: self.rng.pick(&BallotKind::ALL),
+                ballot,
+            },
         }
     }
 
@@ -234,6 +283,47 @@ impl Player {
         self.play(Event::Deliver { from, to, kind });
     }
 
+    pub fn open_ballot(&mut self, id: u8, ballot: u8) {
+        let ballot = ballot.into();
+        self.play(Event::OpenBallot { id, ballot });
+    }
+
+    /// Delivers the message of a ballot with that place among those sent in this order.
+    pub fn deliver_ballot(&mut self, place: usize) {
+        self.ballots_delivered[place] = true;
+        let BallotMessage {
+            from,
+            to,
+            kind,
+            ballot,
+            ..
+        } = self.lock().ballots_sent()[place];
+        self.play(Event::DeliverBallot {
+            from,
+            to,
+            kind,
+            ballot: ballot.into(),
+        });
+    }
+
+    /// The places of the messages of ballots that fit, in random order.
+    pub fn ballot_places(&mut self, fits: impl Fn(&BallotMessage) -> bool) -> Vec<usize> {
+        let sent = self.lock().ballots_sent().iter().enumerate();
+        let fitting = sent.filter(|(_, message)| fits(message));
+        let mut places: Vec<usize> = fitting.map(|(place, _)| place).collect();
+        self.rng.shuffle(&mut places);
+        places
+    }
+
+    /// Those of a kind that were not delivered yet and whose receiver runs.
+    pub fn pending_ballots(&mut self, kind: BallotKind) -> Vec<usize> {
+        let running = self.ids_where(Controller::is_running);
+        let mut places =
+            self.ballot_places(|message| message.kind == kind && running.contains(&message.to));
+        places.retain(|&place| !self.ballots_delivered[place]);
+        places
+    }
+
     /// The places of the messages that fit, in random order.
     pub fn places(&mut self, fits: impl Fn(&Message) -> bool) -> Vec<usize> {
         let sent = self.lock().sent().iter().enumerate();
@@ -257,6 +347,9 @@ impl Player {
         let lock = self.lock();
         let given = lock.decision();
         let mut proposed = vec![Verdict::Stay, Verdict::Move];
+        if lock.has_ballots() {
+            return proposed.into_iter().find(|&verdict| lock.is_chosen(verdict));
+        }
         proposed.retain(|&verdict| lock.is_proposed(verdict));
         if given.is_some() || proposed.is_empty() {
             return given;

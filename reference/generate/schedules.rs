@@ -68,7 +68,10 @@ fn played(rng: &mut Rng, limit: usize, most: u8) -> Vec<u8> {
     let mut player = Player::new(rng.fork(), limit);
     play_strays(&mut player);
     let group = choices::group(&mut player.rng, most);
-    player.play(Event::Lock { group });
+    player.play(Event::Lock {
+        group,
+        ballots: false,
+    });
     play_strays(&mut player);
     while player.room() > 0 {
         play_order(&mut player);

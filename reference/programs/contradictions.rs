@@ -25,7 +25,10 @@ fn count() -> io::Result<()> {
     for (index, bytes) in commands.chunks(command::LENGTH).enumerate() {
         let error = |text: &str| io::Error::other(format!("command {index}: {text}"));
         let command = Command::read(bytes).ok_or_else(|| error("not of a listed form"))?;
-        if let Command::Fresh { group, id, order } = command {
+        if let Command::Fresh {
+            group, id, order, ..
+        } = command
+        {
             controller = Some(Controller::new(group, id, order));
         }
         let controller = controller

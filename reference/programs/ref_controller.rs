@@ -13,7 +13,10 @@ fn main() -> io::Result<()> {
     for (index, bytes) in commands.chunks(command::LENGTH).enumerate() {
         let error = |text| io::Error::other(format!("command {index}: {text}"));
         let command = Command::read(bytes).ok_or_else(|| error("not of a listed form"))?;
-        if let Command::Fresh { group, id, order } = command {
+        if let Command::Fresh {
+            group, id, order, ..
+        } = command
+        {
             if !group.in_range() || !group.has(id) {
                 return Err(error("n, f or controller out of range"));
             }

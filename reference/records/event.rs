@@ -2,6 +2,7 @@
 
 use super::message::MessageKind;
 use super::{read_u32, write_u32};
+use crate::ballot::BallotKind;
 use crate::group::Group;
 use crate::questions::{answer, ask};
 use crate::vote_set::Verdict;
@@ -9,7 +10,8 @@ use crate::vote_set::Verdict;
 /// A timeout is a "bell" of document 01, a decision the "arbiter's word".
 #[derive(Clone, Copy, PartialEq, Eq, Debug)]
 pub enum Event {
-    Lock { group: Group },
+    /// `ballots` at a lock whose controllers settle the word among themselves (document 02, U14).
+    Lock { group: Group, ballots: bool },
     Order { number: u32 },
     Vote { id: u8, willing: bool, target: i32 },
     Deliver { from: u8, to: u8, kind: MessageKind },
@@ -18,6 +20,9 @@ pub enum Event {
     Stop { id: u8 },
     Save { id: u8 },
     Restore { id: u8 },
+    /// The delivery of a message of a ballot.
+    DeliverBallot { from: u8, to: u8, kind: BallotKind, ballot: u32 },
+    OpenBallot { id: u8, ballot: u32 },
 }
 
 /// What an event record holds after its mark.
@@ -78,9 +83,10 @@ impl Event {
             value,
         } = fields;
         Some(match (kind, a, b, c, value) {
-            // "0 lock (a = n, b = f)"
-            (0, n, f, 0, 0) => Event::Lock {
+            // "0 lock (a = n, b = f)"; U14: "Its lock event has c = 1"
+            (0, n, f, 0 | 1, 0) => Event::Lock {
                 group: Group { n, f },
+                ballots: c == 1,
             },
             // "1 order (value = number)"
             (1, 0, 0, 0, number) => Event::Order { number },
@@ -91,10 +97,17 @@ impl Event {
                 target: target as i32,
             },
             // "3 deliver (a = from, b = to, c = telegram kind)"
-            (3, from, to, kind, 0) => Event::Deliver {
+            (3, from, to, 1..=4, 0) => Event::Deliver {
                 from,
                 to,
-                kind: MessageKind::from_number(kind)?,
+                kind: MessageKind::from_number(c)?,
+            },
+            // "A delivery of these kinds names the ballot in its value"
+            (3, from, to, 5..=8, ballot) => Event::DeliverBallot {
+                from,
+                to,
+                kind: BallotKind::from_number(c)?,
+                ballot,
             },
             // "4 bell (a)"
             (4, id, 0, 0, 0) => Event::Timeout { id },
@@ -111,13 +124,15 @@ impl Event {
             (6, id, 0, 0, 0) => Event::Stop { id },
             (7, id, 0, 0, 0) => Event::Save { id },
             (8, id, 0, 0, 0) => Event::Restore { id },
+            // "Event kind 10 (a, value = b ..)"
+            (10, id, 0, 0, ballot) => Event::OpenBallot { id, ballot },
             _ => return None,
         })
     }
 
     pub fn fields(&self) -> Fields {
         let (kind, a, b, c, value) = match *self {
-            Event::Lock { group } => (0, group.n, group.f, 0, 0),
+            Event::Lock { group, ballots } => (0, group.n, group.f, u8::from(ballots), 0),
             Event::Order { number } => (1, 0, 0, 0, number),
             Event::Vote {
                 id,
@@ -130,6 +145,13 @@ impl Event {
             Event::Stop { id } => (6, id, 0, 0, 0),
             Event::Save { id } => (7, id, 0, 0, 0),
             Event::Restore { id } => (8, id, 0, 0, 0),
+            Event::DeliverBallot {
+                from,
+                to,
+                kind,
+                ballot,
+            } => (3, from, to, kind.number(), ballot),
+            Event::OpenBallot { id, ballot } => (10, id, 0, 0, ballot),
         };
         Fields {
             kind,

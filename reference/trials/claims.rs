@@ -7,7 +7,7 @@ use reference::clean::OrderLog;
 use reference::generate::{frames, schedules};
 use reference::records::checkpoint::Checkpoint;
 use reference::records::event::Event;
-use reference::records::message::Message;
+use reference::records::telegram::Telegram;
 use reference::rng::Rng;
 use reference::vote_set::Verdict;
 use reference::{frame, text};
@@ -97,7 +97,7 @@ fn check_messages(lock: &Lock) {
     if let Some(message) = lock.sent().last() {
         let mut bytes = vec![0; message.form().length()];
         assert_eq!(message.write(&mut bytes), 0);
-        assert_eq!(Message::read(&bytes).as_ref(), Ok(message));
+        assert_eq!(Telegram::read(&bytes), Ok(Telegram::Votes(*message)));
     }
     for id in group.ids() {
         if let Some(checkpoint) = lock.checkpoint(id) {
@@ -118,7 +118,7 @@ fn records_read_are_written_alike() {
         let slice = &frame[2..2 + usize::from(frame[1])];
         let mut buffer = vec![0; slice.len()];
         let answer = match frame[0] {
-            frame::READ_MESSAGE => Message::read(slice).map(|m| m.write(&mut buffer)),
+            frame::READ_MESSAGE => Telegram::read(slice).map(|t| t.write(&mut buffer)),
             frame::READ_CHECKPOINT => Checkpoint::read(slice).map(|c| c.write(&mut buffer)),
             frame::READ_EVENT => Event::read(slice).map(|e| e.write(&mut buffer)),
             _ => continue,

@@ -5,6 +5,7 @@ use reference::members::Members;
 use reference::records::checkpoint::Checkpoint;
 use reference::records::event::Event;
 use reference::records::message::{Form, Message, MessageKind};
+use reference::records::telegram::Telegram;
 use reference::vote_set::{Verdict, VoteSet};
 
 /// An acknowledgement of 1 to 3, in a group of 5 with 2 backups.
@@ -45,7 +46,7 @@ fn message_refusal(changes: &[(usize, u8)]) -> u8 {
     for &(at, byte) in changes {
         bytes[at] = byte;
     }
-    Message::read(&bytes).err().unwrap_or(0)
+    Telegram::read(&bytes).err().unwrap_or(0)
 }
 
 fn checkpoint_refusal(changes: &[(usize, u8)]) -> u8 {
@@ -58,7 +59,7 @@ fn checkpoint_refusal(changes: &[(usize, u8)]) -> u8 {
 
 #[test]
 fn forms() {
-    assert_eq!(Message::read(&ACK_BYTES), Ok(ack()));
+    assert_eq!(Telegram::read(&ACK_BYTES), Ok(Telegram::Votes(ack())));
     assert_eq!(Checkpoint::read(&CHECKPOINT_BYTES), Ok(card()));
     let mut buffer = [0xA5; 16];
     assert_eq!(ack().write(&mut buffer), 0);
@@ -69,8 +70,8 @@ fn forms() {
 
 #[test]
 fn messages_refused() {
-    assert_eq!(Message::read(&ACK_BYTES[..15]), Err(1));
-    assert_eq!(Message::read(&[]), Err(1));
+    assert_eq!(Telegram::read(&ACK_BYTES[..15]), Err(1));
+    assert_eq!(Telegram::read(&[]), Err(1));
     // 2 before 3 before 4 before 7 before 8 before 9 before 10.
     let order_0 = [(10, 0), (11, 0)];
     assert_eq!(message_refusal(&[(1, 0x53), (2, 0)]), 2);
@@ -105,7 +106,7 @@ fn long_form() {
         },
         ..ack()
     };
-    assert_eq!(Message::read(&bytes), Ok(wide));
+    assert_eq!(Telegram::read(&bytes), Ok(Telegram::Votes(wide)));
     let mut buffer = [0xA5; 20];
     assert_eq!(wide.write(&mut buffer), 0);
     assert_eq!(buffer, bytes);
@@ -117,11 +118,12 @@ fn long_form() {
         for &(at, byte) in changes {
             bytes[at] = byte;
         }
-        Message::read(&bytes).err().unwrap_or(0)
+        Telegram::read(&bytes).err().unwrap_or(0)
     };
-    // "a mark of the other length gets 2"
-    assert_eq!(read(&[(1, 0x4B), (2, 0)]), 2);
+    // "a mark of the other length gets 2"; U14: "20 bytes now admit either mark", but kinds 1 to 4 one of them
     assert_eq!(message_refusal(&[(1, 0x4C), (2, 0)]), 2);
+    assert_eq!(read(&[(1, 0x4D), (2, 0)]), 2);
+    assert_eq!([read(&[(1, 0x4B), (2, 0)]), read(&[(1, 0x4B)])], [3, 3]);
     // "The long form with n below 17, and the short form with n above 16, get 4", after 3 and before 7
     assert_eq!(read(&[(2, 5), (3, 16), (4, 15)]), 3);
     assert_eq!(read(&[(3, 16), (4, 15), (5, 0)]), 4);
@@ -131,7 +133,7 @@ fn long_form() {
     assert_eq!(read(&[(13, 3)]), 9);
     for length in 0..40 {
         let admitted = Form::ALL.iter().any(|form| form.length() == length);
-        assert_eq!(Message::read(&vec![0; length]), Err(if admitted { 2 } else { 1 }));
+        assert_eq!(Telegram::read(&vec![0; length]), Err(if admitted { 2 } else { 1 }));
     }
 }
 
@@ -207,7 +209,7 @@ fn events_refused() {
     };
     // By kind: whether a, b, c and value are used.
     let used = [
-        [true, true, false, false],
+        [true, true, true, false],
         [false, false, false, true],
         [true, true, false, true],
         [true, true, true, false],
@@ -226,16 +228,13 @@ fn events_refused() {
         assert_eq!(read(kind, 0, 0, 1, 0), answer(c));
         assert_eq!(read(kind, 0, 0, listed, 1), answer(value));
     }
-    assert_eq!(read(9, 0, 0, 0, 0), 3);
+    assert_eq!([read(0, 1, 2, 2, 0), read(0, 1, 2, 1, 1)], [3, 3]);
     assert_eq!([read(2, 1, 2, 0, 0), read(5, 1, 2, 0, 0)], [3, 3]);
-    assert_eq!(
-        [
-            read(3, 1, 2, 0, 0),
-            read(3, 1, 2, 4, 0),
-            read(3, 1, 2, 5, 0)
-        ],
-        [3, 0, 3]
-    );
+    let delivery = [0, 4, 5, 8, 9].map(|kind| [read(3, 1, 2, kind, 0), read(3, 1, 2, kind, 1)]);
+    assert_eq!(delivery, [[3, 3], [0, 3], [0, 0], [0, 0], [3, 3]]);
+    let open = [(0, 0, 0), (1, 0, 0), (0, 1, 0), (0, 0, 1)].map(|(b, c, v)| read(10, 1, b, c, v));
+    assert_eq!(open, [0, 3, 3, 0]);
+    assert_eq!([read(9, 0, 0, 0, 0), read(11, 0, 0, 0, 0)], [3, 3]);
     assert_eq!(Event::read(&[0x4C, 0x4B, 99, 0, 0, 0, 0, 0, 0, 0]), Err(2));
     assert_eq!(Event::read(&[0x4C, 0x45, 4, 1, 0, 0, 0, 0, 0]), Err(1));
 }

@@ -1,5 +1,6 @@
 //! Short names for events, and benches to try them on.
 
+use reference::ballot::BallotKind;
 use reference::bench::Bench;
 use reference::group::Group;
 use reference::records::event::Event;
@@ -10,12 +11,38 @@ pub const VOTE: MessageKind = MessageKind::Vote;
 pub const ACK: MessageKind = MessageKind::Ack;
 pub const HELP: MessageKind = MessageKind::Help;
 pub const HELPED: MessageKind = MessageKind::Helped;
+pub const ASK: BallotKind = BallotKind::Ask;
+pub const PROMISE: BallotKind = BallotKind::Promise;
+pub const PUT: BallotKind = BallotKind::Put;
+pub const TAKEN: BallotKind = BallotKind::Taken;
 pub const STAY: Verdict = Verdict::Stay;
 pub const MOVE: Verdict = Verdict::Move;
 
 pub fn lock(n: u8, f: u8) -> Event {
     Event::Lock {
         group: Group { n, f },
+        ballots: false,
+    }
+}
+
+/// A lock whose controllers are their own arbiter.
+pub fn ballot_lock(n: u8, f: u8) -> Event {
+    Event::Lock {
+        group: Group { n, f },
+        ballots: true,
+    }
+}
+
+pub fn open_ballot(id: u8, ballot: u32) -> Event {
+    Event::OpenBallot { id, ballot }
+}
+
+pub fn deliver_ballot(kind: BallotKind, from: u8, to: u8, ballot: u32) -> Event {
+    Event::DeliverBallot {
+        from,
+        to,
+        kind,
+        ballot,
     }
 }
 
@@ -121,4 +148,28 @@ pub fn listing(second_willing: bool) -> Vec<Event> {
         timeout(1),
         timeout(2),
     ]
+}
+
+/// The events by which each controller of an order puts that word, at f = n − 1: one that hears all votes puts Move, one that
+/// hears none Stay.
+pub fn putting(words: &[Verdict]) -> Vec<Event> {
+    let ids = || (1..).zip(words);
+    let mut events: Vec<Event> = ids().map(|(id, _)| vote(id, true, i32::from(id))).collect();
+    for (to, _) in ids().filter(|(_, word)| **word == MOVE) {
+        let others = ids().filter(|(from, _)| *from != to);
+        events.extend(others.map(|(from, _)| deliver(VOTE, from, to)));
+    }
+    for _ in 0..2 {
+        events.extend(ids().map(|(id, _)| timeout(id)));
+    }
+    events
+}
+
+/// A lock with ballots, in whose first order those words were put by 1 to n.
+pub fn words_put(words: &[Verdict]) -> Bench {
+    let n = words.len() as u8;
+    let mut bench = bench_after(&[ballot_lock(n, n - 1), order(1)]);
+    accept_all(&mut bench, &putting(words));
+    assert_eq!(proposals(&bench), words);
+    bench
 }

@@ -33,7 +33,7 @@ examples = record {
       "T 2 2 0 0" ∷ []);
 } ∷ record {
   -- controller 1 is restored, 2 has no checkpoint
-  events = Lock 2 1 ∷ Order 1 ∷ Save 1 ∷ Stop 1 ∷ Stop 2 ∷ Restore 1 ∷ Restore 2 ∷ [];
+  events = Lock 2 1 false ∷ Order 1 ∷ Save 1 ∷ Stop 1 ∷ Stop 2 ∷ Restore 1 ∷ Restore 2 ∷ [];
   output = "0 0" ∷ "1 0" ∷ "2 0" ∷ "3 0" ∷ "4 0" ∷ "5 0" ∷ "6 19" ∷
       "C 1 9 - 0" ∷
       "C 2 8 - 0" ∷

@@ -16,7 +16,7 @@ use Rattle.model.specs.RangeLaws.{member}
 use Rattle.model.specs.QuestionLaws.{is-accepted, AllYes, all-yes}
 use Rattle.model.specs.Ranges.{isController}
 use Rattle.model.specs.declared.Event.{Event}
-use Rattle.model.specs.declared.Event.the-variants.{Lock, Order, Cast, Deliver, Timeout, Decide, Stop, Save, Restore}
+use Rattle.model.specs.declared.Event.the-variants.{Lock, Order, Cast, Deliver, Timeout, Decide, Stop, Save, Restore, OfBallots}
 use Rattle.protocol.specs.declared.Station.{Station}
 use Rattle.protocol.specs.declared.Effect.{Effect}
 use Rattle.protocol.specs.declared.Bench.{Bench}
@@ -44,9 +44,9 @@ copies a zero i = refl
 copies a (suc m) zero = refl
 copies a (suc m) (suc i) = copies a m i
 
-new-idle : (locked : Bool) (n f : ℕ) → Idle (benchOf locked n f)
+new-idle : (locked : Bool) (n f : ℕ) (own : Bool) → Idle (benchOf locked n f own)
 unfolding benchOf
-new-idle locked n f i h = copies begun limit i
+new-idle locked n f own i h = copies begun limit i
 
 -- an event of one controller puts back that one's station
 abbrev effectAt : Bench → Event → Effect
@@ -61,7 +61,7 @@ one-idle b e y q h k p =
 
 perform-idle : (b : Bench) (e : Event) → AllYes (questions b e) → Idle b → Idle (perform b e)
 unfolding perform orderOpened effectOf answering proposedTo decidedAs
-perform-idle b (Lock n f) y h = new-idle true n f
+perform-idle b (Lock n f own) y h = new-idle true n f own
 perform-idle b (Order o) y h = λ i k.
     ap (getD (map renewed (b .stations)) i) (sym renewed-begun) ∙ List·getD-map renewed (b .stations) i begun ∙ ap renewed (h i k) ∙ renewed-begun
 perform-idle b (Cast i w t) y h = one-idle b (Cast i w t) (y .1 .0) refl h
@@ -72,6 +72,7 @@ perform-idle b (Decide i w) y h = one-idle b (Decide i w) (y .1 .0) refl h
 perform-idle b (Stop i) y h = one-idle b (Stop i) (y .1 .0) refl h
 perform-idle b (Save i) y h = one-idle b (Save i) (y .1 .0) refl h
 perform-idle b (Restore i) y h = one-idle b (Restore i) (y .1 .0) refl h
+perform-idle b (OfBallots e) y h = h
 
 step-idle : (b : Bench) (e : Event) → Idle b → Idle (step b e)
 unfolding step reply
@@ -84,4 +85,4 @@ run-idle (e ∷ es) b h = run-idle es (step b e) (step-idle b e h)
 
 -- so to renew the stations of the lock's controllers is to renew all
 pub enough : (b : Bench) (es : List Event) → b ≡ run newBench es → mapFirst renewed (b .shared .n) (b .stations) ≡ map renewed (b .stations)
-enough b es here = first-enough renewed begun renewed-begun (b .shared .n) (b .stations) (subst Idle (sym here) (run-idle es newBench (new-idle false 0 0)))
+enough b es here = first-enough renewed begun renewed-begun (b .shared .n) (b .stations) (subst Idle (sym here) (run-idle es newBench (new-idle false 0 0 false)))

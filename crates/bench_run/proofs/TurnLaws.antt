@@ -38,6 +38,7 @@ use Rattle.protocol.specs.Events.{restoreFrom}
 use Rattle.protocol.specs.Questions.{isSaved}
 use Rattle.protocol.specs.Steps.{proposedTo, withCounts, stationAfter, answering}
 use Rattle.bench_turns.specs.Turns.{outcomeSaved}
+pub use Rattle.bench_turns.proofs.BallotLaws.{same-set}
 
 -- with no word put, and a condition that stays, or moves on with its outcome, what is shared stays
 proposed-none : (m : Shared) → proposedTo m None ≡ m
@@ -105,11 +106,6 @@ abbrev pub withAcks : Controller → Acks → Controller
 withAcks c a = record { condition = c .condition; votes = c .votes; acks = a; helped = c .helped; help = c .help; proposal = c .proposal; gate = c .gate }
 
 -- the first timeout: the run lays the own acknowledgement into the station, and the turn does the rest
-pub same-set : {A : Type 0} (l : List A) (i : ℕ) (d : A) → set l i (getD l i d) ≡ l
-same-set [] i d = refl
-same-set (x ∷ l) zero d = refl
-same-set (x ∷ l) (suc i) d = ap (λ (t : List _). x ∷ t) (same-set l i d)
-
 pub own-laid : (c : Controller) (f i at : ℕ) (keeps : Bool) → at ≡ i - 1 → keeps ≡ (isBackup f i && not (has (c .acks .from) i))
     → withAcks c (record {
       sets = set (c .acks .sets) at (cond keeps (c .votes) (getD (c .acks .sets) at empty));

@@ -1,13 +1,18 @@
 // The run of a schedule on a new bench.
 use crate::RunResult;
+use ballot_rules::new_acceptor;
+use ballot_rules::new_row;
+use ballot_rules::row_after;
 use bench_state::all_undecided;
+use bench_state::ballot_question;
 use bench_state::cast_question;
 use bench_state::decide_question;
 use bench_state::deliver_question;
 use bench_state::fresh_station;
 use bench_state::lock_question;
+use bench_state::may_give;
 use bench_state::may_open;
-use bench_state::new_bench;
+use bench_state::new_shared;
 use bench_state::open_gates;
 use bench_state::order_opened;
 use bench_state::order_question;
@@ -15,7 +20,10 @@ use bench_state::present_question;
 use bench_state::restore_question;
 use bench_state::timeout_question;
 use bench_summary::summary_of;
+use bench_turns::ballot_answer;
+use bench_turns::ballot_of;
 use bench_turns::cast_turn;
+use bench_turns::chosen_at;
 use bench_turns::condition_of;
 use bench_turns::decide_turn;
 use bench_turns::first_turn;
@@ -23,13 +31,17 @@ use bench_turns::help_turn;
 use bench_turns::helped_turn;
 use bench_turns::is_saved;
 use bench_turns::outgoing;
+use bench_turns::proposal_of;
 use bench_turns::renewed;
+use bench_turns::report_in;
 use bench_turns::restore_turn;
 use bench_turns::save_turn;
 use bench_turns::second_turn;
 use bench_turns::settled_turn;
 use bench_turns::stop_turn;
+use bench_turns::subject_of;
 use bench_turns::vote_turn;
+use bench_turns::word_in;
 use controller_rules::counts_own;
 use controller_rules::takes_ack;
 use controller_state::bump;
@@ -45,7 +57,7 @@ use ground::up_to_limit;
 use model::Event;
 use model::Kind;
 use protocol::Acks;
-use protocol::Bench;
+use protocol::BALLOTS;
 use protocol::Cnt;
 use protocol::Controller;
 use protocol::Shared;
@@ -54,11 +66,13 @@ use schedule_reader::Reader;
 use schedule_reader::reader_at;
 use schedule_reader::record_at;
 ghost use mathlib.Core.Path.{_≡_};
-ghost use mathlib.Core.Bool.{true};
+ghost use mathlib.Core.Bool.{true, cond};
 ghost use Prim.Native.Nat.{_-_, _≤_, _<_};
 ghost use lib.ListN.{drop};
 ghost use Rattle.ground.specs.Limit.{limit};
-ghost use Rattle.protocol.specs.Benches.{newBench, allUndecided};
+ghost use Rattle.protocol.specs.declared.Ballots.{Ballots};
+ghost use Rattle.protocol.specs.Ballots.{ballotLimit};
+ghost use Rattle.protocol.specs.Benches.{allUndecided};
 ghost use Rattle.bench_run.specs.Schedule.{count};
 ghost use Rattle.bench_run.specs.Runs.{endOf, RunAsDefined};
 use votes::VoteSet;
@@ -73,15 +87,15 @@ fn count_from(s: &[u8], from: usize) -> usize
     (s.len() - from + (Event::LENGTH - 1)) / Event::LENGTH
 }
 
-// What a run returns of the bench at its end.
-fn ended(complete: bool, count: usize, b: Bench) -> RunResult
-    ensures { λ r. ⌜ r ≡ endOf complete count b ⌝ }
+// What a run returns of the bench at its end, whatever its ballots.
+fn ended(complete: bool, count: usize, m: Shared, stations: [Station; LIMIT]) -> RunResult
+    ensures { λ r. ⌜ ((s : Ballots) → r ≡ endOf complete count (record { shared = m; ballots = s; stations = stations })) ⌝ }
 {
     RunResult {
         complete,
         count,
-        open_gates: open_gates(b.shared),
-        summary: summary_of(b),
+        open_gates: open_gates(m),
+        summary: summary_of(m, stations),
     }
 }
 
@@ -92,38 +106,58 @@ fn seat(id: u8) -> usize
     (id as usize + (LIMIT - 1)) % LIMIT
 }
 
+// The place of a ballot; of a number that has none, another one.
+fn slot(ballot: u32) -> usize
+    ensures { λ r. ⌜ (r < ballotLimit) × (1 ≤ ballot → ballot ≤ ballotLimit → r ≡ ballot - 1) ⌝ }
+{
+    (ballot as usize + (BALLOTS - 1)) % BALLOTS
+}
+
+// The place of the ballot that is reported.
+fn slot_reported(last: u8) -> usize
+    ensures { λ r. ⌜ (r < ballotLimit) × (1 ≤ last → r ≡ last - 1) ⌝ }
+{
+    slot(last as u32)
+}
+
+// How many ballots question 18 looks at: at a lock with an arbiter none.
+fn ballots_asked(own: bool) -> usize
+    ensures { λ r. ⌜ (r ≡ cond own ballotLimit 0) × (r ≤ ballotLimit) ⌝ }
+{
+    if own {
+        return BALLOTS;
+    }
+    0
+}
+
 // What is shared once the lock is set up: on a new bench nothing else changes.
-fn locked(m: Shared, n: u8, f: u8) -> Shared
-    ensures { λ r. ⌜ r ≡ record { locked = true; n = n; f = f; order = m .order; consensus = m .consensus; counts = allUndecided n } ⌝ }
+fn locked(m: Shared, n: u8, f: u8, own: bool) -> Shared
+    ensures { λ r. ⌜ r ≡ record { locked = true; n = n; f = f; own = own; order = m .order; consensus = m .consensus; counts = allUndecided n } ⌝ }
 {
     let counts = all_undecided(n);
     Shared {
         locked: true,
         n,
         f,
+        own,
         counts,
         ..m
     }
 }
 
-fn new_shared() -> Shared
-    ensures { λ r. ⌜ r ≡ newBench .shared ⌝ }
-{
-    let bench = new_bench();
-    bench.shared
-}
-
 // Plays what stands from a place of the schedule on. The bench lies in this function's own variables: an event's questions are asked first, and one that
-// is accepted changes one station where it lies.
+// is accepted changes one station where it lies; an event of ballots one acceptor and one row. At a lock with an arbiter the ballots stay new.
 fn run_from(s: &[u8], from: usize, answers: &mut [u8]) -> RunResult
     ensures { λ r. ⌜ RunAsDefined (drop from (now (s .entry))) (now (answers .entry)) r (now (answers .exit)) ⌝ }
 {
     let count = count_from(s, from);
-    if answers.len() < count {
-        return ended(false, 0, new_bench());
-    }
     let mut m = new_shared();
     let mut stations = [fresh_station(); LIMIT];
+    if answers.len() < count {
+        return ended(false, 0, m, stations);
+    }
+    let mut acceptors = [new_acceptor(); LIMIT];
+    let mut rows = [new_row(); BALLOTS];
     let mut k: usize = 0;
     while k < count {
         let r = record_at(s, from + k * Event::LENGTH);
@@ -133,14 +167,14 @@ fn run_from(s: &[u8], from: usize, answers: &mut [u8]) -> RunResult
             continue;
         };
         match e {
-            Event::Lock { n, f } => {
+            Event::Lock { n, f, own } => {
                 let answer = lock_question(m, n, f);
                 answers[k] = answer;
                 k += 1;
                 if answer != 0 {
                     continue;
                 }
-                m = locked(m, n, f);
+                m = locked(m, n, f, own);
             }
             Event::Order { number } => {
                 let answer = order_question(m, may_open(m), number);
@@ -156,6 +190,11 @@ fn run_from(s: &[u8], from: usize, answers: &mut [u8]) -> RunResult
                     stations[i] = renewed(stations[i]);
                     i += 1;
                 }
+                if !m.own {
+                    continue;
+                }
+                acceptors = [new_acceptor(); LIMIT];
+                rows = [new_row(); BALLOTS];
             }
             Event::Cast {
                 id,
@@ -277,7 +316,15 @@ fn run_from(s: &[u8], from: usize, answers: &mut [u8]) -> RunResult
             }
             Event::Decide { id, to_move } => {
                 let at = seat(id);
-                let answer = decide_question(m, condition_of(stations[at]), id, to_move);
+                let end = ballots_asked(m.own);
+                let mut chosen = false;
+                let mut i: usize = 0;
+                while i < end {
+                    chosen = chosen_at(m.n, rows[i], to_move) | chosen;
+                    i += 1;
+                }
+                let may = may_give(m, chosen, to_move);
+                let answer = decide_question(m, condition_of(stations[at]), may, id);
                 answers[k] = answer;
                 k += 1;
                 if answer != 0 {
@@ -325,16 +372,29 @@ fn run_from(s: &[u8], from: usize, answers: &mut [u8]) -> RunResult
                 let station = t.station;
                 stations[at] = station;
             }
+            Event::OfBallots { event } => {
+                let id = subject_of(event);
+                let at = seat(id);
+                let place = slot(ballot_of(event));
+                let word = proposal_of(stations[at]);
+                let a = acceptors[at];
+                let row = rows[place];
+                let answer = ballot_question(m, condition_of(stations[at]), word, a, row, event);
+                answers[k] = answer;
+                k += 1;
+                if answer != 0 {
+                    continue;
+                }
+                let last = report_in(event, row);
+                let reported = word_in(last, rows[slot_reported(last)]);
+                let x = ballot_answer(m.n, event, word, a, row, reported);
+                let acceptor = x.acceptor;
+                acceptors[at] = acceptor;
+                rows[place] = row_after(row, id, x);
+            }
         }
     }
-    ended(
-        true,
-        count,
-        Bench {
-            shared: m,
-            stations,
-        },
-    )
+    ended(true, count, m, stations)
 }
 
 // Plays what a reader has before it: the run goes by the reader's slice and position.

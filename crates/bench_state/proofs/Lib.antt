@@ -1,2 +1,3 @@
 mod Answers
 pub mod Replies
+pub mod BallotReplies

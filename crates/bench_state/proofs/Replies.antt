@@ -3,13 +3,14 @@ use mathlib.Core.Path.{_≡_, refl}
 use mathlib.Core.Bool.{true, false}
 use Rattle.model.specs.QuestionLaws.{AllYes, all-yes, numbered, reply-accepted}
 use Rattle.model.specs.declared.Event.{Event}
-use Rattle.model.specs.declared.Event.the-variants.{Lock, Order, Cast, Deliver, Timeout, Decide, Stop, Save, Restore}
+use Rattle.model.specs.declared.Event.the-variants.{Lock, Order, Cast, Deliver, Timeout, Decide, Stop, Save, Restore, OfBallots}
+use Rattle.model.specs.declared.BallotEvent.the-variants.{Open, Carry}
 use Rattle.protocol.specs.declared.Bench.{Bench}
 use Rattle.protocol.specs.Questions.{Facts, Reply, accepted, refused, number, isAccepted, questionsOf, questions, reply}
 use Rattle.protocol.specs.Steps.{perform, step}
 
 pub all-numbered : (v : Facts) (e : Event) → numbered (questionsOf v e) ≡ true
-all-numbered v (Lock n f) = refl
+all-numbered v (Lock n f own) = refl
 all-numbered v (Order o) = refl
 all-numbered v (Cast i willing target) = refl
 all-numbered v (Deliver i j kind) = refl
@@ -18,6 +19,8 @@ all-numbered v (Decide i move) = refl
 all-numbered v (Stop i) = refl
 all-numbered v (Save i) = refl
 all-numbered v (Restore i) = refl
+all-numbered v (OfBallots (Open i b)) = refl
+all-numbered v (OfBallots (Carry i j kind b)) = refl
 
 pub zero-accepted : (b : Bench) (e : Event) → number (reply b e) ≡ 0 → reply b e ≡ accepted
 unfolding reply

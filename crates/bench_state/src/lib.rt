@@ -1,15 +1,18 @@
 // A bench's parts as they begin, what is shared and what an event leaves of it, and the questions that the bench puts to an event, from what they look at.
+mod ballots;
 mod counts;
 mod parts;
 mod shared;
 mod table;
 mod tests;
 
+pub use ballots::ballot_question;
 pub use counts::counts_after;
 pub use parts::all_undecided;
 pub use parts::bench_of;
 pub use parts::fresh_station;
 pub use parts::new_bench;
+pub use parts::new_shared;
 pub use parts::unsent_all;
 pub use shared::decided_as;
 pub use shared::may_open;
@@ -24,3 +27,4 @@ pub use table::order_question;
 pub use table::present_question;
 pub use table::restore_question;
 pub use table::timeout_question;
+pub use tests::may_give;

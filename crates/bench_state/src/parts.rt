@@ -1,4 +1,5 @@
 // The parts of a bench, as they begin.
+use ballot_rules::new_ballots;
 use controller_state::fresh;
 use ground::LIMIT;
 use model::Outcome;
@@ -64,21 +65,36 @@ pub fn all_undecided(present: u8) -> Counts
     }
 }
 
-// A bench whose controllers have just begun.
-pub fn bench_of(locked: bool, n: u8, f: u8) -> Bench
-    ensures { λ r. ⌜ r ≡ benchOf locked n f ⌝ }
+// What is shared where no order was opened yet.
+fn shared_of(locked: bool, n: u8, f: u8, own: bool) -> Shared
+    ensures { λ r. ⌜ r ≡ (benchOf locked n f own) .shared ⌝ }
 {
     let consensus = no_consensus();
-    let shared = Shared {
+    Shared {
         locked,
         n,
         f,
+        own,
         order: 0,
         consensus,
         counts: all_undecided(n),
-    };
+    }
+}
+
+// What is shared on a new bench.
+pub fn new_shared() -> Shared
+    ensures { λ r. ⌜ r ≡ newBench .shared ⌝ }
+{
+    shared_of(false, 0, 0, false)
+}
+
+// A bench whose controllers have just begun.
+pub fn bench_of(locked: bool, n: u8, f: u8, own: bool) -> Bench
+    ensures { λ r. ⌜ r ≡ benchOf locked n f own ⌝ }
+{
     Bench {
-        shared,
+        shared: shared_of(locked, n, f, own),
+        ballots: new_ballots(),
         stations: [fresh_station(); LIMIT],
     }
 }
@@ -87,5 +103,5 @@ pub fn bench_of(locked: bool, n: u8, f: u8) -> Bench
 pub fn new_bench() -> Bench
     ensures { λ r. ⌜ r ≡ newBench ⌝ }
 {
-    bench_of(false, 0, 0)
+    bench_of(false, 0, 0, false)
 }

@@ -1,7 +1,6 @@
 // The questions of each event, in document 01's sequence. Each function answers the number of the first "no", or 0, and asks nothing after it.
 use crate::tests::awaits_decision;
 use crate::tests::awaits_timeout;
-use crate::tests::may_decide;
 use controller_state::is_present;
 use controller_state::is_running;
 use controller_state::is_stopped;
@@ -19,10 +18,10 @@ ghost use mathlib.Core.Path.{_≡_};
 ghost use mathlib.Core.Bool.{Bool, true, false};
 ghost use Rattle.model.specs.declared.Event.the-variants.{Lock, Order, Cast, Deliver, Timeout, Decide, Stop, Save, Restore};
 ghost use Rattle.protocol.specs.Questions.{number, firstNo, questionsOf};
-ghost use Rattle.bench_state.specs.Parts.{factsAt, ownFacts, openFacts};
+ghost use Rattle.bench_state.specs.Parts.{factsAt, ownFacts, decideFacts, openFacts};
 
 pub fn lock_question(m: Shared, n: u8, f: u8) -> u8
-    ensures { λ r. ⌜ r ≡ number (firstNo (questionsOf (openFacts m false) (Lock n f))) ⌝ }
+    ensures { λ r. ⌜ ((own : Bool) → r ≡ number (firstNo (questionsOf (openFacts m false) (Lock n f own)))) ⌝ }
 {
     if !sizes_in_range(n, f) {
         return 4;
@@ -131,8 +130,8 @@ pub fn timeout_question(m: Shared, k: Condition, id: u8) -> u8
     0
 }
 
-pub fn decide_question(m: Shared, k: Condition, id: u8, to_move: bool) -> u8
-    ensures { λ r. ⌜ r ≡ number (firstNo (questionsOf (ownFacts m k) (Decide id «to_move»))) ⌝ }
+pub fn decide_question(m: Shared, k: Condition, may_give: bool, id: u8) -> u8
+    ensures { λ r. ⌜ ((move : Bool) → r ≡ number (firstNo (questionsOf (decideFacts m k «may_give») (Decide id move)))) ⌝ }
 {
     if !m.locked {
         return 5;
@@ -149,7 +148,7 @@ pub fn decide_question(m: Shared, k: Condition, id: u8, to_move: bool) -> u8
     if !awaits_decision(k) {
         return 16;
     }
-    if !may_decide(m.consensus, to_move) {
+    if !may_give {
         return 18;
     }
     0

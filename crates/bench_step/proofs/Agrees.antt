@@ -7,7 +7,7 @@ use lib.ListN.{length}
 use Rattle.ground.specs.Limit.{limit}
 use Rattle.ground.specs.Tests.{split}
 use Rattle.model.specs.declared.Event.{Event}
-use Rattle.model.specs.declared.Event.the-variants.{Lock, Order, Cast, Deliver, Timeout, Decide, Stop, Save, Restore}
+use Rattle.model.specs.declared.Event.the-variants.{Lock, Order, Cast, Deliver, Timeout, Decide, Stop, Save, Restore, OfBallots}
 use Rattle.protocol.specs.declared.Bench.{Bench}
 use Rattle.protocol.specs.Rules.{passedOver}
 use Rattle.protocol.specs.Calls.{validIdentity, receive}
@@ -24,7 +24,7 @@ both-agree b e d = others-agree (b .shared) e _ _ d ∙ sym (others-agree (b .sh
 
 pub read-agrees : (b : Bench) (e : Event) → length (b .stations) ≡ limit
     → agreesAt (b .shared) e (sentRead b e) (stationRead b (subject e)) ≡ agreesAt (b .shared) e (sentBy b (source e)) (station b (subject e))
-read-agrees b (Lock n f) l = both-agree b (Lock n f) refl
+read-agrees b (Lock n f own) l = both-agree b (Lock n f own) refl
 read-agrees b (Order o) l = both-agree b (Order o) refl
 read-agrees b (Cast i willing target) l = both-agree b (Cast i willing target) refl
 read-agrees b (Deliver i j kind) l = elim (split (validIdentity (identity (b .shared) j))) [
@@ -36,3 +36,4 @@ read-agrees b (Decide i move) l = both-agree b (Decide i move) refl
 read-agrees b (Stop i) l = both-agree b (Stop i) refl
 read-agrees b (Save i) l = both-agree b (Save i) refl
 read-agrees b (Restore i) l = both-agree b (Restore i) refl
+read-agrees b (OfBallots e) l = both-agree b (OfBallots e) refl

@@ -4,3 +4,4 @@ mod Outside
 mod Agrees
 mod Turns
 mod StepLaws
+mod BallotLaws

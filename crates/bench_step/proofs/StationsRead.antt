@@ -1,6 +1,6 @@
 -- What the code reads of a station is what the definitions read: all of it within the limit, and past that what the questions look at.
 use Prim.Native.Nat.{ℕ, _≤_}
-use mathlib.Core.Path.{_≡_, refl, ap, _∙_}
+use mathlib.Core.Path.{_≡_, refl}
 use mathlib.Core.Bool.{Bool}
 use mathlib.Core.List.{[]}
 use lib.ListN.{length, replicate}
@@ -9,8 +9,6 @@ use Rattle.ground.specs.Lists.{nth}
 use Rattle.votes.specs.VoteSets.{empty}
 use Rattle.model.specs.declared.Event.{Event}
 use Rattle.protocol.specs.declared.Station.{Station}
-use Rattle.protocol.specs.declared.Condition.{Condition}
-use Rattle.protocol.specs.declared.Saved.{Saved}
 use Rattle.protocol.specs.declared.Sent.{Sent}
 use Rattle.protocol.specs.declared.Bench.{Bench}
 use Rattle.protocol.specs.Benches.{freshStation, fresh, station, sentBy}
@@ -25,9 +23,13 @@ stationRead b i = nth (freshStation (replicate limit empty)) (b .stations) i
 abbrev pub sentRead : Bench → Event → Sent
 sentRead b e = (stationRead b (source e)) .sent
 
-read-condition : (b : Bench) (i : ℕ) → (stationRead b i) .controller .condition ≡ (station b i) .controller .condition
+pub read-condition : (b : Bench) (i : ℕ) → (stationRead b i) .controller .condition ≡ (station b i) .controller .condition
 unfolding station freshStation fresh
 read-condition b i = nth-alike (λ (s : Station). s .controller .condition) (freshStation (replicate limit empty)) (freshStation []) refl (b .stations) i
+
+pub read-proposal : (b : Bench) (i : ℕ) → (stationRead b i) .controller .proposal ≡ (station b i) .controller .proposal
+unfolding station freshStation fresh
+read-proposal b i = nth-alike (λ (s : Station). s .controller .proposal) (freshStation (replicate limit empty)) (freshStation []) refl (b .stations) i
 
 read-saved : (b : Bench) (i : ℕ) → (stationRead b i) .saved ≡ (station b i) .saved
 unfolding station freshStation
@@ -41,23 +43,16 @@ pub read-station : (b : Bench) (i : ℕ) → length (b .stations) ≡ limit → 
 unfolding station
 read-station b i l h k = nth-within (freshStation (replicate limit empty)) (freshStation []) (b .stations) i h (rw l k)
 
-pub read-facts : (b : Bench) (e : Event) (may agrees : Bool)
-    → factsOf (b .shared) e (stationRead b (subject e)) (sentRead b e) may agrees ≡ factsOf (b .shared) e (station b (subject e)) (sentBy b (source e)) may agrees
-read-facts b e may agrees =
-    ap (λ (k : Condition). record {
-      shared = b .shared;
-      condition = k;
-      has-checkpoint = isSaved ((stationRead b (subject e)) .saved);
-      receivers = receiversIn e (sentRead b e);
-      may-open = may;
-      agrees = agrees;
-    }) (read-condition b (subject e))
-    ∙ ap (λ (s : Saved). record {
-      shared = b .shared;
-      condition = (station b (subject e)) .controller .condition;
-      has-checkpoint = isSaved s;
-      receivers = receiversIn e (sentRead b e);
-      may-open = may;
-      agrees = agrees;
-    }) (read-saved b (subject e))
-    ∙ ap (λ (s : Sent). factsOf (b .shared) e (station b (subject e)) s may agrees) (read-sent b (source e))
+pub read-facts : (b : Bench) (e : Event) (may : Bool) (give : Bool → Bool) (agrees : Bool)
+    → factsOf (b .shared) (b .ballots) e (stationRead b (subject e)) (sentRead b e) may give agrees ≡ factsOf (b .shared) (b .ballots) e (station b (subject e)) (sentBy b (source e)) may give agrees
+read-facts b e may give agrees = λ p. record {
+  shared = b .shared;
+  condition = read-condition b (subject e) p;
+  has-checkpoint = isSaved (read-saved b (subject e) p);
+  receivers = receiversIn e (read-sent b (source e) p);
+  may-open = may;
+  agrees = agrees;
+  may-give = give;
+  ballots = b .ballots;
+  proposal = read-proposal b (subject e) p;
+}

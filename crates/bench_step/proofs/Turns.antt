@@ -14,6 +14,7 @@ use Rattle.protocol.specs.declared.Sent.{Sent}
 use Rattle.protocol.specs.declared.Station.{Station}
 use Rattle.protocol.specs.declared.Shared.{Shared}
 use Rattle.protocol.specs.Controllers.{isStopped, cleared, conclude}
+use Rattle.protocol.specs.Ballots.{newBallots}
 use Rattle.protocol.specs.Rules.{becomes}
 use Rattle.protocol.specs.Calls.{restore}
 use Rattle.protocol.specs.Events.{restoreFrom, answerTo}
@@ -29,16 +30,16 @@ restore-is me Nothing c h k = absurd (false≢true k)
 restore-is me (Newest p) c h k = rw h
 
 module _ (m : Shared) (sent : Sent) (s : Station) (i : ℕ) where
-  pub turn-decides : (w : Bool) → AllYes (questionsOf (factsOf m (Decide i w) s sent true true) (Decide i w))
+  pub turn-decides : (give : Bool → Bool) (w : Bool) → AllYes (questionsOf (factsOf m newBallots (Decide i w) s sent true give true) (Decide i w))
       → answering (decidedAs m w) s (becomes (conclude (s .controller) (wordOf w))) ≡ effect m (Decide i w) sent s
   unfolding effectOf answerTo
-  turn-decides w y = rw (decide-is (m .n) (m .f) w (s .controller) (y .1 .1 .1 .0) (y .1 .1 .1 .1 .0))
+  turn-decides give w y = rw (decide-is (m .n) (m .f) w (s .controller) (y .1 .1 .1 .0) (y .1 .1 .1 .1 .0))
 
-  pub turn-stops : AllYes (questionsOf (factsOf m (Stop i) s sent true true) (Stop i)) → answering m s (becomes (cleared Stopped (s .controller))) ≡ effect m (Stop i) sent s
+  pub turn-stops : AllYes (questionsOf (factsOf m newBallots (Stop i) s sent true (λ w. true) true) (Stop i)) → answering m s (becomes (cleared Stopped (s .controller))) ≡ effect m (Stop i) sent s
   unfolding effectOf answerTo
   turn-stops y = rw (stop-is (m .n) (m .f) (s .controller) (y .1 .1 .1 .0))
 
-  pub turn-restores : AllYes (questionsOf (factsOf m (Restore i) s sent true true) (Restore i))
+  pub turn-restores : AllYes (questionsOf (factsOf m newBallots (Restore i) s sent true (λ w. true) true) (Restore i))
       → answering m s (becomes (cleared (Standby (outcomeSaved (s .saved) (m .order))) (s .controller))) ≡ effect m (Restore i) sent s
   unfolding effectOf answerTo
   turn-restores y = rw (restore-is _ (s .saved) (s .controller) (y .1 .1 .1 .0) (y .1 .1 .1 .1 .0))

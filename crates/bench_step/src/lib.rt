@@ -1,10 +1,12 @@
 // The bench by value: one call takes a bench and an event, and returns the answer and the bench. Each kind of event has a function of its own, which asks
 // the event's questions; that of an event of one controller puts back what its turn, or its answer to a call, leaves, if the event is accepted.
+mod ballots;
 mod calls;
 mod lifecycle;
 mod orders;
 mod stations;
 
+use crate::ballots::ballot;
 use crate::calls::cast;
 use crate::calls::deliver;
 use crate::calls::time_out;
@@ -30,7 +32,7 @@ pub fn step(b: Bench, e: Event) -> Stepped
     ensures { λ r. ⌜ r ≡ stepped b e ⌝ }
 {
     match e {
-        Event::Lock { n, f } => lock(b, n, f),
+        Event::Lock { n, f, own } => lock(b, n, f, own),
         Event::Order { number } => open(b, number),
         Event::Cast {
             id,
@@ -43,5 +45,6 @@ pub fn step(b: Bench, e: Event) -> Stepped
         Event::Stop { id } => stop(b, id),
         Event::Save { id } => save(b, id),
         Event::Restore { id } => restore(b, id),
+        Event::OfBallots { event } => ballot(b, event),
     }
 }

@@ -2,7 +2,9 @@
 use crate::Stepped;
 use crate::stations::finish;
 use crate::stations::station_at;
+use ballot_rules::is_chosen;
 use bench_state::decide_question;
+use bench_state::may_give;
 use bench_state::present_question;
 use bench_state::restore_question;
 use bench_turns::condition_of;
@@ -21,7 +23,11 @@ pub(crate) fn decide(b: Bench, id: u8, to_move: bool) -> Stepped
     ensures { λ r. ⌜ r ≡ stepped b (Decide id «to_move») ⌝ }
 {
     let s = station_at(b, id);
-    let answer = decide_question(b.shared, condition_of(s), id, to_move);
+    let ballots = b.ballots;
+    let rows = ballots.rows;
+    let chosen = is_chosen(b.shared.n, rows, to_move);
+    let may = may_give(b.shared, chosen, to_move);
+    let answer = decide_question(b.shared, condition_of(s), may, id);
     finish(b, id, answer, decide_turn(b.shared, s, to_move))
 }
 

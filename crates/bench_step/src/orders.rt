@@ -1,5 +1,6 @@
-// A lock makes a new bench, an order renews every station.
+// A lock makes a new bench, an order renews every station and forgets the ballots.
 use crate::Stepped;
+use ballot_rules::new_ballots;
 use bench_state::bench_of;
 use bench_state::lock_question;
 use bench_state::may_open;
@@ -15,14 +16,14 @@ ghost use Rattle.model.specs.declared.Event.the-variants.{Lock, Order};
 ghost use Rattle.protocol.specs.Steps.{renewed, perform};
 ghost use Rattle.bench_step.specs.Steps.{stepped};
 
-pub(crate) fn lock(b: Bench, n: u8, f: u8) -> Stepped
-    ensures { λ r. ⌜ r ≡ stepped b (Lock n f) ⌝ }
+pub(crate) fn lock(b: Bench, n: u8, f: u8, own: bool) -> Stepped
+    ensures { λ r. ⌜ r ≡ stepped b (Lock n f own) ⌝ }
 {
     let answer = lock_question(b.shared, n, f);
     if answer != 0 {
         return Stepped { answer, bench: b };
     }
-    let bench = bench_of(true, n, f);
+    let bench = bench_of(true, n, f, own);
     Stepped { answer, bench }
 }
 
@@ -48,6 +49,7 @@ fn opened(b: Bench, order: u32) -> Bench
     let renewed = renew_all(stations);
     Bench {
         shared,
+        ballots: new_ballots(),
         stations: renewed,
     }
 }

@@ -58,14 +58,23 @@ pub(crate) fn finish(b: Bench, id: u8, answer: u8, t: Effect) -> Stepped
         return Stepped { answer, bench: b };
     }
     let shared = t.shared;
+    let ballots = b.ballots;
     let mut stations = b.stations;
     let at = (id - 1) as usize;
     if LIMIT <= at {
-        let bench = Bench { shared, stations };
+        let bench = Bench {
+            shared,
+            ballots,
+            stations,
+        };
         return Stepped { answer, bench };
     }
     let station = t.station;
     stations[at] = station;
-    let bench = Bench { shared, stations };
+    let bench = Bench {
+        shared,
+        ballots,
+        stations,
+    };
     Stepped { answer, bench }
 }

@@ -1,12 +1,14 @@
 -- What the report shows of a bench, in the words of protocol's Display.
 use Prim.Native.Nat.{ℕ}
 use mathlib.Core.Path.{_≡_, refl}
-use mathlib.Core.List.{[], map}
+use mathlib.Core.List.{List, [], map}
 use Rattle.ground.specs.Lists.{nth, map-at}
 use Rattle.model.specs.declared.Kind.the-variants.{Vote, Ack, Help, Helped}
 use Rattle.protocol.specs.declared.Condition.{Condition}
 use Rattle.protocol.specs.declared.Station.{Station}
+use Rattle.protocol.specs.declared.Shared.{Shared}
 use Rattle.protocol.specs.declared.Bench.{Bench}
+use Rattle.protocol.specs.Ballots.{newBallots}
 use Rattle.protocol.specs.Controllers.{outcomeIn}
 use Rattle.protocol.specs.Benches.{fresh, freshStation, station}
 use Rattle.protocol.specs.Display.{stageShown, shownStage, shownOutcome, shownPosition, messageCount}
@@ -28,6 +30,10 @@ messageCountsOf b = record { vote = messageCount b Vote; ack = messageCount b Ac
 
 unfoldable pub summaryOf : Bench → Summary
 summaryOf b = record { n = b .shared .n; rows = map rowOf (b .stations); messages = messageCountsOf b }
+
+-- the bench of these parts, as it is shown: no report shows its ballots
+abbrev pub shownOf : Shared → List Station → Bench
+shownOf m l = record { shared = m; ballots = newBallots; stations = l }
 
 -- the row of controller k is what the claim says that its C line shows
 pub shows : (b : Bench) (k : ℕ) → nth blankRow (summaryOf b .rows) k ≡ record { stage = shownStage b k; outcome = shownOutcome b k; position = shownPosition b k }

@@ -6,11 +6,12 @@ ghost use lib.Dec.{ltb};
 ghost use Rattle.ground.specs.Limit.{limit};
 ghost use Rattle.protocol.specs.Benches.{ofKind};
 ghost use Rattle.protocol.specs.Display.{messageCount};
+ghost use Rattle.bench_summary.specs.Summary.{shownOf};
 use ground::LIMIT;
 use ground::size;
 use model::Kind;
-use protocol::Bench;
 use protocol::Sent;
+use protocol::Shared;
 use protocol::Station;
 
 // To whom a controller has sent messages of this kind.
@@ -46,17 +47,16 @@ fn receivers_at(i: usize, kind: Kind, s: Station) -> u32
 }
 
 // The messages of one kind: each sender's receivers, counted.
-pub(crate) fn message_count(b: Bench, kind: Kind) -> u32
-    ensures { λ r. ⌜ r ≡ messageCount b kind ⌝ }
+pub(crate) fn message_count(m: Shared, stations: [Station; LIMIT], kind: Kind) -> u32
+    ensures { λ r. ⌜ r ≡ messageCount (shownOf m stations) kind ⌝ }
 {
-    let end = b.shared.n as usize;
-    let stations = b.stations;
+    let end = m.n as usize;
     let mut total: u32 = 0;
     let mut i: usize = 0;
     while i < end {
         let at = place_of(i);
         let s = stations[at];
-        total += size(receivers_at(i, kind, s), b.shared.n) as u32;
+        total += size(receivers_at(i, kind, s), m.n) as u32;
         i += 1;
     }
     total

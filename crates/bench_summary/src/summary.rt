@@ -1,32 +1,35 @@
 // What the report shows of a bench: a row for each controller, and the messages sent in this order, by kind.
 ghost use mathlib.Core.Path.{_≡_};
-ghost use Rattle.bench_summary.specs.Summary.{messageCountsOf, summaryOf};
+ghost use Rattle.protocol.specs.declared.Ballots.{Ballots};
+ghost use Rattle.bench_summary.specs.Summary.{shownOf, messageCountsOf, summaryOf};
 use crate::message_count::message_count;
 use crate::rows::rows_of;
 use bench_report::MessageCounts;
 use bench_report::Summary;
+use ground::LIMIT;
 use model::Kind;
-use protocol::Bench;
+use protocol::Shared;
+use protocol::Station;
 
-fn message_counts_of(b: Bench) -> MessageCounts
-    ensures { λ r. ⌜ r ≡ messageCountsOf b ⌝ }
+fn message_counts_of(m: Shared, stations: [Station; LIMIT]) -> MessageCounts
+    ensures { λ r. ⌜ r ≡ messageCountsOf (shownOf m stations) ⌝ }
 {
     MessageCounts {
-        vote: message_count(b, Kind::Vote),
-        ack: message_count(b, Kind::Ack),
-        help: message_count(b, Kind::Help),
-        helped: message_count(b, Kind::Helped),
+        vote: message_count(m, stations, Kind::Vote),
+        ack: message_count(m, stations, Kind::Ack),
+        help: message_count(m, stations, Kind::Help),
+        helped: message_count(m, stations, Kind::Helped),
     }
 }
 
-pub fn summary_of(b: Bench) -> Summary
-    ensures { λ r. ⌜ r ≡ summaryOf b ⌝ }
+// Of a bench with these parts, whatever its ballots: no report shows them.
+pub fn summary_of(m: Shared, stations: [Station; LIMIT]) -> Summary
+    ensures { λ r. ⌜ ((s : Ballots) → r ≡ summaryOf (record { shared = m; ballots = s; stations = stations })) ⌝ }
 {
-    let stations = b.stations;
     let rows = rows_of(stations);
-    let messages = message_counts_of(b);
+    let messages = message_counts_of(m, stations);
     Summary {
-        n: b.shared.n,
+        n: m.n,
         rows,
         messages,
     }

@@ -1,14 +1,22 @@
 // What an accepted event leaves of the station of the controller that it concerns: a turn. The step by value and the run go by these.
+mod ballots;
 mod effects;
 mod sends;
 mod stations;
 mod turns;
 
+pub use ballots::ballot_answer;
+pub use ballots::ballot_of;
+pub use ballots::chosen_at;
+pub use ballots::report_in;
+pub use ballots::subject_of;
+pub use ballots::word_in;
 pub use effects::answering;
 pub use stations::condition_of;
 pub use stations::identity;
 pub use stations::is_saved;
 pub use stations::outgoing;
+pub use stations::proposal_of;
 pub use turns::cast_turn;
 pub use turns::decide_turn;
 pub use turns::first_turn;

@@ -1,5 +1,6 @@
 // What the questions and the turns look at in a station.
 use model::Kind;
+use model::Outcome;
 use protocol::Condition;
 use protocol::Identity;
 use protocol::Outgoing;
@@ -17,6 +18,15 @@ pub fn condition_of(s: Station) -> Condition
     let c = s.controller;
     let condition = c.condition;
     condition
+}
+
+// The word that it has put.
+pub fn proposal_of(s: Station) -> Outcome
+    ensures { λ r. ⌜ r ≡ s .controller .proposal ⌝ }
+{
+    let c = s.controller;
+    let proposal = c.proposal;
+    proposal
 }
 
 // Has it a checkpoint?

@@ -121,5 +121,5 @@ pub fn round_trips()
 
 // In which sequence the questions are put: to a record that is read; to a buffer and a checkpoint to be written into it.
 pub fn asked_in_sequence()
-    ensures { λ _. ⌜ AskedInSequence checkpoints (1 ∷ 2 ∷ 3 ∷ 4 ∷ 7 ∷ 8 ∷ 11 ∷ []) (1 ∷ 4 ∷ 7 ∷ 8 ∷ 11 ∷ []) ⌝ }
+    ensures { λ _. ⌜ AskedInSequence checkpoints (λ k. 1 ∷ 2 ∷ 3 ∷ 4 ∷ 7 ∷ 8 ∷ 11 ∷ []) (λ k. 1 ∷ 4 ∷ 7 ∷ 8 ∷ 11 ∷ []) ⌝ }
 {}

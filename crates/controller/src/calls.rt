@@ -25,9 +25,9 @@ ghost use mathlib.Core.Bool.{_&&_};
 ghost use Rattle.protocol.specs.Controllers.{runs};
 ghost use Rattle.protocol.specs.Calls.{validIdentity, vote, addressed, tested, receive, timeout};
 
-// A controller of a lock, in an order, and running.
-fn takes_part(me: Identity, c: Controller) -> bool
-    ensures { λ r. ⌜ r ≡ (validIdentity me && runs c) ⌝ }
+// A controller of a lock, in an order.
+pub(crate) fn valid_identity(me: Identity) -> bool
+    ensures { λ r. ⌜ r ≡ validIdentity me ⌝ }
 {
     if !sizes_in_range(me.n, me.f) {
         return false;
@@ -35,7 +35,14 @@ fn takes_part(me: Identity, c: Controller) -> bool
     if !is_controller(me.n, me.id) {
         return false;
     }
-    if me.order < 1 {
+    1 <= me.order
+}
+
+// It is one, and runs.
+fn takes_part(me: Identity, c: Controller) -> bool
+    ensures { λ r. ⌜ r ≡ (validIdentity me && runs c) ⌝ }
+{
+    if !valid_identity(me) {
         return false;
     }
     let now = c.condition;

@@ -1,9 +1,14 @@
 // A controller as a step machine: a call goes in by value, an answer with the next controller comes out. A call at a wrong stage or in a wrong
 // condition changes nothing, and the answer says so.
+mod ballot_sequence;
+mod ballots;
 mod calls;
 mod lifecycle;
 mod sequence;
 
+pub use ballot_sequence::nth_ballot_message;
+pub use ballots::open;
+pub use ballots::receive_ballot;
 pub use calls::receive;
 pub use calls::timeout;
 pub use calls::vote;

@@ -51,11 +51,12 @@ pub record Alike (c c′ : Controller) : Type 0 where
   pub condition : c′ .condition ≡ c .condition
   pub sets : c′ .acks .sets ≡ c .acks .sets
   pub position : c′ .gate .position ≡ c .gate .position
+  pub proposal : c′ .proposal ≡ c .proposal
 
 pub alike : (c : Controller) → Alike c (withoutKept c)
 unfolding withoutKept
 alike c = by-cond (Alike c) (leb (phase c) 2) (withCallers c 0) c
-    (λ e. record { condition = refl; sets = refl; position = refl }) (λ e. record { condition = refl; sets = refl; position = refl })
+    (λ e. record { condition = refl; sets = refl; position = refl; proposal = refl }) (λ e. record { condition = refl; sets = refl; position = refl; proposal = refl })
 
 -- an answer, and the answer of the controller without kept calls
 pub record Matches (a a′ : Answer) : Type 0 where

@@ -12,7 +12,7 @@ use Rattle.model.specs.RangeLaws.{ranges, member}
 use Rattle.model.specs.QuestionLaws.{all-yes}
 use Rattle.model.specs.declared.Kind.the-variants.{Vote, Ack, Help, Helped}
 use Rattle.model.specs.declared.Event.{Event}
-use Rattle.model.specs.declared.Event.the-variants.{Lock, Order, Cast, Deliver, Timeout, Decide, Stop, Save, Restore}
+use Rattle.model.specs.declared.Event.the-variants.{Lock, Order, Cast, Deliver, Timeout, Decide, Stop, Save, Restore, OfBallots}
 use Rattle.message_record.specs.Messages.{aboutMessage}
 use Rattle.protocol.specs.declared.Condition.{Condition}
 use Rattle.protocol.specs.declared.Controller.{Controller}
@@ -20,7 +20,7 @@ use Rattle.protocol.specs.declared.Bench.{Bench}
 use Rattle.protocol.specs.Controllers.{phaseIn, phase}
 use Rattle.protocol.specs.Benches.{benchOf, newBench, controller}
 use Rattle.protocol.specs.Events.{subject, source, receiversIn}
-use Rattle.protocol.specs.Questions.{accepted, isAccepted, firstNo, mayOpen, isSaved, questionsOf, reply}
+use Rattle.protocol.specs.Questions.{accepted, isAccepted, firstNo, mayOpen, mayGive, isSaved, questionsOf, reply}
 use Rattle.protocol.specs.Steps.{step, run}
 use Rattle.protocol.specs.Display.{WasSent}
 use Rattle.protocol.specs.NoContradiction.{untestedReply}
@@ -39,7 +39,7 @@ use Rattle.early_calls.proofs.Views.{forgetV, step-forget, call-forget,
 -- document 01's bench steps as its view does
 early-sim : (b : Bench) (e : Event) → earlyV (view b) e ≡ isEarly b e
 unfolding view
-early-sim b (Lock a c) = refl
+early-sim b (Lock a c own) = refl
 early-sim b (Order o) = refl
 early-sim b (Cast i w t) = refl
 early-sim b (Deliver i j Vote) = refl
@@ -51,6 +51,7 @@ early-sim b (Decide i w) = refl
 early-sim b (Stop i) = refl
 early-sim b (Save i) = refl
 early-sim b (Restore i) = refl
+early-sim b (OfBallots e) = refl
 
 step01-sim : (b : Bench) (ok : Sound b) (e : Event) → view (step01 b e) ≡ stepV01 (b .shared .n) (b .shared .f) (view b) e
 unfolding step01 stepV01
@@ -142,7 +143,7 @@ module _ (b : Bench) (ok : Fine b) (a : Sound b) where
 
   together : (e : Event) → Together e
   unfolding runV01 stepV01
-  together (Lock x y) = step-forget n f v (Lock x y) (λ q. tt)
+  together (Lock x y own) = step-forget n f v (Lock x y own) (λ q. tt)
   together (Order o) = step-forget n f v (Order o) (λ q. tt)
   together (Cast i w t) = step-forget n f v (Cast i w t) (λ q. tt)
   together (Deliver i j Vote) = step-forget n f v (Deliver i j Vote) (λ q. tt)
@@ -154,6 +155,7 @@ module _ (b : Bench) (ok : Fine b) (a : Sound b) where
   together (Stop i) = step-forget n f v (Stop i) (λ q. tt)
   together (Save i) = step-forget n f v (Save i) (λ q. tt)
   together (Restore i) = step-forget n f v (Restore i) (λ q. tt)
+  together (OfBallots e) = step-forget n f v (OfBallots e) (λ q. tt)
 
 -- the bench, and document 01's: both new, or with the same lock and the same view but for the calls kept
 record Both (b b₁ : Bench) : Type 0 where
@@ -171,28 +173,30 @@ none-kept : (c : Controller) → c .help .callers ≡ 0 → withoutKept c ≡ c
 unfolding withoutKept
 none-kept c z = by-cond (λ (x : Controller). x ≡ c) (leb (phase c) 2) _ _ (λ e. ap (withCallers c) (sym z)) (λ e. refl)
 
-fresh-kept : (locked : Bool) (n f k : ℕ) → withoutKept (controller (benchOf locked n f) k) ≡ controller (benchOf locked n f) k
-fresh-kept locked n f k = none-kept _ (freshes locked n f k .ctl .calls-none)
+fresh-kept : (locked : Bool) (n f : ℕ) (own : Bool) (k : ℕ) → withoutKept (controller (benchOf locked n f own) k) ≡ controller (benchOf locked n f own) k
+fresh-kept locked n f own k = none-kept _ (freshes locked n f own k .ctl .calls-none)
 
 locked-rel : (b : Bench) → JustLocked b → Both b b
 locked-rel b l = subst (λ (x : Bench). Both x x) (sym (l .is)) (record {
-  sound = lock-sound (l .n) (l .f) (l .sized);
-  sound₁ = lock-sound (l .n) (l .f) (l .sized);
+  sound = lock-sound (l .n) (l .f) (l .own) (l .sized);
+  sound₁ = lock-sound (l .n) (l .f) (l .own) (l .sized);
   same-n = refl;
   same-f = refl;
   view-is = unfold view forgetV in λ p. record {
-    order = (benchOf true (l .n) (l .f)) .shared .order;
-    state = (view (benchOf true (l .n) (l .f))) .state;
-    ctl = λ k. sym (fresh-kept true (l .n) (l .f) k) p;
-    saved = (view (benchOf true (l .n) (l .f))) .saved;
-    counts = (view (benchOf true (l .n) (l .f))) .counts;
+    own = (view (benchOf true (l .n) (l .f) (l .own))) .own;
+    order = (benchOf true (l .n) (l .f) (l .own)) .shared .order;
+    state = (view (benchOf true (l .n) (l .f) (l .own))) .state;
+    ctl = λ k. sym (fresh-kept true (l .n) (l .f) (l .own) k) p;
+    saved = (view (benchOf true (l .n) (l .f) (l .own))) .saved;
+    counts = (view (benchOf true (l .n) (l .f) (l .own))) .counts;
+    ballots = (view (benchOf true (l .n) (l .f) (l .own))) .ballots;
   };
 })
 
 -- on the new bench
 new-same : (e : Event) → run01 (step01 newBench e) (onceMore newBench e) ≡ step newBench e
 unfolding run01 step01
-new-same (Lock n f) = refl
+new-same (Lock n f own) = refl
 new-same (Order o) = refl
 new-same (Cast i w t) = refl
 new-same (Deliver i j Vote) = refl
@@ -204,6 +208,7 @@ new-same (Decide i w) = refl
 new-same (Stop i) = refl
 new-same (Save i) = refl
 new-same (Restore i) = refl
+new-same (OfBallots e) = refl
 
 new-rel : (e : Event) → Rel (step newBench e) (run01 (step01 newBench e) (onceMore newBench e))
 new-rel e = subst (Rel (step newBench e)) (sym (new-same e)) (elim (new-step e) [ inl z ↦ inl (z, z) | inr l ↦ inr (locked-rel (step newBench e) l) ])
@@ -239,16 +244,18 @@ run-rel (e ∷ es) b b₁ ok r = subst (Rel (run (step b e) es)) (sym (run01-app
 
 -- the statement
 rel-same : (b b₁ : Bench) → Rel b b₁ → SameButKept b b₁
-rel-same b b₁ (inl z) = subst (λ (x : Bench). SameButKept x b₁) (sym (z .0)) (subst (SameButKept newBench) (sym (z .1)) (record { shared = refl; controllers = λ i. fresh-kept false 0 0 i; sent = λ i. refl; saved = λ i. refl }))
+rel-same b b₁ (inl z) = subst (λ (x : Bench). SameButKept x b₁) (sym (z .0)) (subst (SameButKept newBench) (sym (z .1)) (record { shared = refl; ballots = refl; controllers = λ i. fresh-kept false 0 0 false i; sent = λ i. refl; saved = λ i. refl }))
 rel-same b b₁ (inr r) = unfold view forgetV in record {
   shared = λ p. record {
     locked = (r .sound .locked ∙ sym (r .sound₁ .locked)) p;
     n = sym (r .same-n) p;
     f = sym (r .same-f) p;
+    own = (sym (r .view-is) p) .own;
     order = (sym (r .view-is) p) .order;
     consensus = (sym (r .view-is) p) .state .consensus;
     counts = (sym (r .view-is) p) .counts;
   };
+  ballots = λ p. (sym (r .view-is) p) .ballots;
   controllers = λ i. λ p. (sym (r .view-is) p) .ctl i;
   sent = λ i. λ p. (sym (r .view-is) p) .state .sent i;
   saved = λ i. λ p. (sym (r .view-is) p) .saved i;
@@ -263,8 +270,14 @@ untested-same b b₁ e s = λ p. firstNo (questionsOf (record {
   receivers = receiversIn e (s .sent (source e) p);
   may-open = mayOpen (s .shared p);
   agrees = true;
+  may-give = mayGive (s .shared p) (s .ballots p);
+  ballots = s .ballots p;
+  proposal = proposal (subject e) p;
 }) e)
   where
+    proposal : (i : ℕ) → (controller b i) .proposal ≡ (controller b₁ i) .proposal
+    proposal i = sym (alike (controller b i) .proposal) ∙ ap (λ (x : Controller). x .proposal) (s .controllers i)
+
     condition : (i : ℕ) → (controller b i) .condition ≡ (controller b₁ i) .condition
     condition i = sym (alike (controller b i) .condition) ∙ ap (λ (x : Controller). x .condition) (s .controllers i)
 

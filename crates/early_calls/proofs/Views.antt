@@ -25,7 +25,7 @@ use Rattle.model.specs.declared.Kind.the-variants.{Vote, Ack, Help, Helped}
 use Rattle.model.specs.declared.Outcome.{Outcome}
 use Rattle.model.specs.declared.Outcome.the-variants.{None}
 use Rattle.model.specs.declared.Event.{Event}
-use Rattle.model.specs.declared.Event.the-variants.{Lock, Order, Cast, Deliver, Timeout, Decide, Stop, Save, Restore}
+use Rattle.model.specs.declared.Event.the-variants.{Lock, Order, Cast, Deliver, Timeout, Decide, Stop, Save, Restore, OfBallots}
 use Rattle.protocol.specs.declared.Condition.{Condition}
 use Rattle.protocol.specs.declared.Condition.the-variants.{Stopped}
 use Rattle.protocol.specs.declared.Counts.{Counts}
@@ -44,7 +44,8 @@ use Rattle.protocol.specs.Events.{subject, source, receiversIn}
 use Rattle.protocol.specs.Questions.{isAccepted, firstNo, mayOpen, isSaved, questionsOf}
 use Rattle.protocol.specs.Steps.{renewed, orderOpened}
 use Rattle.protocol.specs.Sequence.{members}
-use Rattle.protocol.proofs.view.View.{View, sharedV, accepts, openedV, ask-l, ask-r, part}
+use Rattle.protocol.specs.BallotSteps.{ballotSubject, ballotsAfter}
+use Rattle.protocol.proofs.view.View.{View, ballotsV, mayGiveV, sharedV, accepts, openedV, ask-l, ask-r, part}
 use Rattle.protocol.proofs.view.Performed.{commitV, chosen, savedV, checkpointAt, identityV, timeoutRule, performV, stepV}
 use Rattle.early_calls.specs.Document01.{withCallers, withoutKept}
 use Rattle.early_calls.proofs.Timeouts.{answeredTo, timeout-kept, Frozen, timeout-frozen}
@@ -52,12 +53,13 @@ use Rattle.early_calls.proofs.Rules.{by-equal, early, late, alike, Matc
 
 -- without the calls kept
 unfoldable pub forgetV : View → View
-forgetV v = record { order = v .order; state = v .state; ctl = λ k. withoutKept (v .ctl k); saved = v .saved; counts = v .counts }
+forgetV v = record { own = v .own; order = v .order; state = v .state; ctl = λ k. withoutKept (v .ctl k); saved = v .saved; counts = v .counts; ballots = v .ballots }
 
 -- one controller's answer, put back
 commit-forget : (v : View) (i : ℕ) (a a′ : Answer) → Matches a a′ → forgetV (commitV v i a) ≡ commitV (forgetV v) i a′
 unfolding forgetV commitV
 commit-forget v i a a′ m = λ p. record {
+  own = v .own;
   order = v .order;
   state = record {
     sent = upd (v .state .sent) i (sentAfter (v .state .sent i) (m .sends p));
@@ -70,6 +72,7 @@ commit-forget v i a a′ m = λ p. record {
   ctl = (part withoutKept (v .ctl) i (a .controller) ∙ ap (upd (λ k. withoutKept (v .ctl k)) i) (m .next)) p;
   saved = v .saved;
   counts = countsAfter (sym (alike (v .ctl i) .condition) p) ((sym (alike (a .controller) .condition) ∙ ap (λ (x : Controller). x .condition) (m .next)) p) (v .counts);
+  ballots = v .ballots;
 }
 
 -- the counts of a controller whose condition stays
@@ -86,6 +89,7 @@ unsaid said z x o e = ap (λ (o : Outcome). x || said o) e ∙ ap (λ (y : Bool)
 commit-kept : (v : View) (i : ℕ) (a : Answer) → KeptAlone (v .ctl i) a → forgetV (commitV v i a) ≡ forgetV v
 unfolding forgetV commitV
 commit-kept v i a m = λ p. record {
+  own = v .own;
   order = v .order;
   state = record {
     sent = upd-id (v .state .sent) i (sentAfter (v .state .sent i) (a .sends)) (ap (sentAfter (v .state .sent i)) (m .sends) ∙ silent) p;
@@ -98,6 +102,7 @@ commit-kept v i a m = λ p. record {
   ctl = (part withoutKept (v .ctl) i (a .controller) ∙ upd-id (λ k. withoutKept (v .ctl k)) i (withoutKept (a .controller)) (m .next)) p;
   saved = v .saved;
   counts = counts-same ((v .ctl i) .condition) (a .controller .condition) (v .counts) (sym (alike (a .controller) .condition) ∙ ap (λ (x : Controller). x .condition) (m .next) ∙ alike (v .ctl i) .condition) p;
+  ballots = v .ballots;
 }
   where
     silent : sentAfter (v .state .sent i) nothing ≡ v .state .sent i
@@ -105,7 +110,7 @@ commit-kept v i a m = λ p. record {
 
 -- a help call to one that is before stage 3
 abbrev pub earlyV : View → Event → Bool
-earlyV v (Lock a c) = false
+earlyV v (Lock a c own) = false
 earlyV v (Order o) = false
 earlyV v (Cast i w t) = false
 earlyV v (Deliver i j Vote) = false
@@ -117,6 +122,7 @@ earlyV v (Decide i w) = false
 earlyV v (Stop i) = false
 earlyV v (Save i) = false
 earlyV v (Restore i) = false
+earlyV v (OfBallots e) = false
 
 module _ (n f : ℕ) where
   -- the questions look at no kept call
@@ -129,11 +135,14 @@ module _ (n f : ℕ) where
     receivers = receiversIn e (v .state .sent (source e));
     may-open = mayOpen (sharedV n f v);
     agrees = true;
+    may-give = mayGiveV (sharedV n f v) (v .ballots);
+    ballots = v .ballots;
+    proposal = alike (v .ctl (subject e)) .proposal p;
   }) e))
 
   -- an accepted event other than an early call and a second timeout
   abbrev Apart : View → Event → Type 0
-  Apart v (Lock a c) = Unit {0}
+  Apart v (Lock a c own) = Unit {0}
   Apart v (Order o) = Unit {0}
   Apart v (Cast i w t) = Unit {0}
   Apart v (Deliver i j Vote) = Unit {0}
@@ -145,6 +154,7 @@ module _ (n f : ℕ) where
   Apart v (Stop i) = Unit {0}
   Apart v (Save i) = Unit {0}
   Apart v (Restore i) = Unit {0}
+  Apart v (OfBallots e) = Unit {0}
 
   first-rule : (i : ℕ) (c : Controller) → eqb (phase c) 1 ≡ true → timeoutRule n f i c ≡ firstTimeout n f i c
   unfolding timeoutRule
@@ -157,17 +167,19 @@ module _ (n f : ℕ) where
   saved-forget : (v : View) (i : ℕ) → forgetV (savedV v i (checkpointAt n f v i)) ≡ savedV (forgetV v) i (checkpointAt n f (forgetV v) i)
   unfolding forgetV savedV
   saved-forget v i = λ p. record {
+    own = v .own;
     order = v .order;
     state = v .state;
     ctl = λ k. withoutKept (v .ctl k);
     saved = upd (v .saved) i (Newest (record { id = i; n = n; f = f; outcome = outcomeIn (sym (alike (v .ctl i) .condition) p); order = v .order; position = sym (alike (v .ctl i) .position) p }));
     counts = v .counts;
+    ballots = v .ballots;
   }
 
   perform-forget : (v : View) (e : Event) → accepts n f v e ≡ true → Apart v e → forgetV (performV n f v e) ≡ performV n f (forgetV v) e
   unfolding performV accepts firstNo forgetV arrives
-  perform-forget v (Lock a c) q t = refl
-  perform-forget v (Order o) q t = unfold openedV renewed orderOpened in λ p. record { order = o; state = (openedV n f v o) .state; ctl = λ k. renew-kept (v .ctl k) p; saved = v .saved; counts = (openedV n f v o) .counts }
+  perform-forget v (Lock a c own) q t = refl
+  perform-forget v (Order o) q t = unfold openedV renewed orderOpened in λ p. record { own = (openedV n f v o) .own; order = o; state = (openedV n f v o) .state; ctl = λ k. renew-kept (v .ctl k) p; saved = v .saved; counts = (openedV n f v o) .counts; ballots = (openedV n f v o) .ballots }
   perform-forget v (Cast i w g) q t = commit-forget v i _ _ (cast-matches n f i w g (v .ctl i) (search (ask-l, ask-r) depth 14))
   perform-forget v (Deliver i j Vote) q t = commit-forget v j _ _ (vote-matches _ (v .ctl j))
   perform-forget v (Deliver i j Ack) q t = commit-forget v j _ _ (ack-matches n f i _ (v .ctl j))
@@ -178,6 +190,15 @@ module _ (n f : ℕ) where
   perform-forget v (Stop i) q t = commit-forget v i _ _ (becomes-matches _ _ (cleared-kept Stopped (v .ctl i) refl))
   perform-forget v (Save i) q t = saved-forget v i
   perform-forget v (Restore i) q t = commit-forget v i _ _ (restore-matches (identityV n f v i) (v .saved i) (v .ctl i))
+  perform-forget v (OfBallots e) q t = unfold ballotsV in λ p. record {
+    own = v .own;
+    order = v .order;
+    state = v .state;
+    ctl = λ k. withoutKept (v .ctl k);
+    saved = v .saved;
+    counts = v .counts;
+    ballots = ballotsAfter n (v .ballots) (sym (alike (v .ctl (ballotSubject e)) .proposal) p) e;
+  }
 
   pub step-forget : (v : View) (e : Event) → (accepts n f v e ≡ true → Apart v e) → forgetV (stepV n f v e) ≡ stepV n f (forgetV v) e
   unfolding stepV
@@ -303,6 +324,7 @@ module _ (n f : ℕ) where
     answered-more : (m j : ℕ) → 1 ≤ j → j ≤ n → commitV (afterTimeout m) i (answersCall j (d m)) ≡ afterTimeout (insert m j)
     unfolding commitV forgetV answersCall addCaller
     answered-more m j lo hi = λ p. record {
+      own = v .own;
       order = v .order;
       state = record {
         sent = again (v .state .sent) (sentAfter (v .state .sent i) ((answeredTo m s timedOut) .sends)) _ _ outgoing p;
@@ -315,6 +337,7 @@ module _ (n f : ℕ) where
       ctl = again (λ k. withoutKept (v .ctl k)) (d m) (addCaller (d m) j) (d (insert m j)) refl p;
       saved = v .saved;
       counts = counts-same (((afterTimeout m) .ctl i) .condition) (d m .condition) ((afterTimeout m) .counts) (sym (ap (λ (x : Controller). x .condition) (upd-same (λ k. withoutKept (v .ctl k)) i (d m)))) p;
+      ballots = v .ballots;
     }
       where
         outgoing : sentAfter ((afterTimeout m) .state .sent i) (helps Nothing (To (insert 0 j) (timedOut .controller .help .votes))) ≡ sentAfter (v .state .sent i) ((answeredTo (insert m j) s timedOut) .sends)

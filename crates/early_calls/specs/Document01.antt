@@ -8,7 +8,7 @@ use mathlib.Core.List.{List, [], _∷_, _++_, map}
 use lib.Dec.{eqb, leb}
 use Rattle.model.specs.declared.Kind.the-variants.{Vote, Ack, Help, Helped}
 use Rattle.model.specs.declared.Event.{Event}
-use Rattle.model.specs.declared.Event.the-variants.{Lock, Order, Cast, Deliver, Timeout, Decide, Stop, Save, Restore}
+use Rattle.model.specs.declared.Event.the-variants.{Lock, Order, Cast, Deliver, Timeout, Decide, Stop, Save, Restore, OfBallots}
 use Rattle.protocol.specs.declared.Controller.{Controller}
 use Rattle.protocol.specs.declared.Bench.{Bench}
 use Rattle.protocol.specs.Controllers.{phase, withHelp}
@@ -20,7 +20,7 @@ use Rattle.protocol.specs.Claim.{after}
 
 -- a help call to one that is before stage 3
 abbrev pub isEarly : Bench → Event → Bool
-isEarly b (Lock n f) = false
+isEarly b (Lock n f own) = false
 isEarly b (Order o) = false
 isEarly b (Cast i willing target) = false
 isEarly b (Deliver i j Vote) = false
@@ -32,6 +32,7 @@ isEarly b (Decide i move) = false
 isEarly b (Stop i) = false
 isEarly b (Save i) = false
 isEarly b (Restore i) = false
+isEarly b (OfBallots e) = false
 
 -- Document 01's bench: "Before stage 3 it is passed over." So none is kept, and a second timeout answers nobody; in all else it steps as the bench does
 unfoldable pub step01 : Bench → Event → Bench
@@ -49,7 +50,7 @@ abbrev pub keptCalls : Bench → ℕ → List Event
 keptCalls b i = map (λ j. Deliver j i Help) (members (b .shared .n) ((controller b i) .help .callers))
 
 abbrev pub onceMore : Bench → Event → List Event
-onceMore b (Lock n f) = []
+onceMore b (Lock n f own) = []
 onceMore b (Order o) = []
 onceMore b (Cast i willing target) = []
 onceMore b (Deliver i j kind) = []
@@ -58,6 +59,7 @@ onceMore b (Decide i move) = []
 onceMore b (Stop i) = []
 onceMore b (Save i) = []
 onceMore b (Restore i) = []
+onceMore b (OfBallots e) = []
 
 -- the list with each kept call once more, along the bench that keeps them
 unfoldable pub lengthened : Bench → List Event → List Event
@@ -74,6 +76,7 @@ withoutKept c = cond (leb (phase c) 2) (withCallers c 0) c
 -- the same bench, but for the calls kept
 pub record SameButKept (b b₁ : Bench) : Type 0 where
   pub shared : b .shared ≡ b₁ .shared
+  pub ballots : b .ballots ≡ b₁ .ballots
   pub controllers : (i : ℕ) → withoutKept (controller b i) ≡ controller b₁ i
   pub sent : (i : ℕ) → sentBy b i ≡ sentBy b₁ i
   pub saved : (i : ℕ) → (station b i) .saved ≡ (station b₁ i) .saved

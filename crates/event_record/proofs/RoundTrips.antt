@@ -1,41 +1,45 @@
 -- Event records, both ways round: the description is lawful. By the kind: what is unused is 0, and flags and kinds are what their numbers stand for.
 use Prim.Native.Nat.{ℕ, zero, suc, _<_}
 use mathlib.Core.Path.{_≡_, refl, sym, _∙_, ap}
-use mathlib.Core.Bool.{Bool, true, _&&_}
+use mathlib.Core.Bool.{Bool, true, false, cond, _&&_}
 use mathlib.Core.List.{List}
+use mathlib.Core.Logic.{inl, inr}
 use native.Mathlib.Omega.{arith}
 use lib.ListN.{getD, length}
 use borrow.Author.Tests.{eqb-true}
-use Rattle.ground.specs.Tests.{and-l, and-r, no-both}
-use Rattle.model.specs.Numbers.{kindNumber}
+use Rattle.ground.specs.Tests.{split, and-l, and-r, no-both}
+use Rattle.model.specs.Numbers.{kindNumber, ballotKindNumber}
 use Rattle.model.specs.declared.Event.{Event}
-use Rattle.model.specs.declared.Event.the-variants.{Lock, Order, Cast, Deliver, Timeout, Decide, Stop, Save, Restore}
+use Rattle.model.specs.declared.Event.the-variants.{Lock, Order, Cast, Deliver, Timeout, Decide, Stop, Save, Restore, OfBallots}
+use Rattle.model.specs.declared.BallotEvent.the-variants.{Open, Carry}
 use Rattle.records.specs.ByteLaws.{spread}
-use Rattle.records.specs.Codes.{isKind, kindOf, isFlag, flagOf, flagNumber, unused}
-use Rattle.records.specs.CodeLaws.{kind-listed, kind-of-number, number-of-kind, flag-listed, flag-of-number, number-of-flag}
+use Rattle.records.specs.Codes.{isKind, kindOf, isBallotKind, ballotKindOf, isFlag, flagOf, flagNumber, unused}
+use Rattle.records.specs.CodeLaws.{kind-listed, kind-of-number, number-of-kind, ballot-kind-listed, ballot-kind-of-number, number-of-ballot-kind, kinds-apart, flag-listed, flag-of-number, number-of-flag}
 use Rattle.records.specs.CodecLaws.{Lawful, promises-kept}
 use Rattle.records.specs.Promises.{Promises}
 use Rattle.records.specs.Rows.{rowOf}
-use Rattle.event_record.specs.Events.{fields, fieldsIn, numbersIn, fieldsOf, rows, rowFor, events}
+use Rattle.event_record.specs.Events.{fields, fieldsIn, numbersIn, ballotFields, fieldsOf, deliveryListed, deliveryOf, rows, rowFor, events}
 use Rattle.event_record.specs.declared.Fields.{Fields}
 use Rattle.event_record.proofs.Rows.{no-row}
 
 -- every event is in the table: as itself, and listed
 event-found : (e : Event) → rowFor (fieldsOf e) .value ≡ e
-unfolding rowFor rowOf rows fieldsOf
-event-found (Lock n f) = refl
+unfolding rowFor rowOf rows fieldsOf ballotFields
+event-found (Lock n f own) = ap (λ (b : Bool). Lock n f b) (flag-of-number own)
 event-found (Order o) = refl
 event-found (Cast id w t) = ap (λ (b : Bool). Cast id b t) (flag-of-number w)
-event-found (Deliver i j k) = rw (kind-of-number k)
+event-found (Deliver i j k) = rw (kind-listed k, kind-of-number k)
 event-found (Timeout id) = refl
 event-found (Decide id m) = rw (flag-of-number m)
 event-found (Stop id) = refl
 event-found (Save id) = refl
 event-found (Restore id) = refl
+event-found (OfBallots (Open id b)) = refl
+event-found (OfBallots (Carry i j k b)) = rw (kinds-apart k, ballot-kind-of-number k)
 
 event-listed : (e : Event) → rowFor (fieldsOf e) .listed ≡ true
-unfolding rowFor rowOf rows fieldsOf
-event-listed (Lock n f) = refl
+unfolding rowFor rowOf rows fieldsOf ballotFields
+event-listed (Lock n f own) = rw (flag-listed own)
 event-listed (Order o) = refl
 event-listed (Cast id w t) = rw (flag-listed w)
 event-listed (Deliver i j k) = rw (kind-listed k)
@@ -44,6 +48,8 @@ event-listed (Decide id m) = rw (flag-listed m)
 event-listed (Stop id) = refl
 event-listed (Save id) = refl
 event-listed (Restore id) = refl
+event-listed (OfBallots (Open id b)) = refl
+event-listed (OfBallots (Carry i j k b)) = rw (kinds-apart k, ballot-kind-listed k)
 
 -- fields that are unused are 0
 both : (x y : ℕ) → (unused x && unused y) ≡ true → (x ≡ 0) × (y ≡ 0)
@@ -57,24 +63,29 @@ all-three x y z t =
 flag-then : (x y : ℕ) → (isFlag x && unused y) ≡ true → (flagNumber (flagOf x) ≡ x) × (y ≡ 0)
 flag-then x y t = (number-of-flag x (and-l (isFlag x) (unused y) t), eqb-true y 0 (and-r (isFlag x) (unused y) t))
 
-kind-then : (x y : ℕ) → (isKind x && unused y) ≡ true → (kindNumber (kindOf x) ≡ x) × (y ≡ 0)
-kind-then x y t = (number-of-kind x (and-l (isKind x) (unused y) t), eqb-true y 0 (and-r (isKind x) (unused y) t))
-
 flag-both : (x y z : ℕ) → (isFlag x && unused y && unused z) ≡ true → (flagNumber (flagOf x) ≡ x) × ((y ≡ 0) × (z ≡ 0))
 flag-both x y z t =
     let e : (flagNumber (flagOf x) ≡ x) × (y ≡ 0) = flag-then x y (and-l (isFlag x && unused y) (unused z) t) in
     (e .0, (e .1, eqb-true z 0 (and-r (isFlag x && unused y) (unused z) t)))
 
-unlisted : (x : Fields) → 8 < x .kind → rowFor x .listed ≡ true → ⊥
-unlisted x h t = no-both (rowFor x .listed) t (rw (no-row x h))
+-- a delivery: of a plain telegram, or of one of a ballot
+delivered : (a b c v : ℕ) → deliveryListed c v ≡ true → fieldsOf (deliveryOf a b c v) ≡ fields 3 a b c v
+unfolding fieldsOf ballotFields
+delivered a b c v t = elim (split (isKind c)) [
+  | inl y ↦ let z : v ≡ 0 = eqb-true v 0 (rw y at t) in rw (y, number-of-kind c y, z)
+  | inr n ↦ rw (n, number-of-ballot-kind c (rw n at t))
+]
+
+unlisted : (x : Fields) → 8 < x .kind → (x .kind ≡ 10 → ⊥) → rowFor x .listed ≡ true → ⊥
+unlisted x h n t = no-both (rowFor x .listed) t (rw (no-row x h n))
 
 -- the table gives back the fields that it was asked for
 same-fields : (k a b c v : ℕ) → rowFor (fields k a b c v) .listed ≡ true → fieldsOf (rowFor (fields k a b c v) .value) ≡ fields k a b c v
-unfolding rowFor rowOf rows fieldsOf
-same-fields zero a b c v t = let e : (c ≡ 0) × (v ≡ 0) = both c v t in rw (e .0, e .1)
+unfolding rowFor rowOf rows fieldsOf ballotFields
+same-fields zero a b c v t = let e : (flagNumber (flagOf c) ≡ c) × (v ≡ 0) = flag-then c v t in rw (e .0, e .1)
 same-fields (suc zero) a b c v t = let e : (a ≡ 0) × ((b ≡ 0) × (c ≡ 0)) = all-three a b c t in rw (e .0, e .1 .0, e .1 .1)
 same-fields (suc (suc zero)) a b c v t = let e : (flagNumber (flagOf b) ≡ b) × (c ≡ 0) = flag-then b c t in rw (e .0, e .1)
-same-fields (suc (suc (suc zero))) a b c v t = let e : (kindNumber (kindOf c) ≡ c) × (v ≡ 0) = kind-then c v t in rw (e .0, e .1)
+same-fields (suc (suc (suc zero))) a b c v t = delivered a b c v t
 same-fields (suc (suc (suc (suc zero)))) a b c v t = let e : (b ≡ 0) × ((c ≡ 0) × (v ≡ 0)) = all-three b c v t in rw (e .0, e .1 .0, e .1 .1)
 same-fields (suc (suc (suc (suc (suc zero))))) a b c v t =
     let e : (flagNumber (flagOf b) ≡ b) × ((c ≡ 0) × (v ≡ 0)) = flag-both b c v t in rw (e .0, e .1 .0, e .1 .1)
@@ -84,8 +95,11 @@ same-fields (suc (suc (suc (suc (suc (suc (suc zero))))))) a b c v t =
     let e : (b ≡ 0) × ((c ≡ 0) × (v ≡ 0)) = all-three b c v t in rw (e .0, e .1 .0, e .1 .1)
 same-fields (suc (suc (suc (suc (suc (suc (suc (suc zero)))))))) a b c v t =
     let e : (b ≡ 0) × ((c ≡ 0) × (v ≡ 0)) = all-three b c v t in rw (e .0, e .1 .0, e .1 .1)
-same-fields (suc (suc (suc (suc (suc (suc (suc (suc (suc k))))))))) a b c v t =
-    absurd (unlisted (fields (suc (suc (suc (suc (suc (suc (suc (suc (suc k))))))))) a b c v) (omega arith) t)
+same-fields (suc (suc (suc (suc (suc (suc (suc (suc (suc zero))))))))) a b c v t =
+    absurd (unlisted (fields 9 a b c v) (omega arith) (λ e. omega arith) t)
+same-fields (suc (suc (suc (suc (suc (suc (suc (suc (suc (suc zero)))))))))) a b c v t = let e : (b ≡ 0) × (c ≡ 0) = both b c t in rw (e .0, e .1)
+same-fields (suc (suc (suc (suc (suc (suc (suc (suc (suc (suc (suc k))))))))))) a b c v t =
+    absurd (unlisted (fields (suc (suc (suc (suc (suc (suc (suc (suc (suc (suc (suc k))))))))))) a b c v) (omega arith) (λ e. omega arith) t)
 
 fields-of-value : (v : List ℕ) → length v ≡ 5 → rowFor (fieldsIn v) .listed ≡ true → numbersIn (fieldsOf (rowFor (fieldsIn v) .value)) ≡ v
 unfolding fieldsIn

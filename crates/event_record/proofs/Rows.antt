@@ -12,7 +12,7 @@ use Rattle.event_record.specs.declared.Fields.{Fields}
 
 -- what code answers by the row of a kind, it answers by the table
 pub at-row : (x : Fields) (k : ℕ) → x .kind ≡ k → {listed : Bool} {event : Event}
-    → listed ≡ rowOf (Lock 0 0) k (rows x) .listed → event ≡ rowOf (Lock 0 0) k (rows x) .value → (listed ≡ rowFor x .listed) × (event ≡ rowFor x .value)
+    → listed ≡ rowOf (Lock 0 0 false) k (rows x) .listed → event ≡ rowOf (Lock 0 0 false) k (rows x) .value → (listed ≡ rowFor x .listed) × (event ≡ rowFor x .value)
 unfolding rowFor rows
 at-row x k e l v = rw e (l, v)
 
@@ -25,10 +25,10 @@ pub above : (m k : ℕ) → NoneOf m k → m ≤ k
 above zero k h = omega arith
 above (suc m) k h = let i : m ≤ k = above m k (h .0) in let n : k ≡ m → ⊥ = h .1 in omega arith
 
--- no kind is above 8
-pub no-row : (x : Fields) → 8 < x .kind → rowFor x ≡ row (x .kind) false (Lock 0 0)
+-- no kind is above 8, but 10
+pub no-row : (x : Fields) → 8 < x .kind → (x .kind ≡ 10 → ⊥) → rowFor x ≡ row (x .kind) false (Lock 0 0 false)
 unfolding rowFor rowOf rows
-no-row x h =
+no-row x h t =
     simp (
       ne-eqb (x .kind) 0 (λ e. omega arith),
       ne-eqb (x .kind) 1 (λ e. omega arith),
@@ -39,4 +39,5 @@ no-row x h =
       ne-eqb (x .kind) 6 (λ e. omega arith),
       ne-eqb (x .kind) 7 (λ e. omega arith),
       ne-eqb (x .kind) 8 (λ e. omega arith),
+      ne-eqb (x .kind) 10 t,
     )

@@ -1,13 +1,15 @@
 -- Event records.
 use Prim.Native.Nat.{ℕ}
-use mathlib.Core.Bool.{_&&_}
+use mathlib.Core.Bool.{Bool, false, cond, _&&_}
 use mathlib.Core.List.{List, [], _∷_, _++_}
 use lib.ListN.{getD}
-use Rattle.model.specs.Numbers.{kindNumber}
+use Rattle.model.specs.Numbers.{kindNumber, ballotKindNumber}
 use Rattle.model.specs.declared.Event.{Event}
-use Rattle.model.specs.declared.Event.the-variants.{Lock, Order, Cast, Deliver, Timeout, Decide, Stop, Save, Restore}
+use Rattle.model.specs.declared.Event.the-variants.{Lock, Order, Cast, Deliver, Timeout, Decide, Stop, Save, Restore, OfBallots}
+use Rattle.model.specs.declared.BallotEvent.{BallotEvent}
+use Rattle.model.specs.declared.BallotEvent.the-variants.{Open, Carry}
 use Rattle.records.specs.Bytes.{one, four}
-use Rattle.records.specs.Codes.{isKind, kindOf, isFlag, flagOf, flagNumber, unused}
+use Rattle.records.specs.Codes.{isKind, kindOf, isBallotKind, ballotKindOf, isFlag, flagOf, flagNumber, unused}
 use Rattle.records.specs.Codec.{marked, Reading, isRecord, isRefusal, Form, formLength, Codec, oneForm, bytesOf, reads}
 use Rattle.records.specs.Rows.{KindRow, row, rowOf}
 use Rattle.event_record.specs.declared.Fields.{Fields}
@@ -29,9 +31,14 @@ fieldsIn v = fields (getD v 0 0) (getD v 1 0) (getD v 2 0) (getD v 3 0) (getD v 
 abbrev pub numbersIn : Fields → List ℕ
 numbersIn x = x .kind ∷ x .a ∷ x .b ∷ x .c ∷ x .value ∷ []
 
+-- the fields of an event of a ballot (document 02, U14)
+unfoldable pub ballotFields : BallotEvent → Fields
+ballotFields (Open id ballot) = fields 10 id 0 0 ballot
+ballotFields (Carry from to kind ballot) = fields 3 from to (ballotKindNumber kind) ballot
+
 -- the fields of an event: "Unused fields are 0."
 unfoldable pub fieldsOf : Event → Fields
-fieldsOf (Lock n f) = fields 0 n f 0 0
+fieldsOf (Lock n f own) = fields 0 n f (flagNumber own) 0
 fieldsOf (Order number) = fields 1 0 0 0 number
 fieldsOf (Cast id willing target) = fields 2 id (flagNumber willing) 0 target
 fieldsOf (Deliver from to kind) = fields 3 from to (kindNumber kind) 0
@@ -40,24 +47,34 @@ fieldsOf (Decide id move) = fields 5 id (flagNumber move) 0 0
 fieldsOf (Stop id) = fields 6 id 0 0 0
 fieldsOf (Save id) = fields 7 id 0 0 0
 fieldsOf (Restore id) = fields 8 id 0 0 0
+fieldsOf (OfBallots event) = ballotFields event
+
+-- Document 02, U14: "A delivery of these kinds names the ballot in its value". Kinds 1 to 4 have no value.
+abbrev pub deliveryListed : ℕ → ℕ → Bool
+deliveryListed c value = cond (isKind c) (unused value) (isBallotKind c)
+
+abbrev pub deliveryOf : ℕ → ℕ → ℕ → ℕ → Event
+deliveryOf a b c value = cond (isKind c) (Deliver a b (kindOf c)) (OfBallots (Carry a b (ballotKindOf c) value))
 
 -- "0 lock (a = n, b = f); 1 order (value = number); 2 vote (a, b = 1 willing or 0, value = target, two's complement); 3 deliver (a = from, b = to,
 -- c = telegram kind); 4 bell (a); 5 arbiter (a, b = 0 Stay or 1 Move); 6 stop (a); 7 save (a); 8 restore (a). Unused fields are 0."
+-- Document 02, U14: "Its lock event has c = 1; with c = 0 the arbiter stays as it is"; "Event kind 10 (a, value = b ..)".
 unfoldable pub rows : Fields → List (KindRow Event)
 rows x =
-    row 0 (unused (x .c) && unused (x .value)) (Lock (x .a) (x .b))
+    row 0 (isFlag (x .c) && unused (x .value)) (Lock (x .a) (x .b) (flagOf (x .c)))
     ∷ row 1 (unused (x .a) && unused (x .b) && unused (x .c)) (Order (x .value))
     ∷ row 2 (isFlag (x .b) && unused (x .c)) (Cast (x .a) (flagOf (x .b)) (x .value))
-    ∷ row 3 (isKind (x .c) && unused (x .value)) (Deliver (x .a) (x .b) (kindOf (x .c)))
+    ∷ row 3 (deliveryListed (x .c) (x .value)) (deliveryOf (x .a) (x .b) (x .c) (x .value))
     ∷ row 4 (unused (x .b) && unused (x .c) && unused (x .value)) (Timeout (x .a))
     ∷ row 5 (isFlag (x .b) && unused (x .c) && unused (x .value)) (Decide (x .a) (flagOf (x .b)))
     ∷ row 6 (unused (x .b) && unused (x .c) && unused (x .value)) (Stop (x .a))
     ∷ row 7 (unused (x .b) && unused (x .c) && unused (x .value)) (Save (x .a))
     ∷ row 8 (unused (x .b) && unused (x .c) && unused (x .value)) (Restore (x .a))
+    ∷ row 10 (unused (x .b) && unused (x .c)) (OfBallots (Open (x .a) (x .value)))
     ∷ []
 
 unfoldable pub rowFor : Fields → KindRow Event
-rowFor x = rowOf (Lock 0 0) (x .kind) (rows x)
+rowFor x = rowOf (Lock 0 0 false) (x .kind) (rows x)
 
 -- "Event, 10 bytes: 4C 45; kind; a; b; c; value (4)." "Reading an event record puts 1 to 3", and writing 1.
 abbrev pub eventForm : Form Event

@@ -2,7 +2,9 @@
 use crate::Fields;
 use crate::ReadEvent;
 use crate::kinds::row_for;
+use model::BallotEvent;
 use model::Event;
+use model::ballot_kind_number;
 use model::kind_number;
 use records::flag_number;
 use records::frame_question;
@@ -15,7 +17,7 @@ ghost use lib.ListN.{length};
 ghost use Rattle.model.specs.Questions.{number};
 ghost use Rattle.records.specs.Codec.{fieldsBy, writeReply, writes};
 ghost use Rattle.records.specs.Promises.{Promises, AskedInSequence};
-ghost use Rattle.event_record.specs.Events.{answerOf, fieldsIn, fieldsOf, eventForm, events, eventLength, readEvent, eventBytes};
+ghost use Rattle.event_record.specs.Events.{answerOf, fieldsIn, ballotFields, fieldsOf, eventForm, events, eventLength, readEvent, eventBytes};
 
 // The fields as they stand on the record.
 fn fields_in(s: &[u8]) -> Fields
@@ -47,21 +49,51 @@ pub fn read_event(s: &[u8]) -> ReadEvent
     ReadEvent::Read(e)
 }
 
+const UNUSED: Fields = Fields {
+    kind: 0,
+    a: 0,
+    b: 0,
+    c: 0,
+    value: 0,
+};
+
+// The fields of an event of a ballot.
+fn ballot_fields(event: BallotEvent) -> Fields
+    ensures { λ r. ⌜ r ≡ ballotFields event ⌝ }
+{
+    let unused = UNUSED;
+    match event {
+        BallotEvent::Open { id, ballot } => Fields {
+            kind: 10,
+            a: id,
+            value: ballot,
+            ..unused
+        },
+        BallotEvent::Carry {
+            from,
+            to,
+            kind,
+            ballot,
+        } => Fields {
+            kind: 3,
+            a: from,
+            b: to,
+            c: ballot_kind_number(kind),
+            value: ballot,
+        },
+    }
+}
+
 // The fields of an event.
 pub fn fields_of(e: Event) -> Fields
     ensures { λ r. ⌜ r ≡ fieldsOf e ⌝ }
 {
-    let unused = Fields {
-        kind: 0,
-        a: 0,
-        b: 0,
-        c: 0,
-        value: 0,
-    };
+    let unused = UNUSED;
     match e {
-        Event::Lock { n, f } => Fields {
+        Event::Lock { n, f, own } => Fields {
             a: n,
             b: f,
+            c: flag_number(own),
             ..unused
         },
         Event::Order { number } => Fields {
@@ -113,6 +145,7 @@ pub fn fields_of(e: Event) -> Fields
             a: id,
             ..unused
         },
+        Event::OfBallots { event } => ballot_fields(event),
     }
 }
 
@@ -160,5 +193,5 @@ pub fn round_trips()
 
 // In which sequence the questions are put: "Reading an event record puts 1 to 3", and writing asks 1 of the buffer.
 pub fn asked_in_sequence()
-    ensures { λ _. ⌜ AskedInSequence events (1 ∷ 2 ∷ 3 ∷ []) (1 ∷ []) ⌝ }
+    ensures { λ _. ⌜ AskedInSequence events (λ k. 1 ∷ 2 ∷ 3 ∷ []) (λ k. 1 ∷ []) ⌝ }
 {}

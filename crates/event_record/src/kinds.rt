@@ -1,19 +1,31 @@
 // The table of kinds at the fields of an event: which values are listed (flags and kinds among them are, and what is not used is 0), and the event that they stand for.
 use crate::Fields;
+use model::BallotEvent;
 use model::Event;
+use records::ballot_kind_of;
 use records::flag_of;
+use records::is_ballot_kind;
 use records::is_flag;
 use records::is_kind;
 use records::kind_of;
 ghost use mathlib.Core.Path.{_≡_};
 ghost use mathlib.Core.Bool.{_&&_};
-ghost use Rattle.records.specs.Codes.{isKind, isFlag, unused};
-ghost use Rattle.event_record.specs.Events.{rowFor};
+ghost use Rattle.model.specs.declared.Event.the-variants.{OfBallots};
+ghost use Rattle.model.specs.declared.BallotEvent.the-variants.{Open};
+ghost use Rattle.records.specs.Codes.{isFlag, unused};
+ghost use Rattle.event_record.specs.Events.{deliveryListed, deliveryOf, rowFor};
 
-fn lock_listed(c: u8, value: u32) -> bool
+// Are c and the value not used?
+fn rest_unused(c: u8, value: u32) -> bool
     ensures { λ r. ⌜ r ≡ (unused c && unused value) ⌝ }
 {
     c == 0 && value == 0
+}
+
+fn lock_listed(c: u8, value: u32) -> bool
+    ensures { λ r. ⌜ r ≡ (isFlag c && unused value) ⌝ }
+{
+    is_flag(c) && value == 0
 }
 
 fn order_listed(a: u8, b: u8, c: u8) -> bool
@@ -32,21 +44,58 @@ fn vote_listed(b: u8, c: u8) -> bool
 }
 
 fn delivery_listed(c: u8, value: u32) -> bool
-    ensures { λ r. ⌜ r ≡ (isKind c && unused value) ⌝ }
+    ensures { λ r. ⌜ r ≡ deliveryListed c value ⌝ }
 {
-    is_kind(c) && value == 0
+    if is_kind(c) {
+        return value == 0;
+    }
+    is_ballot_kind(c)
+}
+
+// The delivery of a telegram: a plain one, or one of a ballot.
+fn delivery(a: u8, b: u8, c: u8, value: u32) -> Event
+    ensures { λ r. ⌜ r ≡ deliveryOf a b c value ⌝ }
+{
+    if is_kind(c) {
+        return Event::Deliver {
+            from: a,
+            to: b,
+            kind: kind_of(c),
+        };
+    }
+    let event = BallotEvent::Carry {
+        from: a,
+        to: b,
+        kind: ballot_kind_of(c),
+        ballot: value,
+    };
+    Event::OfBallots { event }
 }
 
 fn decision_listed(b: u8, c: u8, value: u32) -> bool
     ensures { λ r. ⌜ r ≡ (isFlag b && unused c && unused value) ⌝ }
 {
-    is_flag(b) && lock_listed(c, value)
+    is_flag(b) && rest_unused(c, value)
 }
 
 fn other_listed(b: u8, c: u8, value: u32) -> bool
     ensures { λ r. ⌜ r ≡ (unused b && unused c && unused value) ⌝ }
 {
-    b == 0 && lock_listed(c, value)
+    b == 0 && rest_unused(c, value)
+}
+
+fn opening_listed(b: u8, c: u8) -> bool
+    ensures { λ r. ⌜ r ≡ (unused b && unused c) ⌝ }
+{
+    b == 0 && c == 0
+}
+
+// The opening of a ballot by its owner.
+fn opening(id: u8, ballot: u32) -> Event
+    ensures { λ r. ⌜ r ≡ OfBallots (Open id ballot) ⌝ }
+{
+    let event = BallotEvent::Open { id, ballot };
+    Event::OfBallots { event }
 }
 
 // What a record's fields stand for: whether they are listed values, and the event if they are.
@@ -63,7 +112,11 @@ pub(crate) fn row_for(x: Fields) -> Row
     match kind {
         0 => Row {
             listed: lock_listed(x.c, x.value),
-            event: Event::Lock { n: x.a, f: x.b },
+            event: Event::Lock {
+                n: x.a,
+                f: x.b,
+                own: flag_of(x.c),
+            },
         },
         1 => Row {
             listed: order_listed(x.a, x.b, x.c),
@@ -79,11 +132,7 @@ pub(crate) fn row_for(x: Fields) -> Row
         },
         3 => Row {
             listed: delivery_listed(x.c, x.value),
-            event: Event::Deliver {
-                from: x.a,
-                to: x.b,
-                kind: kind_of(x.c),
-            },
+            event: delivery(x.a, x.b, x.c, x.value),
         },
         4 => Row {
             listed: other_listed(x.b, x.c, x.value),
@@ -108,9 +157,17 @@ pub(crate) fn row_for(x: Fields) -> Row
             listed: other_listed(x.b, x.c, x.value),
             event: Event::Restore { id: x.a },
         },
+        10 => Row {
+            listed: opening_listed(x.b, x.c),
+            event: opening(x.a, x.value),
+        },
         _ => Row {
             listed: false,
-            event: Event::Lock { n: 0, f: 0 },
+            event: Event::Lock {
+                n: 0,
+                f: 0,
+                own: false,
+            },
         },
     }
 }

@@ -9,6 +9,7 @@ pub use event::read_event;
 pub use event::round_trips;
 pub use event::write_event;
 use model::Event;
+ghost use Rattle.event_record.specs.ByteForByte.{ByteForByte};
 
 // What stands in an event record after its mark.
 pub struct Fields {
@@ -24,3 +25,8 @@ pub enum ReadEvent {
     Read(Event),
     Refused(u8),
 }
+
+// Events of document 02, U14, byte for byte, and bytes with one fault each.
+pub fn byte_for_byte()
+    ensures { λ _. ⌜ ByteForByte ⌝ }
+{}

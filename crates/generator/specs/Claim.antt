@@ -1,5 +1,6 @@
 -- What is promised of every file. Document 02, U6: "Drawn events may be refused by the bench; the file itself reads without refusals 1 to 3."
 use Prim.Native.Nat.{ℕ, zero, suc, _+_, _*_, _^_, _<_}
+use mathlib.Core.Bool.{false}
 use mathlib.Core.Path.{_≡_}
 use lib.ListN.{length, getD}
 use Rattle.model.specs.declared.Event.the-variants.{Lock}
@@ -22,7 +23,7 @@ stateAfter n (suc k) s = stateAfter n k (drawnEvent n s .state)
 pub record Files : Type 0 where
   -- each record reads, and as the event that was written there
   pub reads : (n f count start k : ℕ) → k < recordsIn n count
-      → recordAt (fileOf n f count start) (eventLength * k) ≡ Read (getD (eventsOf n f count start) k (Lock n f))
+      → recordAt (fileOf n f count start) (eventLength * k) ≡ Read (getD (eventsOf n f count start) k (Lock n f false))
   -- ten bytes for each record
   pub long : (n f count start : ℕ) → length (fileOf n f count start) ≡ eventLength * recordsIn n count
   -- a state is never 0 again

@@ -1,6 +1,6 @@
 -- The file of a starting number. Document 02, U6.
 use Prim.Native.Nat.{ℕ, zero, suc}
-use mathlib.Core.Bool.{true, not, _&&_}
+use mathlib.Core.Bool.{true, false, not, _&&_}
 use mathlib.Core.List.{List, [], _∷_, _++_}
 use lib.Dec.{eqb, leb}
 use lib.ListN.{length}
@@ -21,9 +21,9 @@ unfoldable pub drawnFrom : ℕ → ℕ → ℕ → List Event
 drawnFrom n zero s = []
 drawnFrom n (suc count) s = drawnEvent n s .event ∷ drawnFrom n count (drawnEvent n s .state)
 
--- "A generator writes event records: lock, order 1, all votes .. , then a wanted count of drawn events"
+-- "A generator writes event records: lock, order 1, all votes .. , then a wanted count of drawn events"; the lock has an arbiter (c = 0)
 unfoldable pub eventsOf : ℕ → ℕ → ℕ → ℕ → List Event
-eventsOf n f count start = Lock n f ∷ Order 1 ∷ (votesTo n ++ drawnFrom n count start)
+eventsOf n f count start = Lock n f false ∷ Order 1 ∷ (votesTo n ++ drawnFrom n count start)
 
 abbrev pub fileOf : ℕ → ℕ → ℕ → ℕ → List ℕ
 fileOf n f count start = recordsOf (eventsOf n f count start)

@@ -1,7 +1,7 @@
 -- Laws of files: records one after another, their lengths, and what is read at a place.
 use Prim.Native.Nat.{ℕ, zero, suc, _+_, _*_, _^_, _<_}
 use mathlib.Core.Path.{_≡_, refl, sym, _∙_, ap}
-use mathlib.Core.Bool.{true}
+use mathlib.Core.Bool.{true, false}
 use mathlib.Core.List.{List, [], _∷_, _++_, append-assoc, append-nil}
 use native.Mathlib.Numerals.{add-one}
 use native.Mathlib.Omega.{arith}
@@ -107,9 +107,9 @@ records-read p d (e ∷ es) s (suc k) h =
 
 -- the whole file, from its parts
 pub file-parts : (n f count start : ℕ)
-    → eventBytes (Lock n f) ++ (eventBytes (Order 1) ++ (recordsOf (votesTo n) ++ recordsOf (drawnFrom n count start))) ≡ fileOf n f count start
+    → eventBytes (Lock n f false) ++ (eventBytes (Order 1) ++ (recordsOf (votesTo n) ++ recordsOf (drawnFrom n count start))) ≡ fileOf n f count start
 unfolding eventsOf recordsOf
-file-parts n f count start = ap (λ (l : List ℕ). eventBytes (Lock n f) ++ (eventBytes (Order 1) ++ l)) (sym (records-append (votesTo n) (drawnFrom n count start)))
+file-parts n f count start = ap (λ (l : List ℕ). eventBytes (Lock n f false) ++ (eventBytes (Order 1) ++ l)) (sym (records-append (votesTo n) (drawnFrom n count start)))
 
 -- states
 states : Draws → (n k s : ℕ) → 0 < s → s < 2 ^ 32 → 0 < stateAfter n k s
@@ -121,7 +121,7 @@ pub files-kept : Promises events → Draws → Files
 files-kept p d = record {
   reads = λ n f count start k h.
       let l : length (eventsOf n f count start) ≡ recordsIn n count = length-events n f count start in
-      records-read p (Lock n f) (eventsOf n f count start) (small-events n f count start) k (omega arith);
+      records-read p (Lock n f false) (eventsOf n f count start) (small-events n f count start) k (omega arith);
   long = length-file;
   never-zero = states d;
 }

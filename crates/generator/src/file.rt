@@ -72,7 +72,7 @@ fn put_file(out: &mut [u8], n: u8, f: u8, count: u32, start: u32) -> usize
     requires { ⌜ 0 < n ⌝ }
     ensures { λ r. ⌜ Put (now (out .entry)) (now (out .exit)) 0 r (fileOf n f count start) ⌝ }
 {
-    let next = put_record(&mut *out, 0, Event::Lock { n, f });
+    let next = put_record(&mut *out, 0, Event::Lock { n, f, own: false });
     let next = put_record(&mut *out, next, Event::Order { number: 1 });
     let next = put_votes(&mut *out, next, n);
     put_drawn(&mut *out, next, n, count, start)

@@ -1,5 +1,5 @@
-pub mod Numbered
-pub mod Framing
+pub mod Asked
 pub mod RoundTrips
-pub mod TwoForms
+pub mod Sentences
 pub mod ByteForByte
+pub mod Refusals

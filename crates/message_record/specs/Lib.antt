@@ -1,4 +1,7 @@
+pub mod BallotMessages
 pub mod Messages
-pub mod OldCabinets
-pub mod TwoForms
 pub mod Telegrams
+pub mod OldCabinets
+pub mod Forms
+pub mod ByteForByte
+pub mod Refusals

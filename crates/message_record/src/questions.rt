@@ -1,11 +1,12 @@
-// What is asked of a message, read or to be written.
-use crate::MessageWidth;
-use crate::widths::suits_width;
+// What is asked of a telegram, read or to be written.
+use crate::ballots::ballot_question;
 use model::Kind;
 use model::Message;
+use model::Telegram;
 ghost use mathlib.Core.Path.{_≡_};
 ghost use Rattle.model.specs.Questions.{firstNo, number};
-ghost use Rattle.message_record.specs.Messages.{bitsInRange, knowsForKind, suits, aboutMessage, messageForm};
+ghost use Rattle.message_record.specs.Messages.{bitsInRange, knowsForKind, suits, aboutHead, aboutMessage};
+ghost use Rattle.message_record.specs.Telegrams.{aboutTelegram};
 
 // Question 9: "No bit above n".
 fn bits_in_range(m: Message) -> bool
@@ -42,18 +43,29 @@ pub fn suits(m: Message) -> bool
     knows_for_kind(kind, m.from, set.known)
 }
 
-// Questions 4, 7, 8, 9 and 10: 0, or the number of the first that is answered "no".
+// Questions 4, 7 and 8, which are asked of every telegram: 0, or the number of the first that is answered "no".
+pub(crate) fn head_question(n: u8, f: u8, from: u8, to: u8, order: u32) -> u8
+    ensures { λ r. ⌜ r ≡ number (firstNo (aboutHead n f from to order)) ⌝ }
+{
+    if !model::sizes_in_range(n, f) {
+        return 4;
+    }
+    if !model::different_controllers(n, from, to) {
+        return 7;
+    }
+    if order < 1 {
+        return 8;
+    }
+    0
+}
+
+// These and 9 and 10.
 fn question(m: Message) -> u8
     ensures { λ r. ⌜ r ≡ number (firstNo (aboutMessage m)) ⌝ }
 {
-    if !model::sizes_in_range(m.n, m.f) {
-        return 4;
-    }
-    if !model::different_controllers(m.n, m.from, m.to) {
-        return 7;
-    }
-    if m.order < 1 {
-        return 8;
+    let no = head_question(m.n, m.f, m.from, m.to, m.order);
+    if no != 0 {
+        return no;
     }
     if !suits(m) {
         return 9;
@@ -65,12 +77,12 @@ fn question(m: Message) -> u8
     0
 }
 
-// The same in that form, which question 4 asks about first.
-pub(crate) fn question_in(width: MessageWidth, m: Message) -> u8
-    ensures { λ r. ⌜ r ≡ number (firstNo (messageForm width .asked m)) ⌝ }
+// What is asked of a telegram of either body: 0, or the number of the first question that is answered "no".
+pub fn telegram_question(t: Telegram) -> u8
+    ensures { λ r. ⌜ r ≡ number (firstNo (aboutTelegram t)) ⌝ }
 {
-    if !suits_width(width, m.n) {
-        return 4;
+    match t {
+        Telegram::Plain(m) => question(m),
+        Telegram::OfBallot(b) => ballot_question(b),
     }
-    question(m)
 }

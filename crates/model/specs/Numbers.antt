@@ -1,8 +1,10 @@
--- The numbers that document 01 gives to kinds and outcomes ("Records").
+-- The numbers that document 01 gives to kinds and outcomes ("Records"), and document 02, U14, to kinds of ballots.
 use Prim.Native.Nat.{ℕ}
 use mathlib.Core.Bool.{Bool, true, false}
 use Rattle.model.specs.declared.Kind.{Kind}
 use Rattle.model.specs.declared.Kind.the-variants.{Vote, Ack, Help, Helped}
+use Rattle.model.specs.declared.BallotKind.{BallotKind}
+use Rattle.model.specs.declared.BallotKind.the-variants.{Prepare, Promise, Accept, Accepted}
 use Rattle.model.specs.declared.Outcome.{Outcome}
 use Rattle.model.specs.declared.Outcome.the-variants.{None, Stay, Move}
 
@@ -12,6 +14,13 @@ kindNumber Vote = 1
 kindNumber Ack = 2
 kindNumber Help = 3
 kindNumber Helped = 4
+
+-- Document 02, U14: "Telegram kinds 5 ask, 6 promise, 7 put and 8 taken"; Lamport's prepare, promise, accept and accepted
+abbrev pub ballotKindNumber : BallotKind → ℕ
+ballotKindNumber Prepare = 5
+ballotKindNumber Promise = 6
+ballotKindNumber Accept = 7
+ballotKindNumber Accepted = 8
 
 -- "outcome (0 none, 1 Stay, 2 Move)"
 abbrev pub outcomeNumber : Outcome → ℕ

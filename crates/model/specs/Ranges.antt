@@ -21,6 +21,10 @@ differentControllers n from to = isController n from && isController n to && not
 unfoldable pub positionInRange : ℕ → Bool
 positionInRange p = leb p 20000 || leb 4294947296 p
 
+-- Document 02, U14: "Ballots go from 1 to 255" (question 28)
+unfoldable pub isBallot : ℕ → Bool
+isBallot b = leb 1 b && leb b 255
+
 -- "Controllers 1 to f are holders; f + 1 is the second holder." The paper's backup processes.
 abbrev pub isBackup : ℕ → ℕ → Bool
 isBackup f k = leb k f

@@ -1,8 +1,9 @@
 // The numbers of kinds and outcomes, and tests of an outcome.
+use crate::BallotKind;
 use crate::Kind;
 use crate::Outcome;
 ghost use mathlib.Core.Path.{_≡_};
-ghost use Rattle.model.specs.Numbers.{kindNumber, outcomeNumber, wordOf, isNone, isMove, isStay};
+ghost use Rattle.model.specs.Numbers.{kindNumber, ballotKindNumber, outcomeNumber, wordOf, isNone, isMove, isStay};
 
 pub fn kind_number(kind: Kind) -> u8
     ensures { λ r. ⌜ r ≡ kindNumber kind ⌝ }
@@ -12,6 +13,17 @@ pub fn kind_number(kind: Kind) -> u8
         Kind::Ack => 2,
         Kind::Help => 3,
         Kind::Helped => 4,
+    }
+}
+
+pub fn ballot_kind_number(kind: BallotKind) -> u8
+    ensures { λ r. ⌜ r ≡ ballotKindNumber kind ⌝ }
+{
+    match kind {
+        BallotKind::Prepare => 5,
+        BallotKind::Promise => 6,
+        BallotKind::Accept => 7,
+        BallotKind::Accepted => 8,
     }
 }
 

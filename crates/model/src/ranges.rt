@@ -1,7 +1,7 @@
 // Which numbers there are.
 use ground::LIMIT;
 ghost use mathlib.Core.Path.{_≡_};
-ghost use Rattle.model.specs.Ranges.{sizesInRange, isController, differentControllers, positionInRange, isBackup, isSecondBackup};
+ghost use Rattle.model.specs.Ranges.{sizesInRange, isController, differentControllers, positionInRange, isBallot, isBackup, isSecondBackup};
 
 // Are n and f in range?
 pub fn sizes_in_range(n: u8, f: u8) -> bool
@@ -41,6 +41,13 @@ pub fn position_in_range(p: u32) -> bool
     ensures { λ r. ⌜ r ≡ positionInRange p ⌝ }
 {
     p <= 20000 || 4294947296 <= p
+}
+
+// Is it the number of a ballot?
+pub fn is_ballot(b: u32) -> bool
+    ensures { λ r. ⌜ r ≡ isBallot b ⌝ }
+{
+    1 <= b && b <= 255
 }
 
 // Is k one of 1 to f?

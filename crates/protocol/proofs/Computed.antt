@@ -12,10 +12,17 @@ use Rattle.protocol.specs.EarlyCallTrials.{earlyCalls, sequences}
 use Rattle.protocol.specs.Alone.{called, calledAll}
 use Rattle.protocol.specs.StrayTrials.{numbersOf, answersAs, strays}
 use Rattle.protocol.specs.AloneTrials.{takenOf, standsAs, aloneTrials}
+use Rattle.protocol.specs.BallotTrials.{allShown, standsIn, ballotPasses, ballotTrials}
+use Rattle.protocol.specs.BallotCallTrials.{maskOf, oneByOne, callPasses, ballotCallTrials}
+use Rattle.protocol.specs.Calls.{validIdentity}
+use Rattle.protocol.specs.BallotCalls.{takesPart, mayOpenAlone, openCall, ballotAddressed, ofOwner, ballotArrives, ballotComes, receiveBallot, others, ballotToOthers, promiseSent, ballotMessages, nthBallotOf}
+use Rattle.model.specs.Ranges.{isBallot, sizesInRange, isController}
+use Rattle.message_record.specs.BallotMessages.{tellsNothing, tellsWord, reportsLast, tellsForKind, ballotSuits}
+use Rattle.ground.specs.Mask.{collect, insert}
 use Rattle.protocol.specs.Trials.{table, TrialsHold}
 
 pub trials : TrialsHold
-unfolding failing table ruleTrials standbyTrials checkpointTrials hasCheckpoint schedules asAsked givesAll earlyCalls sequences cleanOrder allEnded allAcked allVoted deliveries deliveriesOf timeouts casts passes sendsAs messagesOf messagesOfKind members shows same each answersTo openAfter answersAs strays numbersOf standsAs aloneTrials takenOf called calledAll wholeRun
+unfolding failing table ruleTrials standbyTrials checkpointTrials hasCheckpoint schedules asAsked givesAll earlyCalls sequences cleanOrder allEnded allAcked allVoted deliveries deliveriesOf timeouts casts passes sendsAs messagesOf messagesOfKind members shows same each answersTo openAfter answersAs strays numbersOf standsAs aloneTrials takenOf called calledAll allShown standsIn ballotPasses ballotTrials maskOf oneByOne callPasses ballotCallTrials validIdentity takesPart mayOpenAlone openCall ballotAddressed ofOwner ballotArrives ballotComes receiveBallot others ballotToOthers promiseSent ballotMessages nthBallotOf isBallot sizesInRange isController tellsNothing tellsWord reportsLast tellsForKind ballotSuits collect insert wholeRun
 trials = record {
   starred = refl;
   rules = refl;
@@ -28,4 +35,6 @@ trials = record {
   open-gates = refl;
   stray = refl;
   alone = refl;
+  ballots = refl;
+  ballot-calls = refl;
 }

@@ -10,9 +10,11 @@ pub mod OpenGates
 pub mod Checkpoints
 pub mod Ranges
 pub mod Clear
+pub mod BallotsBack
 pub mod Reached
 pub mod Untouched
 pub mod Dropped
 pub mod Strayed
 pub mod Theorem
 pub mod Exact
+pub mod Chosen

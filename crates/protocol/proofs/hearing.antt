@@ -6,6 +6,7 @@ pub mod Events
 pub mod Moments
 pub mod Hears
 pub mod Later
+pub mod Opening
 pub mod Onward
 pub mod Lists
 pub mod Tests

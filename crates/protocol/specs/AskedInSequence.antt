@@ -7,8 +7,10 @@ use mathlib.Core.Bool.{Bool}
 use mathlib.Core.List.{List, [], _∷_}
 use Rattle.model.specs.Questions.{numbersAsked}
 use Rattle.model.specs.declared.Kind.{Kind}
+use Rattle.model.specs.declared.BallotKind.{BallotKind}
+use Rattle.model.specs.declared.BallotEvent.the-variants.{Open, Carry}
 use Rattle.model.specs.declared.Event.{Event}
-use Rattle.model.specs.declared.Event.the-variants.{Lock, Order, Cast, Deliver, Timeout, Decide, Stop, Save, Restore}
+use Rattle.model.specs.declared.Event.the-variants.{Lock, Order, Cast, Deliver, Timeout, Decide, Stop, Save, Restore, OfBallots}
 use Rattle.protocol.specs.declared.Bench.{Bench}
 use Rattle.protocol.specs.Questions.{questions}
 
@@ -16,7 +18,7 @@ abbrev pub asksAt : Bench → Event → List ℕ
 asksAt b e = numbersAsked (questions b e)
 
 pub record AskedInSequence (b : Bench) : Type 0 where
-  pub lock : (n f : ℕ) → asksAt b (Lock n f) ≡ 4 ∷ 6 ∷ []
+  pub lock : (n f : ℕ) (own : Bool) → asksAt b (Lock n f own) ≡ 4 ∷ 6 ∷ []
   pub order : (o : ℕ) → asksAt b (Order o) ≡ 5 ∷ 8 ∷ 12 ∷ 13 ∷ []
   pub vote : (i : ℕ) (willing : Bool) (target : ℕ) → asksAt b (Cast i willing target) ≡ 5 ∷ 7 ∷ 11 ∷ 14 ∷ 15 ∷ 16 ∷ []
   -- 24: "last of all questions" (document 02, U7)
@@ -26,3 +28,6 @@ pub record AskedInSequence (b : Bench) : Type 0 where
   pub stop : (i : ℕ) → asksAt b (Stop i) ≡ 5 ∷ 7 ∷ 14 ∷ 15 ∷ []
   pub save : (i : ℕ) → asksAt b (Save i) ≡ 5 ∷ 7 ∷ 14 ∷ 15 ∷ []
   pub restore : (i : ℕ) → asksAt b (Restore i) ≡ 5 ∷ 7 ∷ 14 ∷ 15 ∷ 19 ∷ []
+  -- 28 and 29: "both after question 16" (document 02, U14)
+  pub open-ballot : (i ballot : ℕ) → asksAt b (OfBallots (Open i ballot)) ≡ 5 ∷ 7 ∷ 14 ∷ 15 ∷ 28 ∷ 29 ∷ []
+  pub carry : (i j : ℕ) (kind : BallotKind) (ballot : ℕ) → asksAt b (OfBallots (Carry i j kind ballot)) ≡ 5 ∷ 7 ∷ 14 ∷ 15 ∷ 28 ∷ 17 ∷ []

@@ -25,6 +25,7 @@ use Rattle.protocol.specs.declared.Consensus.{Consensus}
 use Rattle.protocol.specs.declared.Counts.{Counts}
 use Rattle.protocol.specs.declared.Shared.{Shared}
 use Rattle.protocol.specs.declared.Bench.{Bench}
+use Rattle.protocol.specs.Ballots.{newBallots}
 use Rattle.protocol.specs.Controllers.{inPhase, blank}
 use Rattle.protocol.specs.Sequence.{messageTo}
 
@@ -51,14 +52,15 @@ abbrev pub allUndecided : ℕ → Counts
 allUndecided k = record { undecided = k; present = k }
 
 -- "a new bench, without lock, order, telegrams, words or cards"; and the bench after a lock of n and f
-unfoldable pub benchOf : Bool → ℕ → ℕ → Bench
-benchOf locked n f = record {
-  shared = record { locked = locked; n = n; f = f; order = 0; consensus = noConsensus; counts = allUndecided n };
+unfoldable pub benchOf : Bool → ℕ → ℕ → Bool → Bench
+benchOf locked n f own = record {
+  shared = record { locked = locked; n = n; f = f; own = own; order = 0; consensus = noConsensus; counts = allUndecided n };
+  ballots = newBallots;
   stations = replicate limit (freshStation (replicate limit empty));
 }
 
 abbrev pub newBench : Bench
-newBench = benchOf false 0 0
+newBench = benchOf false 0 0 false
 
 -- controller i's station, itself, what it has sent
 unfoldable pub station : Bench → ℕ → Station

@@ -11,7 +11,7 @@ use Rattle.model.specs.declared.Kind.the-variants.{Vote, Ack}
 use Rattle.model.specs.declared.Outcome.{Outcome}
 use Rattle.model.specs.declared.Outcome.the-variants.{Stay, Move}
 use Rattle.model.specs.declared.Event.{Event}
-use Rattle.model.specs.declared.Event.the-variants.{Lock, Order, Cast, Deliver, Timeout, Decide, Stop, Save, Restore}
+use Rattle.model.specs.declared.Event.the-variants.{Lock, Order, Cast, Deliver, Timeout, Decide, Stop, Save, Restore, OfBallots}
 use Rattle.protocol.specs.declared.Bench.{Bench}
 use Rattle.protocol.specs.Benches.{newBench}
 use Rattle.protocol.specs.Questions.{accepted, isAccepted, reply}
@@ -30,7 +30,7 @@ Accepted es e = reply (after es) e ≡ accepted
 -- "An order lasts from its accepted order event until the next accepted one": the moments es and es ++ more are of one order
 -- when no order event of `more` is accepted
 abbrev pub opensOrder : Bench → Event → Bool
-opensOrder b (Lock n f) = false
+opensOrder b (Lock n f own) = false
 opensOrder b (Order o) = isAccepted (reply b (Order o))
 opensOrder b (Cast i willing target) = false
 opensOrder b (Deliver i j kind) = false
@@ -39,6 +39,7 @@ opensOrder b (Decide i move) = false
 opensOrder b (Stop i) = false
 opensOrder b (Save i) = false
 opensOrder b (Restore i) = false
+opensOrder b (OfBallots e) = false
 
 unfoldable pub opensAny : Bench → List Event → Bool
 opensAny b [] = false

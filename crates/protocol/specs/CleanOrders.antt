@@ -1,7 +1,7 @@
 -- A clean order from its votes to its end, for every n and f. That it is clean and ends everywhere is proved (NotHollow), and the table of trials runs it.
 -- Its parts are written newest first, each put after the log of what came before; `cleanOrder` is the whole as a new bench is given it.
 use Prim.Native.Nat.{ℕ, zero, suc}
-use mathlib.Core.Bool.{Bool, cond}
+use mathlib.Core.Bool.{Bool, cond, false}
 use mathlib.Core.List.{List, [], _∷_, reverse}
 use Rattle.model.specs.Routes.{route}
 use Rattle.model.specs.declared.Kind.{Kind}
@@ -41,7 +41,7 @@ module _ (n f : ℕ) where
 
   -- as a new bench is given it: the lock, the first order, and then the log, oldest first
   abbrev pub fromLock : List Event → List Event
-  fromLock log = Lock n f ∷ Order 1 ∷ reverse log
+  fromLock log = Lock n f false ∷ Order 1 ∷ reverse log
 
   unfoldable pub cleanOrder : (ℕ → Bool) → List Event
   cleanOrder w = fromLock (allEnded w)

@@ -10,15 +10,15 @@ use Rattle.protocol.specs.RowWords.{C, T, held, proposed, waits, calledB
 
 -- 3 calls while 2 has not voted yet; or where 2 will hold 1's full acknowledgement at its second timeout
 abbrev pub calling : List Event
-calling = Lock 3 1 ∷ Order 1 ∷ Cast 1 true 10 ∷ Cast 3 true 30 ∷ Timeout 3 ∷ []
+calling = Lock 3 1 false ∷ Order 1 ∷ Cast 1 true 10 ∷ Cast 3 true 30 ∷ Timeout 3 ∷ []
 
 abbrev pub decidesWithCall : List Event
-decidesWithCall = Lock 3 1 ∷ Order 1 ∷ Cast 1 true 10 ∷ Cast 2 true 20 ∷ Cast 3 true 30 ∷ Deliver 2 1 Vote ∷ Deliver 3 1 Vote ∷ Timeout 3 ∷ Timeout 1 ∷ Timeout 2
+decidesWithCall = Lock 3 1 false ∷ Order 1 ∷ Cast 1 true 10 ∷ Cast 2 true 20 ∷ Cast 3 true 30 ∷ Deliver 2 1 Vote ∷ Deliver 3 1 Vote ∷ Timeout 3 ∷ Timeout 1 ∷ Timeout 2
     ∷ Deliver 3 2 Help ∷ Deliver 1 2 Ack ∷ []
 
 -- 4 calls 2, and 3 calls 2 after it; then 2's first timeout
 abbrev pub twoCalling : List Event
-twoCalling = Lock 4 1 ∷ Order 1 ∷ Cast 3 true 30 ∷ Cast 4 true 40 ∷ Timeout 3 ∷ Timeout 4 ∷ Deliver 4 2 Help ∷ Deliver 3 2 Help ∷ Cast 2 true 20 ∷ Timeout 2 ∷ []
+twoCalling = Lock 4 1 false ∷ Order 1 ∷ Cast 3 true 30 ∷ Cast 4 true 40 ∷ Timeout 3 ∷ Timeout 4 ∷ Deliver 4 2 Help ∷ Deliver 3 2 Help ∷ Cast 2 true 20 ∷ Timeout 2 ∷ []
 
 unfoldable pub earlyCalls : List Trial
 earlyCalls =
@@ -66,9 +66,9 @@ earlyCalls =
 unfoldable pub sequences : List SendTrial
 sequences =
     -- the messages of a vote, and of a first timeout
-    record { events = Lock 4 2 ∷ Order 1 ∷ []; last = Cast 1 true 10; messages = message 4 2 Vote 1 2 1 1 ∷ message 4 2 Vote 1 3 1 1 ∷ [] }
+    record { events = Lock 4 2 false ∷ Order 1 ∷ []; last = Cast 1 true 10; messages = message 4 2 Vote 1 2 1 1 ∷ message 4 2 Vote 1 3 1 1 ∷ [] }
     ∷ record {
-      events = Lock 4 2 ∷ Order 1 ∷ Cast 1 true 10 ∷ Cast 4 false 40 ∷ Deliver 4 1 Vote ∷ [];
+      events = Lock 4 2 false ∷ Order 1 ∷ Cast 1 true 10 ∷ Cast 4 false 40 ∷ Deliver 4 1 Vote ∷ [];
       last = Timeout 1;
       messages = message 4 2 Ack 1 2 9 1 ∷ message 4 2 Ack 1 3 9 1 ∷ message 4 2 Ack 1 4 9 1 ∷ [];
     }

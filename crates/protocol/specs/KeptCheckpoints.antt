@@ -8,7 +8,7 @@ use mathlib.Core.List.{List, [], _∷_, _++_}
 use lib.Dec.{eqb}
 use Rattle.model.specs.declared.Checkpoint.{Checkpoint}
 use Rattle.model.specs.declared.Event.{Event}
-use Rattle.model.specs.declared.Event.the-variants.{Lock, Order, Cast, Deliver, Timeout, Decide, Stop, Save, Restore}
+use Rattle.model.specs.declared.Event.the-variants.{Lock, Order, Cast, Deliver, Timeout, Decide, Stop, Save, Restore, OfBallots}
 use Rattle.protocol.specs.declared.Saved.{Saved}
 use Rattle.protocol.specs.declared.Saved.the-variants.{Nothing, Newest}
 use Rattle.protocol.specs.declared.Bench.{Bench}
@@ -20,7 +20,7 @@ use Rattle.protocol.specs.Claim.{after, Accepted}
 
 -- is it a save of controller i, and accepted
 abbrev pub savesAt : ℕ → Bench → Event → Bool
-savesAt i b (Lock n f) = false
+savesAt i b (Lock n f own) = false
 savesAt i b (Order o) = false
 savesAt i b (Cast j willing target) = false
 savesAt i b (Deliver j k kind) = false
@@ -29,6 +29,7 @@ savesAt i b (Decide j move) = false
 savesAt i b (Stop j) = false
 savesAt i b (Save j) = eqb j i && isAccepted (reply b (Save j))
 savesAt i b (Restore j) = false
+savesAt i b (OfBallots e) = false
 
 unfoldable pub savesAny : ℕ → Bench → List Event → Bool
 savesAny i b [] = false

@@ -5,6 +5,11 @@ pub mod Calls
 pub mod Sequence
 pub mod SequenceLaws
 pub mod CallLaws
+-- document 02, U14: the ballots of an order, and their rules
+pub mod Ballots
+pub mod BallotRules
+pub mod BallotSteps
+pub mod BallotCalls
 -- "The parts": the bench; "Questions put to a record or event"; what an event does
 pub mod Counts
 pub mod CountLaws
@@ -31,6 +36,9 @@ pub mod OpenCount
 pub mod KeptCheckpoints
 pub mod Reach
 pub mod NoContradiction
+pub mod BallotClaim
+pub mod BallotsNotHollow
+pub mod BallotStrays
 pub mod Strays
 pub mod Alone
 -- "Trials"
@@ -42,4 +50,6 @@ pub mod QuestionTrials
 pub mod EarlyCallTrials
 pub mod StrayTrials
 pub mod AloneTrials
+pub mod BallotTrials
+pub mod BallotCallTrials
 pub mod Trials

@@ -11,7 +11,7 @@ use Rattle.votes.specs.declared.VoteSet.{VoteSet}
 use Rattle.votes.specs.declared.Joined.the-variants.{Agreed}
 use Rattle.model.specs.declared.Kind.{Kind}
 use Rattle.model.specs.declared.Event.{Event}
-use Rattle.model.specs.declared.Event.the-variants.{Lock, Order, Cast, Deliver, Timeout, Decide, Stop, Save, Restore}
+use Rattle.model.specs.declared.Event.the-variants.{Lock, Order, Cast, Deliver, Timeout, Decide, Stop, Save, Restore, OfBallots}
 use Rattle.protocol.specs.declared.Controller.{Controller}
 use Rattle.protocol.specs.declared.Bench.{Bench}
 use Rattle.protocol.specs.Controllers.{hasAck, ackOf}
@@ -19,7 +19,7 @@ use Rattle.protocol.specs.Rules.{voteRule, ackJoin, helpVotes}
 use Rattle.protocol.specs.Calls.{arrives}
 use Rattle.protocol.specs.Benches.{newBench, station, controller, sentBy, ofKind}
 use Rattle.protocol.specs.Events.{subject, source}
-use Rattle.protocol.specs.Questions.{Reply, accepted, refused, isAccepted, firstNo, mayOpen, questionsOf, factsOf, reply}
+use Rattle.protocol.specs.Questions.{Reply, accepted, refused, isAccepted, firstNo, mayOpen, mayGive, questionsOf, factsOf, reply}
 use Rattle.protocol.specs.Steps.{answering, putBack, perform}
 use Rattle.protocol.specs.Claim.{after}
 
@@ -33,10 +33,10 @@ pub record Agreeing (c : Controller) : Type 0 where
 -- A bench without the test: every question but 24; document 01's rules for a vote and for what arrives. Its joins are the rules', which by the fields of
 -- `NoContradiction` are the unions, as before U7.
 abbrev pub untestedReply : Bench → Event → Reply
-untestedReply b e = firstNo (questionsOf (factsOf (b .shared) e (station b (subject e)) (sentBy b (source e)) (mayOpen (b .shared)) true) e)
+untestedReply b e = firstNo (questionsOf (factsOf (b .shared) (b .ballots) e (station b (subject e)) (sentBy b (source e)) (mayOpen (b .shared)) (mayGive (b .shared) (b .ballots)) true) e)
 
 abbrev pub untestedPerform : Bench → Event → Bench
-untestedPerform b (Lock n f) = perform b (Lock n f)
+untestedPerform b (Lock n f own) = perform b (Lock n f own)
 untestedPerform b (Order o) = perform b (Order o)
 untestedPerform b (Cast i willing target) = putBack b i (answering (b .shared) (station b i) (voteRule (b .shared .n) (b .shared .f) i willing target (controller b i)))
 untestedPerform b (Deliver i j kind) = putBack b j (answering (b .shared) (station b j) (arrives kind (b .shared .n) (b .shared .f) i ((ofKind kind (sentBy b i)) .votes) (controller b j)))
@@ -45,6 +45,7 @@ untestedPerform b (Decide i move) = perform b (Decide i move)
 untestedPerform b (Stop i) = perform b (Stop i)
 untestedPerform b (Save i) = perform b (Save i)
 untestedPerform b (Restore i) = perform b (Restore i)
+untestedPerform b (OfBallots e) = perform b (OfBallots e)
 
 unfoldable pub untestedStep : Bench → Event → Bench
 untestedStep b e = cond (isAccepted (untestedReply b e)) (untestedPerform b e) b

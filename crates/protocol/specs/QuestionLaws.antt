@@ -6,6 +6,7 @@ use Rattle.model.specs.declared.Kind.{Kind}
 use Rattle.model.specs.declared.Event.the-variants.{Deliver}
 use Rattle.protocol.specs.declared.Sent.{Sent}
 use Rattle.protocol.specs.declared.Station.{Station}
+use Rattle.protocol.specs.declared.Ballots.{Ballots}
 use Rattle.protocol.specs.declared.Shared.{Shared}
 use Rattle.protocol.specs.Questions.{Reply, accepted, isAccepted, unless, firstNo, questionsOf, factsOf}
 
@@ -23,11 +24,11 @@ by-cases true true true true true false t = refl
 by-cases true true true true true true t = refl
 
 -- the reply to a delivery, with this answer to 24
-abbrev replyWith : Shared → ℕ → ℕ → Kind → Station → Sent → Bool → Bool → Reply
-replyWith m i j kind s sent may agrees = firstNo (questionsOf (factsOf m (Deliver i j kind) s sent may agrees) (Deliver i j kind))
+abbrev replyWith : Shared → Ballots → (Bool → Bool) → ℕ → ℕ → Kind → Station → Sent → Bool → Bool → Reply
+replyWith m bs give i j kind s sent may agrees = firstNo (questionsOf (factsOf m bs (Deliver i j kind) s sent may give agrees) (Deliver i j kind))
 
-pub asked-last : (m : Shared) (i j : ℕ) (kind : Kind) (s : Station) (sent : Sent) (may agrees : Bool)
-    → replyWith m i j kind s sent may agrees
-    ≡ cond (isAccepted (replyWith m i j kind s sent may true)) (unless 24 agrees accepted) (replyWith m i j kind s sent may true)
+pub asked-last : (m : Shared) (bs : Ballots) (give : Bool → Bool) (i j : ℕ) (kind : Kind) (s : Station) (sent : Sent) (may agrees : Bool)
+    → replyWith m bs give i j kind s sent may agrees
+    ≡ cond (isAccepted (replyWith m bs give i j kind s sent may true)) (unless 24 agrees accepted) (replyWith m bs give i j kind s sent may true)
 unfolding firstNo
-asked-last m i j kind s sent may agrees = by-cases _ _ _ _ _ _ agrees
+asked-last m bs give i j kind s sent may agrees = by-cases _ _ _ _ _ _ agrees

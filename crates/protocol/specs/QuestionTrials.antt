@@ -35,10 +35,10 @@ sixWays kind a b c d x y = gives (Deliver 1 2 kind) a ∷ gives (Deliver 1 3 kin
 
 -- a lock of three with one backup, and an order in it
 abbrev locked : List Asked
-locked = gives (Lock 3 1) 0 ∷ []
+locked = gives (Lock 3 1 false) 0 ∷ []
 
 abbrev opened : List Asked
-opened = gives (Lock 3 1) 0 ∷ gives (Order 1) 0 ∷ []
+opened = gives (Lock 3 1 false) 0 ∷ gives (Order 1) 0 ∷ []
 
 unfoldable pub schedules : List (List Asked)
 schedules =
@@ -46,7 +46,7 @@ schedules =
     (gives (Order 0) 5 ∷ gives (Cast 0 true 20001) 5 ∷ gives (Deliver 1 1 Help) 5 ∷ gives (Timeout 0) 5 ∷ gives (Decide 0 true) 5 ∷ gives (Stop 0) 5 ∷ gives (Save 0) 5
     ∷ gives (Restore 0) 5 ∷ [])
     -- "4. Are n and f in range?" before "6. Is no lock set up yet? (lock)"
-    ∷ (locked ++ (gives (Lock 33 1) 4 ∷ gives (Lock 3 1) 6 ∷ gives (Lock 2 1) 6 ∷ []))
+    ∷ (locked ++ (gives (Lock 33 1 false) 4 ∷ gives (Lock 3 1 false) 6 ∷ gives (Lock 2 1 false) 6 ∷ []))
     -- "7. Are controller numbers in 1 to n, sender and receiver different?" of every event with a controller, of a delivery's sender as of its receiver;
     -- before 10, 11 and 14
     ∷ (locked ++ (gives (Cast 0 true 20001) 7 ∷ gives (Cast 4 true 20001) 7 ∷ gives (Deliver 0 1 Vote) 7 ∷ gives (Deliver 4 1 Vote) 7 ∷ gives (Deliver 1 0 Ack) 7
@@ -86,7 +86,7 @@ schedules =
     ∷ (opened ++ (gives (Cast 1 true 10) 0 ∷ gives (Cast 3 true 30) 0 ∷ gives (Timeout 3) 0 ∷ gives (Decide 3 false) 18 ∷ gives (Timeout 1) 0 ∷ gives (Timeout 1) 0
     ∷ gives (Decide 3 true) 18 ∷ gives (Decide 3 false) 0 ∷ gives (Decide 3 true) 18 ∷ gives (Decide 3 false) 0 ∷ gives (Decide 1 false) 0 ∷ []))
     -- **New order**: "Old telegrams, words put and the arbiter's choice are gone". In order 1 both put Stay and are given it; in order 2 only 2 puts a word, Move
-    ∷ (gives (Lock 2 1) 0 ∷ gives (Order 1) 0 ∷ gives (Cast 1 true 10) 0 ∷ gives (Cast 2 true 20) 0 ∷ gives (Timeout 1) 0 ∷ gives (Timeout 2) 0 ∷ gives (Timeout 1) 0 ∷ gives (Timeout 2) 0
+    ∷ (gives (Lock 2 1 false) 0 ∷ gives (Order 1) 0 ∷ gives (Cast 1 true 10) 0 ∷ gives (Cast 2 true 20) 0 ∷ gives (Timeout 1) 0 ∷ gives (Timeout 2) 0 ∷ gives (Timeout 1) 0 ∷ gives (Timeout 2) 0
     ∷ gives (Deliver 2 1 Vote) 0 ∷ gives (Deliver 2 1 Ack) 0 ∷ gives (Decide 1 false) 0 ∷ gives (Decide 2 false) 0 ∷ gives (Order 2) 0 ∷ gives (Deliver 2 1 Vote) 17 ∷ gives (Deliver 2 1 Ack) 17
     ∷ gives (Cast 1 true 10) 0 ∷ gives (Cast 2 true 20) 0 ∷ gives (Deliver 1 2 Vote) 0 ∷ gives (Timeout 2) 0 ∷ gives (Timeout 2) 0 ∷ gives (Decide 2 false) 18 ∷ gives (Decide 2 true) 0
     ∷ gives (Decide 2 false) 18 ∷ [])

@@ -11,15 +11,15 @@ use Rattle.protocol.specs.RowWords.{C, T, held, proposed, waits, calledB
 
 -- all are willing; 1 has the votes of 2 and 3 but not 4's, and its acknowledgement reaches 4, which waits
 abbrev incomplete : List Event
-incomplete = Lock 4 1 ∷ Order 1 ∷ Cast 1 true 10 ∷ Cast 2 true 20 ∷ Cast 3 true 30 ∷ Cast 4 true 40 ∷ Deliver 2 1 Vote ∷ Deliver 3 1 Vote ∷ Timeout 1 ∷ Timeout 4 ∷ Deliver 1 4 Ack ∷ []
+incomplete = Lock 4 1 false ∷ Order 1 ∷ Cast 1 true 10 ∷ Cast 2 true 20 ∷ Cast 3 true 30 ∷ Cast 4 true 40 ∷ Deliver 2 1 Vote ∷ Deliver 3 1 Vote ∷ Timeout 1 ∷ Timeout 4 ∷ Deliver 1 4 Ack ∷ []
 
 -- 3 waits, and has called 2; 1, which has no other's vote, puts Stay at its second timeout
 abbrev alone : List Event
-alone = Lock 3 1 ∷ Order 1 ∷ Cast 1 true 10 ∷ Cast 2 true 20 ∷ Cast 3 true 30 ∷ Timeout 3 ∷ Timeout 1 ∷ Timeout 1 ∷ []
+alone = Lock 3 1 false ∷ Order 1 ∷ Cast 1 true 10 ∷ Cast 2 true 20 ∷ Cast 3 true 30 ∷ Timeout 3 ∷ Timeout 1 ∷ Timeout 1 ∷ []
 
 -- all are willing; 2's vote reaches 1 before its first timeout, 3's after it
 abbrev late : List Event
-late = Lock 3 1 ∷ Order 1 ∷ Cast 1 true 10 ∷ Cast 2 true 20 ∷ Cast 3 true 30 ∷ Deliver 2 1 Vote ∷ Timeout 1 ∷ Deliver 3 1 Vote ∷ []
+late = Lock 3 1 false ∷ Order 1 ∷ Cast 1 true 10 ∷ Cast 2 true 20 ∷ Cast 3 true 30 ∷ Deliver 2 1 Vote ∷ Timeout 1 ∷ Deliver 3 1 Vote ∷ []
 
 -- a clean order of a lock of two, all willing, with these two targets
 abbrev moving : ℕ → ℕ → ℕ → List Event
@@ -41,7 +41,7 @@ ruleTrials =
     (C 2 None 0 ∷ C 3 None 0 ∷ C 2 None 0 ∷ C 3 None 0 ∷ []) (T 4 4 4 1) (held 1 0 ∷ calledBy (4 ∷ []) (waits 0 1) ∷ held 0 0 ∷ proposed Stay 1 2 ∷ [])
     -- **Bell at stage 2**: "Otherwise, if at least one is held, it puts the word of their join to the arbiter": of all that are held, that of f + 1 too.
     -- 1's own knows 1 alone, 2's knows both
-    ∷ putting Move (Lock 2 1 ∷ Order 1 ∷ Cast 1 true 500 ∷ Cast 2 true 250 ∷ Deliver 1 2 Vote ∷ Timeout 1 ∷ Timeout 2 ∷ Deliver 2 1 Ack ∷ Timeout 1 ∷ []) (allAccepted 9)
+    ∷ putting Move (Lock 2 1 false ∷ Order 1 ∷ Cast 1 true 500 ∷ Cast 2 true 250 ∷ Deliver 1 2 Vote ∷ Timeout 1 ∷ Timeout 2 ∷ Deliver 2 1 Ack ∷ Timeout 1 ∷ []) (allAccepted 9)
     (C 3 None 0 ∷ C 2 None 0 ∷ []) (T 2 2 0 0) (proposed Move 2 0 ∷ held 0 0 ∷ [])
     -- "After a word or an outcome, more of either is passed over." 2's acknowledgement comes to 1 after its word
     ∷ putting Stay (alone ++ (Timeout 2 ∷ Deliver 2 1 Ack ∷ [])) (allAccepted 10) (C 3 None 0 ∷ C 2 None 0 ∷ C 3 None 0 ∷ []) (T 3 3 1 0)
@@ -63,15 +63,15 @@ ruleTrials =
     -- and so does 3, which gets it after that vote
     ∷ putting Stay (late ++ (Deliver 1 3 Ack ∷ Timeout 3 ∷ [])) (allAccepted 10) (C 2 None 0 ∷ C 1 None 0 ∷ C 3 None 0 ∷ []) (T 3 2 0 0) (held 1 0 ∷ held 0 0 ∷ proposed Stay 1 0 ∷ [])
     -- its *word* is "Move if all n are known and willing, else Stay": 2 has not voted, and nobody is unwilling
-    ∷ putting Stay (Lock 2 1 ∷ Order 1 ∷ Cast 1 true 500 ∷ Timeout 1 ∷ Timeout 1 ∷ []) (allAccepted 5) (C 3 None 0 ∷ C 0 None 0 ∷ []) (T 1 1 0 0) (proposed Stay 1 0 ∷ held 0 0 ∷ [])
+    ∷ putting Stay (Lock 2 1 false ∷ Order 1 ∷ Cast 1 true 500 ∷ Timeout 1 ∷ Timeout 1 ∷ []) (allAccepted 5) (C 3 None 0 ∷ C 0 None 0 ∷ []) (T 1 1 0 0) (proposed Stay 1 0 ∷ held 0 0 ∷ [])
     -- "**Move** as outcome sets a running gate's position to its target", in every order and from wherever it stands: the second order's targets, and back to 0
-    ∷ silent (Lock 2 1 ∷ (moving 1 500 (minus 250) ++ moving 2 (minus 100) 300)) (allAccepted 23) (C 3 Move (minus 100) ∷ C 3 Move 300 ∷ []) (T 2 2 0 0) (held 2 0 ∷ held 1 0 ∷ [])
-    ∷ silent (Lock 2 1 ∷ (moving 1 500 (minus 250) ++ (moving 2 (minus 100) 300 ++ moving 7 0 20000))) (allAccepted 34) (C 3 Move 0 ∷ C 3 Move 20000 ∷ []) (T 2 2 0 0)
+    ∷ silent (Lock 2 1 false ∷ (moving 1 500 (minus 250) ++ moving 2 (minus 100) 300)) (allAccepted 23) (C 3 Move (minus 100) ∷ C 3 Move 300 ∷ []) (T 2 2 0 0) (held 2 0 ∷ held 1 0 ∷ [])
+    ∷ silent (Lock 2 1 false ∷ (moving 1 500 (minus 250) ++ (moving 2 (minus 100) 300 ++ moving 7 0 20000))) (allAccepted 34) (C 3 Move 0 ∷ C 3 Move 20000 ∷ []) (T 2 2 0 0)
     (held 2 0 ∷ held 1 0 ∷ [])
     -- by the arbiter's word too
-    ∷ putting Move (Lock 2 1 ∷ (moving 1 500 (minus 250) ++ given 2 (minus 100) 300)) (allAccepted 23) (C 3 Move (minus 100) ∷ C 3 Move 300 ∷ []) (T 2 2 0 0)
+    ∷ putting Move (Lock 2 1 false ∷ (moving 1 500 (minus 250) ++ given 2 (minus 100) 300)) (allAccepted 23) (C 3 Move (minus 100) ∷ C 3 Move 300 ∷ []) (T 2 2 0 0)
     (held 2 0 ∷ proposed Move 0 1 ∷ [])
     -- Stay leaves it where it stands
-    ∷ silent (Lock 2 1 ∷ (moving 1 500 (minus 250) ++ (Order 2 ∷ Cast 1 true 10 ∷ Cast 2 false 20 ∷ Deliver 1 2 Vote ∷ Deliver 2 1 Vote ∷ Timeout 1 ∷ Timeout 2 ∷ Deliver 1 2 Ack ∷ Deliver 2 1 Ack
+    ∷ silent (Lock 2 1 false ∷ (moving 1 500 (minus 250) ++ (Order 2 ∷ Cast 1 true 10 ∷ Cast 2 false 20 ∷ Deliver 1 2 Vote ∷ Deliver 2 1 Vote ∷ Timeout 1 ∷ Timeout 2 ∷ Deliver 1 2 Ack ∷ Deliver 2 1 Ack
     ∷ Timeout 1 ∷ Timeout 2 ∷ []))) (allAccepted 23) (C 3 Stay 500 ∷ C 3 Stay (minus 250) ∷ []) (T 2 2 0 0) (held 2 0 ∷ held 1 0 ∷ [])
     ∷ []

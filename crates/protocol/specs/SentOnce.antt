@@ -10,7 +10,7 @@ use Rattle.ground.specs.Mask.{has}
 use Rattle.model.specs.declared.Kind.{Kind}
 use Rattle.model.specs.declared.Kind.the-variants.{Vote, Ack, Help, Helped}
 use Rattle.model.specs.declared.Event.{Event}
-use Rattle.model.specs.declared.Event.the-variants.{Lock, Order, Cast, Deliver, Timeout, Decide, Stop, Save, Restore}
+use Rattle.model.specs.declared.Event.the-variants.{Lock, Order, Cast, Deliver, Timeout, Decide, Stop, Save, Restore, OfBallots}
 use Rattle.protocol.specs.declared.Identity.{Identity}
 use Rattle.protocol.specs.declared.Send.{Send}
 use Rattle.protocol.specs.declared.Send.the-variants.{Nothing, To}
@@ -44,7 +44,7 @@ sendCount b e kind = countTo (b .shared .n) (has (receiversAt b e kind))
 
 -- the count of what the accepted events of the order have sent: k before an event, and then
 abbrev pub countAccepted : Kind → Bench → Event → ℕ → ℕ
-countAccepted kind b (Lock n f) k = 0
+countAccepted kind b (Lock n f own) k = 0
 countAccepted kind b (Order o) k = 0
 countAccepted kind b (Cast i willing target) k = k + sendCount b (Cast i willing target) kind
 countAccepted kind b (Deliver i j x) k = k + sendCount b (Deliver i j x) kind
@@ -53,6 +53,7 @@ countAccepted kind b (Decide i move) k = k + sendCount b (Decide i move) kind
 countAccepted kind b (Stop i) k = k + sendCount b (Stop i) kind
 countAccepted kind b (Save i) k = k + sendCount b (Save i) kind
 countAccepted kind b (Restore i) k = k + sendCount b (Restore i) kind
+countAccepted kind b (OfBallots e) k = k + sendCount b (OfBallots e) kind
 
 unfoldable pub countSends : Kind → Bench → List Event → ℕ → ℕ
 countSends kind b [] k = k

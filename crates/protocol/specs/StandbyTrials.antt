@@ -17,11 +17,11 @@ use Rattle.protocol.specs.RowWords.{C, T, held, proposed, silent, puttin
 
 -- 1 is saved, and both put Stay; then 1 is stopped and restored, with no outcome
 abbrev standing : List Event
-standing = Lock 2 1 ∷ Order 1 ∷ Cast 1 true 500 ∷ Cast 2 true 250 ∷ Timeout 1 ∷ Timeout 2 ∷ Save 1 ∷ Timeout 1 ∷ Timeout 2 ∷ Stop 1 ∷ Restore 1 ∷ []
+standing = Lock 2 1 false ∷ Order 1 ∷ Cast 1 true 500 ∷ Cast 2 true 250 ∷ Timeout 1 ∷ Timeout 2 ∷ Save 1 ∷ Timeout 1 ∷ Timeout 2 ∷ Stop 1 ∷ Restore 1 ∷ []
 
 -- 1 is saved at position 0, decides Move and goes to 500, is stopped and restored with that checkpoint; 2 puts Move
 abbrev returned : List Event
-returned = Lock 2 1 ∷ Order 1 ∷ Cast 1 true 500 ∷ Cast 2 true 250 ∷ Deliver 1 2 Vote ∷ Deliver 2 1 Vote ∷ Save 1 ∷ Timeout 1 ∷ Timeout 2 ∷ Deliver 2 1 Ack ∷ Timeout 1 ∷ Timeout 2
+returned = Lock 2 1 false ∷ Order 1 ∷ Cast 1 true 500 ∷ Cast 2 true 250 ∷ Deliver 1 2 Vote ∷ Deliver 2 1 Vote ∷ Save 1 ∷ Timeout 1 ∷ Timeout 2 ∷ Deliver 2 1 Ack ∷ Timeout 1 ∷ Timeout 2
     ∷ Stop 1 ∷ Restore 1 ∷ []
 
 unfoldable pub standbyTrials : List Trial

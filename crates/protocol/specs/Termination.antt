@@ -107,7 +107,7 @@ AllNeeded (r ∷ rs) = Needed r × AllNeeded rs
 
 -- all willing, with target 0
 abbrev pub votes3 : List Event → List Event
-votes3 es = Lock 3 1 ∷ Order 1 ∷ Cast 1 true 0 ∷ Cast 2 true 0 ∷ Cast 3 true 0 ∷ es
+votes3 es = Lock 3 1 false ∷ Order 1 ∷ Cast 1 true 0 ∷ Cast 2 true 0 ∷ Cast 3 true 0 ∷ es
 
 -- 1 is stopped, and its vote has come to 2
 abbrev pub without1 : List Event → List Event
@@ -140,7 +140,7 @@ lackings =
     -- none is stopped, both put Move, and the arbiter has answered neither
     ∷ record {
       premise = answered;
-      events = Lock 2 1 ∷ Order 1 ∷ Cast 1 true 0 ∷ Cast 2 true 0 ∷ Deliver 1 2 Vote ∷ Deliver 2 1 Vote ∷ Timeout 1 ∷ Timeout 2 ∷ Timeout 1 ∷ Timeout 2
+      events = Lock 2 1 false ∷ Order 1 ∷ Cast 1 true 0 ∷ Cast 2 true 0 ∷ Deliver 1 2 Vote ∷ Deliver 2 1 Vote ∷ Timeout 1 ∷ Timeout 2 ∷ Timeout 1 ∷ Timeout 2
           ∷ Deliver 1 2 Ack ∷ Deliver 2 1 Ack ∷ [];
       who = 1;
     }
@@ -154,5 +154,5 @@ pub record Termination : Type 0 where
   -- f up to n − 2; with n − f ≡ 1 a controller's own answer is enough, and none waits
   pub waited : (n f : ℕ) → sizesInRange n f ≡ true → suc (suc f) ≤ n → WaitedList n f
   -- from every moment of an open order with at most f controllers stopped or standing by
-  pub onward : (es : List Event) → 1 ≤ (after es) .shared .order → Meets few-down es → Onward es
+  pub onward : (es : List Event) → 1 ≤ (after es) .shared .order → (after es) .shared .own ≡ false → Meets few-down es → Onward es
   pub needed : AllNeeded lackings

@@ -1,6 +1,9 @@
 // The state of the controllers and of the bench. The rules over it stand in specs/, and so does the claim about them.
 ghost use Rattle.protocol.specs.Alone.{ControllerAlone};
 ghost use Rattle.protocol.specs.AskedInSequence.{AskedInSequence};
+ghost use Rattle.protocol.specs.BallotClaim.{BallotsAgree};
+ghost use Rattle.protocol.specs.BallotStrays.{BallotStrays};
+ghost use Rattle.protocol.specs.BallotsNotHollow.{BallotsNotHollow};
 ghost use Rattle.protocol.specs.Claim.{Demand3};
 ghost use Rattle.protocol.specs.KeptCheckpoints.{KeptCheckpoints};
 ghost use Rattle.protocol.specs.NoContradiction.{NoContradiction};
@@ -13,6 +16,7 @@ ghost use Rattle.protocol.specs.Strays.{Strays};
 ghost use Rattle.protocol.specs.Termination.{Termination};
 ghost use Rattle.protocol.specs.Trials.{TrialsHold};
 use ground::LIMIT;
+use model::BallotMessage;
 use model::Checkpoint;
 use model::Message;
 use model::Outcome;
@@ -72,8 +76,8 @@ pub struct Controller {
     pub acks: Acks,
     pub helped: HelpAnswers,
     pub help: HelpState,
-    // the word it put to the arbiter since it last began; document 02's U5 speaks of it (`HasPut`, Termination.antt), the trials look at it, and a
-    // lock that settles the word by itself will
+    // the word it put to the arbiter since it last began; document 02's U5 speaks of it (`HasPut`, Termination.antt), the trials look at it, and
+    // at a lock without arbiter its ballots put it
     pub proposal: Outcome,
     pub gate: Gate,
 }
@@ -162,19 +166,79 @@ pub struct Counts {
     pub present: u8,
 }
 
-// What the controllers of a bench share: their lock, their order (0 before the first), the consensus, and how many of them are undecided.
+// How many ballots an order has: "Ballots go from 1 to 255" (document 02, U14).
+pub const BALLOTS: usize = 255;
+
+// What a controller has promised and accepted in the ballots of its order (Lamport's acceptor): its highest promise; the ballot that it gave its last promise
+// in; the ballot that it last accepted (document 02: took), and the word of it. 0 stands for none.
+pub struct Acceptor {
+    pub highest: u8,
+    pub promised: u8,
+    pub last: u8,
+    pub word: Outcome,
+}
+
+// What the owner of a ballot has counted for it: whose promises came in; the highest ballot that these report, and its word; the word that it put, if any.
+pub struct Tally {
+    pub from: u32,
+    pub top: u8,
+    pub top_word: Outcome,
+    pub word: Outcome,
+}
+
+// A promise, if one is given: it reports the ballot that its giver had last accepted, and the word of it.
+pub struct Report {
+    pub given: bool,
+    pub last: u8,
+    pub word: Outcome,
+}
+
+// What a controller answers to a call of one ballot: what it has promised and accepted now; what it has counted; the promise that it gives; whether it puts a
+// word (the tally's), and whether it accepts one.
+pub struct BallotAnswer {
+    pub acceptor: Acceptor,
+    pub tally: Tally,
+    pub promise: Report,
+    pub proposes: bool,
+    pub accepts: bool,
+}
+
+// One of the messages of such an answer, which a cabinet sends one by one; or there are no more.
+pub enum ToSendBallot {
+    AllSent,
+    Next(BallotMessage),
+}
+
+// One ballot on the bench: what its owner has counted; who has promised it, and which ballot each of them had last accepted then; who has accepted it ("the
+// bench notes each taking, and a stop keeps the note"). What was sent in it follows from these.
+pub struct BallotRow {
+    pub tally: Tally,
+    pub promised_by: u32,
+    pub lasts: [u8; LIMIT],
+    pub accepted_by: u32,
+}
+
+// The ballots of an order: what each controller has promised and accepted, and each ballot.
+pub struct Ballots {
+    pub acceptors: [Acceptor; LIMIT],
+    pub rows: [BallotRow; BALLOTS],
+}
+
+// What the controllers of a bench share: their lock (`own`: do they settle the word by ballots of their own), their order (0 before the first), the consensus, and how many of them are undecided.
 pub struct Shared {
     pub locked: bool,
     pub n: u8,
     pub f: u8,
+    pub own: bool,
     pub order: u32,
     pub consensus: Consensus,
     pub counts: Counts,
 }
 
-// The bench: what is shared, and up to LIMIT controllers.
+// The bench: what is shared, the ballots, and up to LIMIT controllers.
 pub struct Bench {
     pub shared: Shared,
+    pub ballots: Ballots,
     pub stations: [Station; LIMIT],
 }
 
@@ -187,6 +251,17 @@ pub struct Effect {
 // Demand 3 of the buyer, as a contract: it holds of the definitions over these types, for every list of events.
 pub fn demand_3()
     ensures { λ _. ⌜ Demand3 ⌝ }
+{}
+
+// What takes the arbiter's place at a lock whose controllers settle the word by ballots (document 02, U14): in one order no two words are chosen, what is chosen
+// was put there, and every word given is chosen.
+pub fn ballots_agree()
+    ensures { λ _. ⌜ BallotsAgree ⌝ }
+{}
+
+// It is not hollow: at every such lock the controllers can settle an order's word by a ballot, and all hold it.
+pub fn ballots_not_hollow()
+    ensures { λ _. ⌜ BallotsNotHollow ⌝ }
 {}
 
 // It is not hollow: for every lock and each of its controllers there are lists with a clean order, and the claim gives their outcomes; and for every
@@ -239,6 +314,12 @@ pub fn no_contradiction()
 // What a controller, on the bench or alone, does with a vote set that contradicts one that it holds.
 pub fn stray_messages()
     ensures { λ _. ⌜ Strays ⌝ }
+{}
+
+// What a controller passes over in ballots: telegrams of another order, n or f, for another controller, from another than the ballot's owner, and all of them where
+// it takes no part.
+pub fn stray_ballots()
+    ensures { λ _. ⌜ BallotStrays ⌝ }
 {}
 
 // A controller alone, through any calls: no two vote sets that it holds ever contradict each other, each join of its rules is there, its own vote stands on

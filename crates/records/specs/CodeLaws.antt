@@ -6,12 +6,14 @@ use native.Mathlib.Omega.{arith}
 use lib.Dec.{leb}
 use borrow.Author.Tests.{leb-true}
 use Rattle.ground.specs.Tests.{and-l, and-r}
-use Rattle.model.specs.Numbers.{kindNumber, outcomeNumber}
+use Rattle.model.specs.Numbers.{kindNumber, ballotKindNumber, outcomeNumber}
 use Rattle.model.specs.declared.Kind.{Kind}
 use Rattle.model.specs.declared.Kind.the-variants.{Vote, Ack, Help, Helped}
+use Rattle.model.specs.declared.BallotKind.{BallotKind}
+use Rattle.model.specs.declared.BallotKind.the-variants.{Prepare, Promise, Accept, Accepted}
 use Rattle.model.specs.declared.Outcome.{Outcome}
 use Rattle.model.specs.declared.Outcome.the-variants.{None, Stay, Move}
-use Rattle.records.specs.Codes.{isKind, kindOf, isOutcome, outcomeOf, isFlag, flagOf, flagNumber}
+use Rattle.records.specs.Codes.{isKind, kindOf, isBallotKind, ballotKindOf, isOutcome, outcomeOf, isFlag, flagOf, flagNumber}
 
 pub kind-listed : (k : Kind) → isKind (kindNumber k) ≡ true
 unfolding isKind
@@ -39,6 +41,45 @@ kind-in-range (suc (suc (suc (suc (suc x))))) l h = absurd (omega arith)
 pub number-of-kind : (x : ℕ) → isKind x ≡ true → kindNumber (kindOf x) ≡ x
 unfolding isKind
 number-of-kind x t = kind-in-range x (leb-true 1 x (and-l (leb 1 x) (leb x 4) t)) (leb-true x 4 (and-r (leb 1 x) (leb x 4) t))
+
+pub ballot-kind-listed : (k : BallotKind) → isBallotKind (ballotKindNumber k) ≡ true
+unfolding isBallotKind
+ballot-kind-listed Prepare = refl
+ballot-kind-listed Promise = refl
+ballot-kind-listed Accept = refl
+ballot-kind-listed Accepted = refl
+
+pub ballot-kind-of-number : (k : BallotKind) → ballotKindOf (ballotKindNumber k) ≡ k
+unfolding ballotKindOf
+ballot-kind-of-number Prepare = refl
+ballot-kind-of-number Promise = refl
+ballot-kind-of-number Accept = refl
+ballot-kind-of-number Accepted = refl
+
+ballot-kind-in-range : (x : ℕ) → 5 ≤ x → x ≤ 8 → ballotKindNumber (ballotKindOf x) ≡ x
+unfolding ballotKindOf
+ballot-kind-in-range zero l h = absurd (omega arith)
+ballot-kind-in-range (suc zero) l h = absurd (omega arith)
+ballot-kind-in-range (suc (suc zero)) l h = absurd (omega arith)
+ballot-kind-in-range (suc (suc (suc zero))) l h = absurd (omega arith)
+ballot-kind-in-range (suc (suc (suc (suc zero)))) l h = absurd (omega arith)
+ballot-kind-in-range (suc (suc (suc (suc (suc zero))))) l h = refl
+ballot-kind-in-range (suc (suc (suc (suc (suc (suc zero)))))) l h = refl
+ballot-kind-in-range (suc (suc (suc (suc (suc (suc (suc zero))))))) l h = refl
+ballot-kind-in-range (suc (suc (suc (suc (suc (suc (suc (suc zero)))))))) l h = refl
+ballot-kind-in-range (suc (suc (suc (suc (suc (suc (suc (suc (suc x))))))))) l h = absurd (omega arith)
+
+pub number-of-ballot-kind : (x : ℕ) → isBallotKind x ≡ true → ballotKindNumber (ballotKindOf x) ≡ x
+unfolding isBallotKind
+number-of-ballot-kind x t = ballot-kind-in-range x (leb-true 5 x (and-l (leb 5 x) (leb x 8) t)) (leb-true x 8 (and-r (leb 5 x) (leb x 8) t))
+
+-- no number is of both: kinds 5 to 8 are not among 1 to 4
+pub kinds-apart : (k : BallotKind) → isKind (ballotKindNumber k) ≡ false
+unfolding isKind
+kinds-apart Prepare = refl
+kinds-apart Promise = refl
+kinds-apart Accept = refl
+kinds-apart Accepted = refl
 
 pub outcome-listed : (o : Outcome) → isOutcome (outcomeNumber o) ≡ true
 outcome-listed None = refl

@@ -4,6 +4,8 @@ use mathlib.Core.Bool.{Bool, true, false, cond, _&&_}
 use lib.Dec.{eqb, leb}
 use Rattle.model.specs.declared.Kind.{Kind}
 use Rattle.model.specs.declared.Kind.the-variants.{Vote, Ack, Help, Helped}
+use Rattle.model.specs.declared.BallotKind.{BallotKind}
+use Rattle.model.specs.declared.BallotKind.the-variants.{Prepare, Promise, Accept, Accepted}
 use Rattle.model.specs.declared.Outcome.{Outcome}
 use Rattle.model.specs.declared.Outcome.the-variants.{None, Stay, Move}
 
@@ -13,6 +15,13 @@ isKind x = leb 1 x && leb x 4
 
 unfoldable pub kindOf : ℕ → Kind
 kindOf x = cond (eqb x 1) Vote (cond (eqb x 2) Ack (cond (eqb x 3) Help Helped))
+
+-- Document 02, U14: "Telegram kinds 5 ask, 6 promise, 7 put and 8 taken"
+unfoldable pub isBallotKind : ℕ → Bool
+isBallotKind x = leb 5 x && leb x 8
+
+unfoldable pub ballotKindOf : ℕ → BallotKind
+ballotKindOf x = cond (eqb x 5) Prepare (cond (eqb x 6) Promise (cond (eqb x 7) Accept Accepted))
 
 -- "outcome (0 none, 1 Stay, 2 Move)"
 abbrev pub isOutcome : ℕ → Bool

@@ -32,7 +32,7 @@ pub record Promises {S A R : Type 0} (c : Codec S A R) : Type 0 where
   -- "a refused write leaves its buffer untouched"
   pub untouched : (out : List ℕ) (a : A) (q : ℕ) → writeReply c out a ≡ refused q → writes c out a ≡ out
 
--- "In this sequence, each where it applies": the numbers of the questions that reading puts, and of those that writing does
-pub record AskedInSequence {S A R : Type 0} (c : Codec S A R) (reading writing : List ℕ) : Type 0 where
-  pub at-reading : (s : List ℕ) → numbersAsked (readQuestions c s) ≡ reading
-  pub at-writing : (out : List ℕ) (a : A) → numbersAsked (writeQuestions c out a) ≡ writing
+-- "In this sequence, each where it applies": the numbers of the questions that reading puts by a form, and of those that writing in it does
+pub record AskedInSequence {S A R : Type 0} (c : Codec S A R) (reading writing : S → List ℕ) : Type 0 where
+  pub at-reading : (s : List ℕ) → numbersAsked (readQuestions c s) ≡ reading (c .formOn s)
+  pub at-writing : (out : List ℕ) (a : A) → numbersAsked (writeQuestions c out a) ≡ writing (c .formOf a)

@@ -1,8 +1,9 @@
 // Which values are listed for a kind, an outcome and a flag, and what they stand for.
+use model::BallotKind;
 use model::Kind;
 use model::Outcome;
 ghost use mathlib.Core.Path.{_≡_};
-ghost use Rattle.records.specs.Codes.{isKind, kindOf, isOutcome, outcomeOf, isFlag, flagOf, flagNumber};
+ghost use Rattle.records.specs.Codes.{isKind, kindOf, isBallotKind, ballotKindOf, isOutcome, outcomeOf, isFlag, flagOf, flagNumber};
 
 pub fn is_kind(x: u8) -> bool
     ensures { λ r. ⌜ r ≡ isKind x ⌝ }
@@ -23,6 +24,27 @@ pub fn kind_of(x: u8) -> Kind
         return Kind::Help;
     }
     Kind::Helped
+}
+
+pub fn is_ballot_kind(x: u8) -> bool
+    ensures { λ r. ⌜ r ≡ isBallotKind x ⌝ }
+{
+    5 <= x && x <= 8
+}
+
+pub fn ballot_kind_of(x: u8) -> BallotKind
+    ensures { λ r. ⌜ r ≡ ballotKindOf x ⌝ }
+{
+    if x == 5 {
+        return BallotKind::Prepare;
+    }
+    if x == 6 {
+        return BallotKind::Promise;
+    }
+    if x == 7 {
+        return BallotKind::Accept;
+    }
+    BallotKind::Accepted
 }
 
 pub fn is_outcome(x: u8) -> bool

@@ -23,7 +23,7 @@ fn of_four(a: u8, b: u8, c: u8, d: u8) -> u32
 }
 
 // The byte k places after a place; past the end there is none, and it counts as 0.
-fn byte_after(s: &[u8], at: usize, k: usize) -> u8
+pub fn byte_after(s: &[u8], at: usize, k: usize) -> u8
     ensures { λ r. ⌜ r ≡ byte (now (s .entry)) (at + k) ⌝ }
 {
     if s.len() <= at {

@@ -22,7 +22,7 @@ use votes::VoteSet;
 ghost use mathlib.Core.Path.{_≡_};
 ghost use Prim.Native.Nat.{_<_};
 
-fn byte(s: &[u8], i: usize) -> u8 {
+pub(crate) fn byte(s: &[u8], i: usize) -> u8 {
     if i < s.len() {
         return s[i];
     }
@@ -36,7 +36,7 @@ fn wide(x: u8) -> u32
 }
 
 // Four bytes from i on, big-endian.
-fn number(s: &[u8], i: usize) -> u32 {
+pub(crate) fn number(s: &[u8], i: usize) -> u32 {
     if 20 < i {
         return 0;
     }
@@ -47,14 +47,30 @@ fn number(s: &[u8], i: usize) -> u32 {
     ((a * 256 + b) * 256 + c) * 256 + d
 }
 
-// Is this a command? A message has a kind from 1 to 4.
+// Is this a message? It has a kind from 1 to 8 and, if that is one of ballots, a word.
+fn is_message(s: &[u8]) -> bool {
+    let kind = byte(s, 1);
+    if 5 <= kind {
+        return kind <= 8 && byte(s, 22) <= 2;
+    }
+    1 <= kind
+}
+
+// Is this a command? A lock settles the word by ballots (1) or does not (0).
 pub(crate) fn is_command(s: &[u8]) -> bool {
     let op = byte(s, 0);
-    if op == 3 {
-        let kind = byte(s, 1);
-        return 1 <= kind && kind <= 4;
+    if op == 0 {
+        return byte(s, 8) <= 1;
     }
-    op <= 8
+    if op == 3 {
+        return is_message(s);
+    }
+    op <= 8 || op == 10
+}
+
+// Does the command, which is a message, belong to a ballot?
+pub(crate) fn is_ballot_message(s: &[u8]) -> bool {
+    5 <= byte(s, 1)
 }
 
 fn kind_at(s: &[u8]) -> Kind {
@@ -82,8 +98,9 @@ fn message_at(s: &[u8]) -> Message {
     }
 }
 
-fn outcome_at(s: &[u8]) -> Outcome {
-    match byte(s, 1) {
+// None, Stay or Move in byte i.
+pub(crate) fn outcome_at(s: &[u8], i: usize) -> Outcome {
+    match byte(s, i) {
         1 => Outcome::Stay,
         2 => Outcome::Move,
         _ => Outcome::None,
@@ -95,7 +112,7 @@ fn checkpoint_at(s: &[u8], me: Identity) -> Checkpoint {
         id: me.id,
         n: me.n,
         f: me.f,
-        outcome: outcome_at(s),
+        outcome: outcome_at(s, 1),
         order: number(s, 4),
         position: number(s, 8),
     }
@@ -144,14 +161,30 @@ fn later_answer(s: &[u8], me: Identity, c: Controller) -> Answer {
     }
 }
 
-// What the controller answers to a command.
-pub(crate) fn answer_to(s: &[u8], me: Identity, c: Controller) -> Answer {
+// A call of a ballot is taken or passed over; all else that it changes stands beside the controller.
+fn called(taken: bool, c: Controller) -> Answer {
+    if taken {
+        return becomes(c);
+    }
+    passed_over(c)
+}
+
+fn received(s: &[u8], me: Identity, c: Controller, taken: bool) -> Answer {
+    if is_ballot_message(s) {
+        return called(taken, c);
+    }
+    receive(me, message_at(s), c)
+}
+
+// What the controller answers to a command. `taken`: does it take it, if it is one of a ballot.
+pub(crate) fn answer_to(s: &[u8], me: Identity, c: Controller, taken: bool) -> Answer {
     match byte(s, 0) {
         0 => becomes(fresh()),
         1 => becomes(renew(c)),
         2 => vote(me, byte(s, 1) == 1, number(s, 4), c),
-        3 => receive(me, message_at(s), c),
+        3 => received(s, me, c, taken),
         4 => timeout(me, c),
+        10 => called(taken, c),
         _ => later_answer(s, me, c),
     }
 }

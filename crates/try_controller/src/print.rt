@@ -18,7 +18,7 @@ use protocol::Sends;
 use protocol::ToSend;
 use votes::VoteSet;
 
-fn put(out: &mut [u8], at: usize, b: u8) -> usize {
+pub(crate) fn put(out: &mut [u8], at: usize, b: u8) -> usize {
     if at < out.len() {
         out[at] = b;
         return at + 1;
@@ -37,7 +37,7 @@ fn put_text(out: &mut [u8], at: usize, text: &[u8]) -> usize {
 }
 
 // A mark, then a number in decimal digits.
-fn put_number(out: &mut [u8], at: usize, mark: u8, v: u32) -> usize {
+pub(crate) fn put_number(out: &mut [u8], at: usize, mark: u8, v: u32) -> usize {
     let mut digits = [0u8; 20];
     let n = io::decimal(v as u64, &mut digits);
     let next = put(out, at, mark);
@@ -163,16 +163,20 @@ pub(crate) fn flush(out: &[u8], n: usize) {
     }
 }
 
-// A line, which has at most some 1,000 bytes. A buffer that is nearly full is written out, and begins again at 0.
-pub(crate) fn put_line(out: &mut [u8], at: usize, me: Identity, a: Answer, saved: Saved) -> usize {
-    let sends = a.sends;
-    let mut next = put_answer(out, at, a);
-    next = put_checkpoint(out, next, saved);
-    next = put_messages(out, next, me, sends);
-    next = put(out, next, b'\n');
+// The end of a line, which has at most some 1,000 bytes. A buffer that is nearly full is written out, and begins again at 0.
+pub(crate) fn end_line(out: &mut [u8], at: usize) -> usize {
+    let next = put(out, at, b'\n');
     if 64000 < next {
         flush(out, next);
         return 0;
     }
     next
+}
+
+// A line without its end, and without what it has of ballots.
+pub(crate) fn put_line(out: &mut [u8], at: usize, me: Identity, a: Answer, saved: Saved) -> usize {
+    let sends = a.sends;
+    let mut next = put_answer(out, at, a);
+    next = put_checkpoint(out, next, saved);
+    put_messages(out, next, me, sends)
 }

@@ -1,6 +1,6 @@
 // Reads frames of 40 bytes and prints a line for each: what reading or writing a record answers. Another implementation prints the same.
 //
-// Byte 0 says what to do: 0, 1, 2 read a message, a checkpoint, an event; 3, 4, 5 write one. Byte 1 is the length of the slice or of the buffer, 0 to
+// Byte 0 says what to do: 0, 1, 2 read a telegram, a checkpoint, an event; 3, 4, 5 write one. Byte 1 is the length of the slice or of the buffer, 0 to
 // 32. What is read, or the fields of what is written, starts at byte 2. A short last frame is ignored.
 mod line;
 mod reading;

@@ -5,8 +5,10 @@ use crate::line::put;
 use crate::line::put_hex;
 use crate::line::put_number;
 use event_record::ReadEvent;
+use model::BallotMessage;
 use model::Checkpoint;
 use model::Message;
+use model::Telegram;
 use records::number4;
 use votes::VoteSet;
 ghost use mathlib.Core.Path.{_≡_};
@@ -27,10 +29,16 @@ fn written(q: u8, out: &[u8]) -> Line {
     line
 }
 
+fn telegram_line(t: Telegram, out: &mut [u8]) -> Line {
+    let q = message_bytes::write_telegram(out, t);
+    written(q, out)
+}
+
+// Kinds 1 to 4 have no ballot, last and word.
 fn message_line(x: &[u8], out: &mut [u8]) -> Line
     requires { ⌜ length (now x) ≡ 38 ⌝ }
 {
-    if !records::is_kind(x[0]) {
+    if number4(x, 17) / 256 != 0 {
         return unlisted();
     }
     let votes = VoteSet {
@@ -46,8 +54,51 @@ fn message_line(x: &[u8], out: &mut [u8]) -> Line
         order: number4(x, 5),
         votes,
     };
-    let q = message_record::write_message(out, m);
-    written(q, out)
+    telegram_line(Telegram::Plain(m), out)
+}
+
+// Kinds 5 to 8 have an empty vote set.
+fn ballot_line(x: &[u8], out: &mut [u8]) -> Line
+    requires { ⌜ length (now x) ≡ 38 ⌝ }
+{
+    let votes = VoteSet {
+        known: number4(x, 9),
+        willing: number4(x, 13),
+    };
+    if votes.known != 0 {
+        return unlisted();
+    }
+    if votes.willing != 0 {
+        return unlisted();
+    }
+    if !records::is_outcome(x[19]) {
+        return unlisted();
+    }
+    let b = BallotMessage {
+        kind: records::ballot_kind_of(x[0]),
+        n: x[1],
+        f: x[2],
+        from: x[3],
+        to: x[4],
+        order: number4(x, 5),
+        votes,
+        ballot: x[17],
+        last: x[18],
+        word: records::outcome_of(x[19]),
+    };
+    telegram_line(Telegram::OfBallot(b), out)
+}
+
+fn of_kind(x: &[u8], out: &mut [u8]) -> Line
+    requires { ⌜ length (now x) ≡ 38 ⌝ }
+{
+    if records::is_kind(x[0]) {
+        return message_line(x, out);
+    }
+    if records::is_ballot_kind(x[0]) {
+        return ballot_line(x, out);
+    }
+    unlisted()
 }
 
 fn checkpoint_line(x: &[u8], out: &mut [u8]) -> Line
@@ -85,7 +136,7 @@ pub(crate) fn line_of(what: u8, x: &[u8], out: &mut [u8]) -> Line
     requires { ⌜ length (now x) ≡ 38 ⌝ }
 {
     match what {
-        3 => message_line(x, out),
+        3 => of_kind(x, out),
         4 => checkpoint_line(x, out),
         5 => event_line(x, out),
         _ => unlisted(),

@@ -43,7 +43,8 @@ fn render(s: &[u8], out: &mut [u8]) -> usize
         b = done.bench;
         k += 1;
     }
-    write_report(&mut *out, &answers[..k], summary_of(b))
+    let stations = b.stations;
+    write_report(&mut *out, &answers[..k], summary_of(b.shared, stations))
 }
 
 fn main() {

@@ -57,6 +57,12 @@ enum-known-e-9 c = search needs
 restore-requires : tie.Need-restore-requires
 restore-requires c κs = search needs
 
+enum-known-e-10 : tie.Need-enum-known-e-10
+enum-known-e-10 c = search needs
+
+ballot-requires : tie.Need-ballot-requires
+ballot-requires c κs = search needs
+
 returns : tie.Need-returns
 returns c = rw (c .before .before .e .given .1) (c .lock .ensures)
 
@@ -84,6 +90,9 @@ returns-8 c = rw (c .before .before .e8 .given .1) (c .save .ensures)
 returns-9 : tie.Need-returns-9
 returns-9 c = rw (c .before .before .e9 .given .1) (c .restore .ensures)
 
+returns-10 : tie.Need-returns-10
+returns-10 c = rw (c .before .before .e10 .given .1) (c .ballot .ensures)
+
 pub step-spec : {M : Type 1} → statement M
 step-spec =
     tie.close
@@ -106,6 +115,8 @@ step-spec =
     save-requires
     enum-known-e-9
     restore-requires
+    enum-known-e-10
+    ballot-requires
     returns
     returns-2
     returns-3
@@ -114,4 +125,5 @@ step-spec =
     returns-6
     returns-7
     returns-8
-    returns-9)
+    returns-9
+    returns-10)

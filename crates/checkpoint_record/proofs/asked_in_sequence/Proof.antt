@@ -5,7 +5,7 @@ use Rattle.checkpoint_record.specs.Checkpoints.{aboutCheckpoint, checkpo
 use Rattle.checkpoint_record.proofs.asked_in_sequence.Statement.{statement}
 use Rattle.checkpoint_record.proofs.asked_in_sequence.Tie as tie
 
-asked : AskedInSequence checkpoints (1 ∷ 2 ∷ 3 ∷ 4 ∷ 7 ∷ 8 ∷ 11 ∷ []) (1 ∷ 4 ∷ 7 ∷ 8 ∷ 11 ∷ [])
+asked : AskedInSequence checkpoints (λ k. 1 ∷ 2 ∷ 3 ∷ 4 ∷ 7 ∷ 8 ∷ 11 ∷ []) (λ k. 1 ∷ 4 ∷ 7 ∷ 8 ∷ 11 ∷ [])
 unfolding aboutCheckpoint
 asked = record { at-reading = λ s. refl; at-writing = λ out a. refl }
 

@@ -7,7 +7,7 @@ use Rattle.protocol.proofs.asked_in_sequence.Tie as tie
 
 asked : (b : Bench) → AskedInSequence b
 asked b = record {
-  lock = λ n f. refl;
+  lock = λ n f own. refl;
   order = λ o. refl;
   vote = λ i w t. refl;
   deliver = λ i j kind. refl;
@@ -16,6 +16,8 @@ asked b = record {
   stop = λ i. refl;
   save = λ i. refl;
   restore = λ i. refl;
+  open-ballot = λ i b. refl;
+  carry = λ i j kind b. refl;
 }
 
 returns : tie.Need-returns

@@ -9,7 +9,7 @@ use borrow.Author.Tests.{ne-eqb}
 use Rattle.ground.specs.Tests.{no-both, split, or-no-l, or-no-r, eqb-same}
 use Rattle.ground.specs.Update.{upd-same, upd-other}
 use Rattle.model.specs.declared.Event.{Event}
-use Rattle.model.specs.declared.Event.the-variants.{Lock, Order, Cast, Deliver, Timeout, Decide, Stop, Save, Restore}
+use Rattle.model.specs.declared.Event.the-variants.{Lock, Order, Cast, Deliver, Timeout, Decide, Stop, Save, Restore, OfBallots}
 use Rattle.protocol.specs.declared.Saved.the-variants.{Newest}
 use Rattle.protocol.specs.declared.Bench.{Bench}
 use Rattle.protocol.specs.Benches.{newBench}
@@ -17,7 +17,7 @@ use Rattle.protocol.specs.Questions.{isAccepted, reply}
 use Rattle.protocol.specs.Steps.{renewed, step, run}
 use Rattle.protocol.specs.Claim.{after}
 use Rattle.protocol.specs.KeptCheckpoints.{savesAt, savesAny, checkpointIn, asShown, KeptCheckpoints}
-use Rattle.protocol.proofs.view.View.{View, openedV}
+use Rattle.protocol.proofs.view.View.{View, ballotsV, openedV}
 use Rattle.protocol.proofs.view.Performed.{commitV, chosen, savedV, performV, stepV}
 use Rattle.protocol.proofs.view.Simulation.{view, Sound, reply-sim, step-sim}
 use Rattle.protocol.proofs.claim.Moments.{accepted-is, run-append, run-one, run-cons, refused-step}
@@ -34,7 +34,7 @@ module _ (b : Bench) (a : Sound b) where
 
   kept-by : (e : Event) (i : ℕ) → isAccepted (reply b e) ≡ true → savesAt i b e ≡ false → (performV (b .shared .n) (b .shared .f) (view b) e) .saved i ≡ checkpointIn b i
   unfolding performV commitV view
-  kept-by (Lock n f) i q s = refl
+  kept-by (Lock n f own) i q s = refl
   kept-by (Order o) i q s = unfold openedV renewed in refl
   kept-by (Cast j w t) i q s = refl
   kept-by (Deliver j k kind) i q s = refl
@@ -46,6 +46,7 @@ module _ (b : Bench) (a : Sound b) where
       saved : i ≡ j → (eqb j i && isAccepted (reply b (Save j))) ≡ true
       saved z = rw (z, q) (ap (λ t. t && true) (eqb-same j))
   kept-by (Restore j) i q s = refl
+  kept-by (OfBallots e) i q s = unfold ballotsV in refl
 
   -- a save makes what is shown
   made : (i : ℕ) → isAccepted (reply b (Save i)) ≡ true → checkpointIn (step b (Save i)) i ≡ Newest (asShown b i)
@@ -55,7 +56,7 @@ module _ (b : Bench) (a : Sound b) where
 step-kept : (b : Bench) (e : Event) (i : ℕ) → Reached b → savesAt i b e ≡ false → checkpointIn (step b e) i ≡ checkpointIn b i
 step-kept b e i (inl z) s = subst (λ (x : Bench). checkpointIn (step x e) i ≡ checkpointIn x i) (sym z) (elim (new-step e) [
   | inl y ↦ ap (λ (x : Bench). checkpointIn x i) y
-  | inr l ↦ ap (λ (x : Bench). checkpointIn x i) (l .is) ∙ freshes true (l .n) (l .f) i .saved ∙ sym (freshes false 0 0 i .saved)
+  | inr l ↦ ap (λ (x : Bench). checkpointIn x i) (l .is) ∙ freshes true (l .n) (l .f) (l .own) i .saved ∙ sym (freshes false 0 0 false i .saved)
 ])
 step-kept b e i (inr a) s = elim (split (isAccepted (reply b e))) [
   | inl q ↦ as-view b a e i q ∙ kept-by b a e i q s
@@ -80,5 +81,5 @@ kept-checkpoints = record {
       ap (λ (x : Bench). checkpointIn x i) (run-append es (Save i ∷ more) newBench ∙ run-cons (Save i) more b)
       ∙ run-kept more (step b (Save i)) i (step-reached b (Save i) (reached es)) (ap (λ (x : Bench). savesAny i x more) (sym now) ∙ s)
       ∙ made-at b i (reached es) (accepted-is _ q);
-  none = λ es i s. run-kept es newBench i (inl refl) s ∙ freshes false 0 0 i .saved;
+  none = λ es i s. run-kept es newBench i (inl refl) s ∙ freshes false 0 0 false i .saved;
 }

@@ -22,7 +22,7 @@ use Rattle.model.specs.Ranges.{isController}
 use Rattle.model.specs.declared.Kind.{Kind}
 use Rattle.model.specs.declared.Kind.the-variants.{Vote, Ack, Help, Helped}
 use Rattle.model.specs.declared.Event.{Event}
-use Rattle.model.specs.declared.Event.the-variants.{Lock, Order, Cast, Deliver, Timeout, Decide, Stop, Save, Restore}
+use Rattle.model.specs.declared.Event.the-variants.{Lock, Order, Cast, Deliver, Timeout, Decide, Stop, Save, Restore, OfBallots}
 use Rattle.message_record.specs.Messages.{bitsInRange, knowsForKind, suits}
 use Rattle.protocol.specs.declared.Acks.{Acks}
 use Rattle.protocol.specs.declared.Controller.{Controller}
@@ -159,7 +159,7 @@ module _ (G H : ℕ → Type 0) (g0 : G 0) (n f : ℕ) (small : n ≤ limit) (v 
 
   pub clear : (e : Event) → accepts n f v e ≡ true → Clear n f v e
   unfolding accepts firstNo isController
-  clear (Lock a c) q = tt
+  clear (Lock a c w) q = tt
   clear (Order o) q = tt
   clear (Cast i w t) q = nothing-dropped i w (leb-true _ _ (search (ask-l, ask-r, and-l, and-r) depth 14)) (leb-true _ _ (search (ask-l, ask-r, and-l, and-r) depth 14)) (search (ask-l, ask-r, and-l, and-r) depth 14) (eqb-true _ _ (search (ask-l, ask-r, and-l, and-r) depth 14))
   clear (Deliver i j kind) q =
@@ -169,4 +169,5 @@ module _ (G H : ℕ → Type 0) (g0 : G 0) (n f : ℕ) (small : n ≤ limit) (v 
   clear (Decide i w) q = tt
   clear (Stop i) q = tt
   clear (Save i) q = tt
+  clear (OfBallots e) q = tt
   clear (Restore i) q = tt

@@ -13,7 +13,7 @@ use Rattle.ground.specs.MaskLaws.{has-none, none-has}
 use Rattle.model.specs.declared.Kind.{Kind}
 use Rattle.model.specs.declared.Kind.the-variants.{Vote, Ack, Help, Helped}
 use Rattle.model.specs.declared.Event.{Event}
-use Rattle.model.specs.declared.Event.the-variants.{Lock, Order, Cast, Deliver, Timeout, Decide, Stop, Save, Restore}
+use Rattle.model.specs.declared.Event.the-variants.{Lock, Order, Cast, Deliver, Timeout, Decide, Stop, Save, Restore, OfBallots}
 use Rattle.protocol.specs.declared.Answer.{Answer}
 use Rattle.protocol.specs.declared.Identity.{Identity}
 use Rattle.protocol.specs.declared.Send.{Send}
@@ -30,7 +30,7 @@ use Rattle.protocol.specs.Steps.{perform, step, run, renewed}
 use Rattle.protocol.specs.Display.{WasSent, sumTo, sentCount, messageCount}
 use Rattle.protocol.specs.Claim.{after, opensOrder, opensAny}
 use Rattle.protocol.specs.SentOnce.{receiversOf, sendOf, receiversAt, sendCount, countAccepted, countSends, StaysSent, SentOnce}
-use Rattle.protocol.proofs.view.View.{View, openedV, accepts}
+use Rattle.protocol.proofs.view.View.{ballotsV, View, openedV, accepts}
 use Rattle.protocol.proofs.view.Performed.{commitV, chosen, savedV, ruleAnswer, performV, place, stepV}
 use Rattle.protocol.proofs.view.Simulation.{view, Sound, rule-sim, reply-sim, step-steps, step-sim}
 use Rattle.protocol.proofs.invariant.Arrivals.{count-zero}
@@ -59,8 +59,8 @@ silent : (kind : Kind) (b : Bench) → ((k : ℕ) → sentBy b k ≡ unsentAll) 
 unfolding messageCount sentCount
 silent kind b h = sum-zero (b .shared .n) _ (λ k. unsent-size (b .shared .n) kind (sentBy b k) (h k))
 
-pub fresh-silent : (kind : Kind) (locked : Bool) (n f : ℕ) → messageCount (benchOf locked n f) kind ≡ 0
-fresh-silent kind locked n f = silent kind (benchOf locked n f) (λ k. freshes locked n f k .sent)
+pub fresh-silent : (kind : Kind) (locked : Bool) (n f : ℕ) (own : Bool) → messageCount (benchOf locked n f own) kind ≡ 0
+fresh-silent kind locked n f own = silent kind (benchOf locked n f own) (λ k. freshes locked n f own k .sent)
 
 -- messages, of the view
 as-view : (b : Bench) (n f : ℕ) (kind : Kind) → b .shared .n ≡ n → messageCount b kind ≡ messageCountV n f (view b) kind
@@ -98,8 +98,14 @@ module _ (b : Bench) (a : Sound b) where
       → messageCountV n f (commitV (view b) (subject e) (ruleAnswer n f (view b) e)) kind ≡ messageCountV n f (view b) kind + countTo n (has (receiversOf (sendOf kind ((ruleAnswer n f (view b) e) .sends))))
   committed kind e c q = let p : (1 ≤ subject e) × (subject e ≤ n) = place n f (view b) e c q in commit-counted n f (view b) (subject e) (ruleAnswer n f (view b) e) kind (p .0) (p .1) (rule-new n f (view b) (a .inv) e q)
 
+  nothing-more : (kind : Kind) → messageCountV n f (view b) kind ≡ messageCountV n f (view b) kind + countTo n (has (receiversOf (sendOf kind (record { vote = Nothing; ack = Nothing; help = Nothing; helped = Nothing }))))
+  nothing-more Vote = let z : countTo n (has 0) ≡ 0 = count-zero n in omega arith
+  nothing-more Ack = let z : countTo n (has 0) ≡ 0 = count-zero n in omega arith
+  nothing-more Help = let z : countTo n (has 0) ≡ 0 = count-zero n in omega arith
+  nothing-more Helped = let z : countTo n (has 0) ≡ 0 = count-zero n in omega arith
+
   step-counted : (kind : Kind) (e : Event) → accepts n f (view b) e ≡ true → messageCount (step b e) kind ≡ countAccepted kind b e (messageCount b kind)
-  step-counted kind (Lock x y) q = absurd (no-both _ (reply-sim b (a) (Lock x y) ∙ q) (lock-refused b x y (a .locked)))
+  step-counted kind (Lock x y own) q = absurd (no-both _ (reply-sim b (a) (Lock x y own) ∙ q) (lock-refused b x y own (a .locked)))
   step-counted kind (Order o) q = after-view kind (Order o) q ∙ sum-zero n (λ k. countTo n (has ((ofKind kind ((performV n f (view b) (Order o)) .state .sent k)) .to)))
       (λ k. unsent-size n kind ((performV n f (view b) (Order o)) .state .sent k) (unfold performV openedV renewed in refl))
   step-counted kind (Cast i w t) q = counted-by kind (Cast i w t) q (unfold performV ruleAnswer in committed kind (Cast i w t) refl q)
@@ -114,12 +120,13 @@ module _ (b : Bench) (a : Sound b) where
       saves Ack = let z : countTo n (has 0) ≡ 0 = count-zero n in omega arith
       saves Help = let z : countTo n (has 0) ≡ 0 = count-zero n in omega arith
       saves Helped = let z : countTo n (has 0) ≡ 0 = count-zero n in omega arith
+  step-counted kind (OfBallots e) q = counted-by kind (OfBallots e) q (unfold performV ballotsV ruleAnswer passedOver in nothing-more kind)
   step-counted kind (Restore i) q = counted-by kind (Restore i) q (unfold performV ruleAnswer in committed kind (Restore i) refl q)
 
   -- what was sent stays sent
   performed-kept : (e : Event) → accepts n f (view b) e ≡ true → opensOrder b e ≡ false → (kind : Kind) (j i : ℕ) → has ((ofKind kind (sentBy b i)) .to) j ≡ true
       → Stays j (ofKind kind (sentBy b i)) (ofKind kind ((performV n f (view b) e) .state .sent i))
-  performed-kept (Lock x y) q o kind j i h = unfold performV view in record { sent = h; votes = refl }
+  performed-kept (Lock x y own) q o kind j i h = unfold performV view in record { sent = h; votes = refl }
   performed-kept (Order m) q o kind j i h = absurd (no-both _ (reply-sim b (a) (Order m) ∙ q) o)
   performed-kept (Cast k w t) q o kind j i h = unfold performV ruleAnswer view in commit-kept n f (view b) k _ (rule-new n f (view b) (a .inv) (Cast k w t) q) kind j i h
   performed-kept (Deliver k m x) q o kind j i h = unfold performV ruleAnswer view in commit-kept n f (view b) m _ (rule-new n f (view b) (a .inv) (Deliver k m x) q) kind j i h
@@ -127,6 +134,7 @@ module _ (b : Bench) (a : Sound b) where
   performed-kept (Decide k w) q o kind j i h = unfold performV ruleAnswer chosen view in commit-kept n f (chosen (view b) w) k _ (rule-new n f (view b) (a .inv) (Decide k w) q) kind j i h
   performed-kept (Stop k) q o kind j i h = unfold performV ruleAnswer view in commit-kept n f (view b) k _ (rule-new n f (view b) (a .inv) (Stop k) q) kind j i h
   performed-kept (Save k) q o kind j i h = unfold performV savedV view in record { sent = h; votes = refl }
+  performed-kept (OfBallots e) q o kind j i h = unfold performV ballotsV view in record { sent = h; votes = refl }
   performed-kept (Restore k) q o kind j i h = unfold performV ruleAnswer view in commit-kept n f (view b) k _ (rule-new n f (view b) (a .inv) (Restore k) q) kind j i h
 
   accepted-kept : (e : Event) → accepts n f (view b) e ≡ true → opensOrder b e ≡ false → (kind : Kind) (j i : ℕ) → has ((ofKind kind (sentBy b i)) .to) j ≡ true
@@ -138,9 +146,9 @@ module _ (b : Bench) (a : Sound b) where
 
 -- from the new bench the lock alone is accepted, and nothing is sent
 new-counted : (kind : Kind) (e : Event) → isAccepted (reply newBench e) ≡ true → messageCount (step newBench e) kind ≡ countAccepted kind newBench e (messageCount newBench kind)
-new-counted kind (Lock n f) q = ap (λ (b : Bench). messageCount b kind) locks ∙ fresh-silent kind true n f
+new-counted kind (Lock n f own) q = ap (λ (b : Bench). messageCount b kind) locks ∙ fresh-silent kind true n f own
   where
-    locks : step newBench (Lock n f) ≡ benchOf true n f
+    locks : step newBench (Lock n f own) ≡ benchOf true n f own
     locks = unfold step perform in rw q
 new-counted kind (Order o) q = absurd (no-both _ q (unlocked (Order o) tt))
 new-counted kind (Cast i w t) q = absurd (no-both _ q (unlocked (Cast i w t) tt))
@@ -149,6 +157,7 @@ new-counted kind (Timeout i) q = absurd (no-both _ q (unlocked (Timeout i) tt))
 new-counted kind (Decide i w) q = absurd (no-both _ q (unlocked (Decide i w) tt))
 new-counted kind (Stop i) q = absurd (no-both _ q (unlocked (Stop i) tt))
 new-counted kind (Save i) q = absurd (no-both _ q (unlocked (Save i) tt))
+new-counted kind (OfBallots e) q = absurd (no-both _ q (unlocked (OfBallots e) tt))
 new-counted kind (Restore i) q = absurd (no-both _ q (unlocked (Restore i) tt))
 
 accepted-counted : (kind : Kind) (b : Bench) (e : Event) → Reached b → isAccepted (reply b e) ≡ true → messageCount (step b e) kind ≡ countAccepted kind b e (messageCount b kind)
@@ -168,14 +177,14 @@ run-counted kind (e ∷ es) b r = run-counted kind es (step b e) (step-reached b
 
 once-at : (b : Bench) (e : Event) (kind : Kind) (j : ℕ) → Reached b → reply b e ≡ accepted → has (receiversAt b e kind) j ≡ true → has ((ofKind kind (sentBy b (subject e))) .to) j ≡ false
 once-at b e kind j (inl z) p h = subst (λ (x : Bench). has ((ofKind kind (sentBy x (subject e))) .to) j ≡ false) (sym z)
-    (ap (λ (l : Sent). has ((ofKind kind l) .to) j) (freshes false 0 0 (subject e) .sent) ∙ ap (λ (m : ℕ). has m j) (unsent-kind kind) ∙ has-none j)
+    (ap (λ (l : Sent). has ((ofKind kind l) .to) j) (freshes false 0 0 false (subject e) .sent) ∙ ap (λ (m : ℕ). has m j) (unsent-kind kind) ∙ has-none j)
 once-at b e kind j (inr a) p h = adds b a e (sym (reply-sim b (a) e) ∙ accepted-is _ p) .fresh kind j h
 
 -- over every list
 step-kept : (b : Bench) (e : Event) → Reached b → opensOrder b e ≡ false → (kind : Kind) (j i : ℕ) → has ((ofKind kind (sentBy b i)) .to) j ≡ true
     → Stays j (ofKind kind (sentBy b i)) (ofKind kind (sentBy (step b e) i))
 step-kept b e (inl z) o kind j i h =
-    none-has j (sym (ap (λ (x : Bench). has ((ofKind kind (sentBy x i)) .to) j) z ∙ ap (λ (l : Sent). has ((ofKind kind l) .to) j) (freshes false 0 0 i .sent) ∙ ap (λ (m : ℕ). has m j) (unsent-kind kind)) ∙ h)
+    none-has j (sym (ap (λ (x : Bench). has ((ofKind kind (sentBy x i)) .to) j) z ∙ ap (λ (l : Sent). has ((ofKind kind l) .to) j) (freshes false 0 0 false i .sent) ∙ ap (λ (m : ℕ). has m j) (unsent-kind kind)) ∙ h)
 step-kept b e (inr a) o kind j i h = elim (split (isAccepted (reply b e))) [
   | inl q ↦ accepted-kept b a e (sym (reply-sim b (a) e) ∙ q) o kind j i h
   | inr q ↦ subst (λ (x : Bench). Stays j (ofKind kind (sentBy b i)) (ofKind kind (sentBy x i))) (sym (refused-step b e q)) (record { sent = h; votes = refl })
@@ -203,6 +212,6 @@ pub sent-once : SentOnce
 sent-once = record {
   once = λ es e kind j p h s. no-both _ s (once-at (after es) e kind j (reached es) p h);
   kept = kept-from;
-  counted = λ es kind. run-counted kind es newBench (inl refl) ∙ ap (countSends kind newBench es) (fresh-silent kind false 0 0);
+  counted = λ es kind. run-counted kind es newBench (inl refl) ∙ ap (countSends kind newBench es) (fresh-silent kind false 0 0 false);
   listed = messages-listed;
 }

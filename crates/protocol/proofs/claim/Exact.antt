@@ -150,12 +150,12 @@ module _ (b : Bench) (f<n : b .shared .f < b .shared .n) (log : List Event) (q :
 -- a moment of a clean order, of a list in which a lock was accepted
 module _ (es : List Event) (o : Opened es) (c : Clean ((after es) .shared .n) ((after es) .shared .f) es) where
   abbrev b₀ : Bench
-  b₀ = benchOf true (o .n) (o .f)
+  b₀ = benchOf true (o .n) (o .f) (o .own)
 
   lock-without-help : WithoutHelp (o .n) (o .f) (view b₀) []
   unfolding view
-  lock-without-help = blank-without-help (o .n) (o .f) (view b₀) (λ k. freshes true (o .n) (o .f) k .ctl) (λ k. freshes true (o .n) (o .f) k .sent) (unfold benchOf in refl) (unfold benchOf in refl)
-      (λ k v e x. none-word v (sym (ap savedOutcome (freshes true (o .n) (o .f) k .saved)) ∙ x))
+  lock-without-help = blank-without-help (o .n) (o .f) (view b₀) (λ k. freshes true (o .n) (o .f) (o .own) k .ctl) (λ k. freshes true (o .n) (o .f) (o .own) k .sent) (unfold benchOf in refl) (unfold benchOf in refl)
+      (λ k v e x. none-word v (sym (ap savedOutcome (freshes true (o .n) (o .f) (o .own) k .saved)) ∙ x))
 
   vlog : List Event
   vlog = logV (o .n) (o .f) (view b₀) [] (o .post)
@@ -170,7 +170,7 @@ module _ (es : List Event) (o : Opened es) (c : Clean ((after es) .shared .n) ((
   without-help : WithoutHelp ((after es) .shared .n) ((after es) .shared .f) (view (after es)) vlog
   unfolding vlog
   without-help = subst₂ (λ x y. WithoutHelp x y (view (after es)) vlog) (sym (here es o .is-n)) (sym (here es o .is-f)) (subst (λ (v : View). WithoutHelp (o .n) (o .f) v vlog) (sym (here es o .shows))
-      (run-without-help (o .n) (o .f) (range es o .high) (range es o .low) (range es o .small) (o .post) (view b₀) [] (lock-inv (o .n) (o .f) (o .sized)) (λ x. lock-good (o .n) (o .f) (o .sized) (range es o .high)) (λ x. lock-without-help) clean-steps))
+      (run-without-help (o .n) (o .f) (range es o .high) (range es o .low) (range es o .small) (o .post) (view b₀) [] (lock-inv (o .n) (o .f) (o .own) (o .sized)) (λ x. lock-good (o .n) (o .f) (o .own) (o .sized) (range es o .high)) (λ x. lock-without-help) clean-steps))
 
   below : (after es) .shared .f < (after es) .shared .n
   below = let x : (after es) .shared .n ≡ o .n = here es o .is-n in let y : (after es) .shared .f ≡ o .f = here es o .is-f in let z : o .f < o .n = range es o .high in omega arith
@@ -199,12 +199,12 @@ figures es e = elim (start es) [
       record { votes = omega arith; acks = omega arith; no-help = help-unsent (after es) l _ q; no-helped = helped-unsent (after es) l _ q }
 ]
   where
-    none : Figures (benchOf false 0 0)
+    none : Figures (benchOf false 0 0 false)
     none = record {
-      votes = fresh-silent Vote false 0 0 ∙ (unfold benchOf in refl);
-      acks = fresh-silent Ack false 0 0 ∙ (unfold benchOf in refl);
-      no-help = fresh-silent Help false 0 0;
-      no-helped = fresh-silent Helped false 0 0;
+      votes = fresh-silent Vote false 0 0 false ∙ (unfold benchOf in refl);
+      acks = fresh-silent Ack false 0 0 false ∙ (unfold benchOf in refl);
+      no-help = fresh-silent Help false 0 0 false;
+      no-helped = fresh-silent Helped false 0 0 false;
     }
 
 pub clean-messages : CleanMessages

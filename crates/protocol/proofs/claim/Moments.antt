@@ -9,7 +9,7 @@ use Rattle.ground.specs.Tests.{no-both, split, by-cond, or-no, or-no-l, or-no-r
 use Rattle.model.specs.QuestionLaws.{is-accepted}
 use Rattle.model.specs.Ranges.{sizesInRange}
 use Rattle.model.specs.declared.Event.{Event}
-use Rattle.model.specs.declared.Event.the-variants.{Lock, Order, Cast, Deliver, Timeout, Decide, Stop, Save, Restore}
+use Rattle.model.specs.declared.Event.the-variants.{Lock, Order, Cast, Deliver, Timeout, Decide, Stop, Save, Restore, OfBallots}
 use Rattle.protocol.specs.declared.Bench.{Bench}
 use Rattle.protocol.specs.Benches.{newBench, benchOf}
 use Rattle.protocol.specs.Questions.{Reply, accepted, isAccepted, unless, firstNo, reply}
@@ -100,7 +100,7 @@ split-in e (y ∷ later) earlier = inr (split-in e later earlier)
 -- events that enter the log ----------------------------------------------------
 
 abbrev pub Enters : Event → Type 0
-Enters (Lock a c) = ⊥
+Enters (Lock a c own) = ⊥
 Enters (Order o) = ⊥
 Enters (Cast i w t) = Unit {0}
 Enters (Deliver i j k) = Unit {0}
@@ -108,6 +108,7 @@ Enters (Timeout i) = Unit {0}
 Enters (Decide i w) = Unit {0}
 Enters (Stop i) = Unit {0}
 Enters (Save i) = Unit {0}
+Enters (OfBallots e) = Unit {0}
 Enters (Restore i) = Unit {0}
 
 -- an event either begins the log anew or enters it, and what enters it opens no order
@@ -118,7 +119,7 @@ pub record Entry (b : Bench) (e : Event) : Type 0 where
 
 entry : (b : Bench) (e : Event) → ((log : List Event) → entered e log ≡ []) ⊎ Entry b e
 unfolding entered
-entry b (Lock a c) = inl (λ log. refl)
+entry b (Lock a c own) = inl (λ log. refl)
 entry b (Order o) = inl (λ log. refl)
 entry b (Cast i w t) = inr (record { enters = tt; adds = λ log. refl; opens = refl })
 entry b (Deliver i j k) = inr (record { enters = tt; adds = λ log. refl; opens = refl })
@@ -126,11 +127,12 @@ entry b (Timeout i) = inr (record { enters = tt; adds = λ log. refl; opens = re
 entry b (Decide i w) = inr (record { enters = tt; adds = λ log. refl; opens = refl })
 entry b (Stop i) = inr (record { enters = tt; adds = λ log. refl; opens = refl })
 entry b (Save i) = inr (record { enters = tt; adds = λ log. refl; opens = refl })
+entry b (OfBallots e) = inr (record { enters = tt; adds = λ log. refl; opens = refl })
 entry b (Restore i) = inr (record { enters = tt; adds = λ log. refl; opens = refl })
 
 pub entry-of : (b : Bench) (e : Event) → Enters e → Entry b e
 unfolding entered
-entry-of b (Lock a c) t = absurd t
+entry-of b (Lock a c own) t = absurd t
 entry-of b (Order o) t = absurd t
 entry-of b (Cast i w t) u = record { enters = tt; adds = λ log. refl; opens = refl }
 entry-of b (Deliver i j k) u = record { enters = tt; adds = λ log. refl; opens = refl }
@@ -138,11 +140,12 @@ entry-of b (Timeout i) u = record { enters = tt; adds = λ log. refl; opens = re
 entry-of b (Decide i w) u = record { enters = tt; adds = λ log. refl; opens = refl }
 entry-of b (Stop i) u = record { enters = tt; adds = λ log. refl; opens = refl }
 entry-of b (Save i) u = record { enters = tt; adds = λ log. refl; opens = refl }
+entry-of b (OfBallots e) u = record { enters = tt; adds = λ log. refl; opens = refl }
 entry-of b (Restore i) u = record { enters = tt; adds = λ log. refl; opens = refl }
 
 -- a refused event opens no order
 refused-opens : (b : Bench) (e : Event) → isAccepted (reply b e) ≡ false → opensOrder b e ≡ false
-refused-opens b (Lock a c) q = refl
+refused-opens b (Lock a c own) q = refl
 refused-opens b (Order o) q = q
 refused-opens b (Cast i w t) q = refl
 refused-opens b (Deliver i j k) q = refl
@@ -150,6 +153,7 @@ refused-opens b (Timeout i) q = refl
 refused-opens b (Decide i w) q = refl
 refused-opens b (Stop i) q = refl
 refused-opens b (Save i) q = refl
+refused-opens b (OfBallots e) q = refl
 refused-opens b (Restore i) q = refl
 
 -- from the log to the list ---------------------------------------------------------
@@ -217,7 +221,7 @@ in-order es e m = let s : Split e (logAt es) = in-split e (logAt es) m in placed
 -- an event that enters the log is asked for a lock, a bench keeps its lock, and then refuses another
 has-lock : (b : Bench) (e : Event) → Enters e → reply b e ≡ accepted → b .shared .locked ≡ true
 unfolding reply firstNo
-has-lock b (Lock a c) t q = absurd t
+has-lock b (Lock a c own) t q = absurd t
 has-lock b (Order o) t q = absurd t
 has-lock b (Cast i w t) u q = ask-l 5 (b .shared .locked) _ (accepted-is _ q)
 has-lock b (Deliver i j k) u q = ask-l 5 (b .shared .locked) _ (accepted-is _ q)
@@ -225,11 +229,12 @@ has-lock b (Timeout i) u q = ask-l 5 (b .shared .locked) _ (accepted-is _ q)
 has-lock b (Decide i w) u q = ask-l 5 (b .shared .locked) _ (accepted-is _ q)
 has-lock b (Stop i) u q = ask-l 5 (b .shared .locked) _ (accepted-is _ q)
 has-lock b (Save i) u q = ask-l 5 (b .shared .locked) _ (accepted-is _ q)
+has-lock b (OfBallots e) u q = ask-l 5 (b .shared .locked) _ (accepted-is _ q)
 has-lock b (Restore i) u q = ask-l 5 (b .shared .locked) _ (accepted-is _ q)
 
 perform-locked : (b : Bench) (e : Event) → b .shared .locked ≡ true → (perform b e) .shared .locked ≡ true
 unfolding perform benchOf orderOpened effectOf answering proposedTo decidedAs
-perform-locked b (Lock a c) h = refl
+perform-locked b (Lock a c own) h = refl
 perform-locked b (Order o) h = h
 perform-locked b (Cast i w t) h = h
 perform-locked b (Deliver i j k) h = h
@@ -237,15 +242,16 @@ perform-locked b (Timeout i) h = h
 perform-locked b (Decide i w) h = h
 perform-locked b (Stop i) h = h
 perform-locked b (Save i) h = h
+perform-locked b (OfBallots e) h = h
 perform-locked b (Restore i) h = h
 
 pub step-locked : (b : Bench) (e : Event) → b .shared .locked ≡ true → (step b e) .shared .locked ≡ true
 unfolding step
 step-locked b e h = by-cond (λ (x : Bench). x .shared .locked ≡ true) (isAccepted (reply b e)) (perform b e) b (λ q. perform-locked b e h) (λ q. h)
 
-pub lock-refused : (b : Bench) (a c : ℕ) → b .shared .locked ≡ true → isAccepted (reply b (Lock a c)) ≡ false
+pub lock-refused : (b : Bench) (a c : ℕ) (own : Bool) → b .shared .locked ≡ true → isAccepted (reply b (Lock a c own)) ≡ false
 unfolding reply firstNo unless
-lock-refused b a c h = by (sizesInRange a c)
+lock-refused b a c own h = by (sizesInRange a c)
   where
     by : (t : Bool) → isAccepted (unless 4 t (unless 6 (not (b .shared .locked)) accepted)) ≡ false
     by true = unfold unless in rw h
@@ -264,7 +270,7 @@ grew-step b x log h o = elim (split (isAccepted (reply b x))) [
 ]
   where
     by-kind : (x : Event) → isAccepted (reply b x) ≡ true → opensOrder b x ≡ false → Grew log (entered x log)
-    by-kind (Lock a c) q o = absurd (no-both _ q (lock-refused b a c h))
+    by-kind (Lock a c own) q o = absurd (no-both _ q (lock-refused b a c own h))
     by-kind (Order a) q o = absurd (no-both _ q o)
     by-kind (Cast i w t) q o = unfold entered in record { later = Cast i w t ∷ []; is = refl }
     by-kind (Deliver i j k) q o = unfold entered in record { later = Deliver i j k ∷ []; is = refl }
@@ -272,6 +278,7 @@ grew-step b x log h o = elim (split (isAccepted (reply b x))) [
     by-kind (Decide i w) q o = unfold entered in record { later = Decide i w ∷ []; is = refl }
     by-kind (Stop i) q o = unfold entered in record { later = Stop i ∷ []; is = refl }
     by-kind (Save i) q o = unfold entered in record { later = Save i ∷ []; is = refl }
+    by-kind (OfBallots e) q o = unfold entered in record { later = OfBallots e ∷ []; is = refl }
     by-kind (Restore i) q o = unfold entered in record { later = Restore i ∷ []; is = refl }
 
 grew : (es : List Event) (b : Bench) (log : List Event) → b .shared .locked ≡ true → opensAny b es ≡ false → Grew log (logOf b log es)

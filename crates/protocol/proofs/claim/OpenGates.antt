@@ -18,7 +18,7 @@ use Rattle.votes.specs.VoteSets.{empty}
 use Rattle.model.specs.Ranges.{sizesInRange}
 use Rattle.model.specs.RangeLaws.{ranges}
 use Rattle.model.specs.declared.Event.{Event}
-use Rattle.model.specs.declared.Event.the-variants.{Lock, Order, Cast, Deliver, Timeout, Decide, Stop, Save, Restore}
+use Rattle.model.specs.declared.Event.the-variants.{Lock, Order, Cast, Deliver, Timeout, Decide, Stop, Save, Restore, OfBallots}
 use Rattle.protocol.specs.declared.Condition.{Condition}
 use Rattle.protocol.specs.declared.Condition.the-variants.{Running, Stopped, Standby}
 use Rattle.protocol.specs.declared.Controller.{Controller}
@@ -33,7 +33,7 @@ use Rattle.protocol.specs.Questions.{mayOpen}
 use Rattle.protocol.specs.Steps.{renewed, orderOpened, run}
 use Rattle.protocol.specs.Claim.{after}
 use Rattle.protocol.specs.OpenCount.{isOpen, fullCount, hasEnded, OpenCount}
-use Rattle.protocol.proofs.view.View.{View, openedV, accepts, part}
+use Rattle.protocol.proofs.view.View.{ballotsV, View, openedV, accepts, part}
 use Rattle.protocol.proofs.view.Performed.{upd-id, commitV, chosen, savedV, performV, place, stepV, runV}
 use Rattle.protocol.proofs.view.Simulation.{view, Runs, run-sim}
 use Rattle.protocol.proofs.claim.Start.{start, all-of-copies, lock-sound}
@@ -118,7 +118,7 @@ module _ (n f : ℕ) (small : n ≤ limit) where
 
   perform-follows : (v : View) (e : Event) → accepts n f v e ≡ true → Follows n v → Follows n (performV n f v e)
   unfolding performV
-  perform-follows v (Lock a c) q h = h
+  perform-follows v (Lock a c own) q h = h
   perform-follows v (Order o) q h = opened-follows v o h
   perform-follows v (Cast i w t) q h = commit-follows v i _ (place n f v (Cast i w t) refl q) h
   perform-follows v (Deliver i j k) q h = commit-follows v j _ (place n f v (Deliver i j k) refl q) h
@@ -126,6 +126,7 @@ module _ (n f : ℕ) (small : n ≤ limit) where
   perform-follows v (Decide i w) q h = commit-follows (chosen v w) i _ (place n f v (Decide i w) refl q) (chosen-follows v w h)
   perform-follows v (Stop i) q h = commit-follows v i _ (place n f v (Stop i) refl q) h
   perform-follows v (Save i) q h = unfold savedV in record { undecided = h .undecided; present = h .present }
+  perform-follows v (OfBallots e) q h = unfold ballotsV in record { undecided = h .undecided; present = h .present }
   perform-follows v (Restore i) q h = commit-follows v i _ (place n f v (Restore i) refl q) h
 
   step-follows : (v : View) (e : Event) → Follows n v → Follows n (stepV n f v e)
@@ -140,9 +141,9 @@ module _ (n f : ℕ) (small : n ≤ limit) where
 -- the bench, from the new one on ---------------------------------------------------------
 
 -- a bench whose controllers have just begun
-begins : (locked : Bool) (n f : ℕ) → Follows n (view (benchOf locked n f))
+begins : (locked : Bool) (n f : ℕ) (own : Bool) → Follows n (view (benchOf locked n f own))
 unfolding view benchOf station freshStation fresh
-begins locked n f = record {
+begins locked n f own = record {
   undecided = sym (all-count n _ (λ k a b. all-of-copies (λ (s : Station). lacksOutcome (s .controller .condition) ≡ true) (freshStation []) (freshStation (replicate limit empty)) refl refl limit k));
   present = sym (all-count n _ (λ k a b. all-of-copies (λ (s : Station). isPresent (s .controller .condition) ≡ true) (freshStation []) (freshStation (replicate limit empty)) refl refl limit k));
 }
@@ -151,24 +152,24 @@ begins locked n f = record {
 abbrev Kept : Bench → Type 0
 Kept b = Follows (b .shared .n) (view b)
 
-has-n : (locked : Bool) (n f : ℕ) → (benchOf locked n f) .shared .n ≡ n
+has-n : (locked : Bool) (n f : ℕ) (own : Bool) → (benchOf locked n f own) .shared .n ≡ n
 unfolding benchOf
-has-n locked n f = refl
+has-n locked n f own = refl
 
-locked-kept : (n f : ℕ) → sizesInRange n f ≡ true → (es : List Event) → Kept (run (benchOf true n f) es)
-locked-kept n f sized es =
-    let b : Bench = benchOf true n f in
-    let r : Runs b (run b es) (runV n f (view b) es) = run-sim n f es b (lock-sound n f sized) (has-n true n f) (has-f true n f) in
-    subst (λ (m : ℕ). Follows m (view (run b es))) (sym (r .same-n ∙ has-n true n f))
-    (subst (Follows n) (sym (r .view-is)) (run-follows n f (ranges n f sized .small) es (view b) (begins true n f)))
+locked-kept : (n f : ℕ) (own : Bool) → sizesInRange n f ≡ true → (es : List Event) → Kept (run (benchOf true n f own) es)
+locked-kept n f own sized es =
+    let b : Bench = benchOf true n f own in
+    let r : Runs b (run b es) (runV n f (view b) es) = run-sim n f es b (lock-sound n f own sized) (has-n true n f own) (has-f true n f own) in
+    subst (λ (m : ℕ). Follows m (view (run b es))) (sym (r .same-n ∙ has-n true n f own))
+    (subst (Follows n) (sym (r .view-is)) (run-follows n f (ranges n f sized .small) es (view b) (begins true n f own)))
   where
-    has-f : (locked : Bool) (n f : ℕ) → (benchOf locked n f) .shared .f ≡ f
-    has-f locked n f = unfold benchOf in refl
+    has-f : (locked : Bool) (n f : ℕ) (own : Bool) → (benchOf locked n f own) .shared .f ≡ f
+    has-f locked n f own = unfold benchOf in refl
 
 kept : (es : List Event) → Kept (after es)
 kept es = elim (start es) [
-  | inl p ↦ subst Kept (sym p) (subst (λ (m : ℕ). Follows m (view newBench)) (sym (has-n false 0 0)) (begins false 0 0))
-  | inr o ↦ subst Kept (sym (o .is)) (locked-kept (o .n) (o .f) (o .sized) (o .post))
+  | inl p ↦ subst Kept (sym p) (subst (λ (m : ℕ). Follows m (view newBench)) (sym (has-n false 0 0 false)) (begins false 0 0 false))
+  | inr o ↦ subst Kept (sym (o .is)) (locked-kept (o .n) (o .f) (o .own) (o .sized) (o .post))
 ]
 
 -- the theorem -----------------------------------------------------------------------------

@@ -8,7 +8,7 @@ use mathlib.Core.Logic.{inl, inr}
 use borrow.Author.Tests.{leb-true}
 use Rattle.ground.specs.Tests.{no-both, split, by-cond, or-e, or-no-l, or-no-r}
 use Rattle.model.specs.declared.Event.{Event}
-use Rattle.model.specs.declared.Event.the-variants.{Lock, Order, Cast, Deliver, Timeout, Decide, Stop, Save, Restore}
+use Rattle.model.specs.declared.Event.the-variants.{Lock, Order, Cast, Deliver, Timeout, Decide, Stop, Save, Restore, OfBallots}
 use Rattle.protocol.specs.declared.Bench.{Bench}
 use Rattle.protocol.specs.Questions.{isAccepted, firstNo, reply}
 use Rattle.protocol.specs.Steps.{orderOpened, proposedTo, decidedAs, answering, effectOf, perform, step, run}
@@ -27,7 +27,7 @@ order-later b o q = leb-true _ _ (search (ask-l, ask-r) depth 14)
 
 perform-goes : (b : Bench) (e : Event) → b .shared .locked ≡ true → isAccepted (reply b e) ≡ true → Goes b e (perform b e)
 unfolding perform orderOpened effectOf answering proposedTo decidedAs
-perform-goes b (Lock a c) h q = absurd (no-both _ q (lock-refused b a c h))
+perform-goes b (Lock a c own) h q = absurd (no-both _ q (lock-refused b a c own h))
 perform-goes b (Order o) h q = record { same = λ e. absurd (no-both _ q e); later = λ e. order-later b o q }
 perform-goes b (Cast i w t) h q = record { same = λ e. refl; later = λ e. absurd (false≢true e) }
 perform-goes b (Deliver i j k) h q = record { same = λ e. refl; later = λ e. absurd (false≢true e) }
@@ -35,10 +35,11 @@ perform-goes b (Timeout i) h q = record { same = λ e. refl; later = λ e. absur
 perform-goes b (Decide i w) h q = record { same = λ e. refl; later = λ e. absurd (false≢true e) }
 perform-goes b (Stop i) h q = record { same = λ e. refl; later = λ e. absurd (false≢true e) }
 perform-goes b (Save i) h q = record { same = λ e. refl; later = λ e. absurd (false≢true e) }
+perform-goes b (OfBallots e) h q = record { same = λ e. refl; later = λ e. absurd (false≢true e) }
 perform-goes b (Restore i) h q = record { same = λ e. refl; later = λ e. absurd (false≢true e) }
 
 not-opened : (b : Bench) (e : Event) → isAccepted (reply b e) ≡ false → opensOrder b e ≡ true → ⊥
-not-opened b (Lock a c) q o = false≢true o
+not-opened b (Lock a c own) q o = false≢true o
 not-opened b (Order a) q o = no-both _ o q
 not-opened b (Cast i w t) q o = false≢true o
 not-opened b (Deliver i j k) q o = false≢true o
@@ -46,6 +47,7 @@ not-opened b (Timeout i) q o = false≢true o
 not-opened b (Decide i w) q o = false≢true o
 not-opened b (Stop i) q o = false≢true o
 not-opened b (Save i) q o = false≢true o
+not-opened b (OfBallots e) q o = false≢true o
 not-opened b (Restore i) q o = false≢true o
 
 step-goes : (b : Bench) (e : Event) → b .shared .locked ≡ true → Goes b e (step b e)

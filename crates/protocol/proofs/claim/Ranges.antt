@@ -23,7 +23,7 @@ use Rattle.model.specs.declared.Kind.the-variants.{Vote, Ack, Help, Helped}
 use Rattle.model.specs.declared.Outcome.{Outcome}
 use Rattle.model.specs.declared.Checkpoint.{Checkpoint}
 use Rattle.model.specs.declared.Event.{Event}
-use Rattle.model.specs.declared.Event.the-variants.{Lock, Order, Cast, Deliver, Timeout, Decide, Stop, Save, Restore}
+use Rattle.model.specs.declared.Event.the-variants.{Lock, Order, Cast, Deliver, Timeout, Decide, Stop, Save, Restore, OfBallots}
 use Rattle.protocol.specs.declared.Condition.{Condition}
 use Rattle.protocol.specs.declared.Controller.{Controller}
 use Rattle.protocol.specs.declared.Answer.{Answer}
@@ -38,7 +38,7 @@ use Rattle.protocol.specs.Questions.{firstNo}
 use Rattle.protocol.specs.Steps.{renewed, orderOpened}
 use Rattle.protocol.specs.SentOnce.{receiversOf, sendOf}
 use Rattle.protocol.specs.NoContradiction.{acksUnion}
-use Rattle.protocol.proofs.view.View.{View, openedV, accepts, ask-l, ask-r}
+use Rattle.protocol.proofs.view.View.{ballotsV, View, openedV, accepts, ask-l, ask-r}
 use Rattle.protocol.proofs.view.Performed.{commitV, chosen, savedV, checkpointAt, ruleAnswer, performV, stepV}
 use Rattle.protocol.proofs.view.RuleCases.{vote-cases, ack-cases, helped-cases, help-cases, restore-cases, sufficient-cases, second-cases, timeout-cases}
 use Rattle.protocol.proofs.invariant.Invariant.{votedBy, Truthful, Inv}
@@ -55,7 +55,7 @@ WithinSet s = (k : ℕ) → wills s k ≡ true → knows s k ≡ true
 module _ (G H : ℕ → Type 0) (g0 : G 0) where
   -- what an event brings: a target, or an order's number
   abbrev pub Given : Event → Type 0
-  Given (Lock a c) = Unit {0}
+  Given (Lock a c own) = Unit {0}
   Given (Order o) = H o
   Given (Cast i w t) = G t
   Given (Deliver i j k) = Unit {0}
@@ -63,6 +63,7 @@ module _ (G H : ℕ → Type 0) (g0 : G 0) where
   Given (Decide i w) = Unit {0}
   Given (Stop i) = Unit {0}
   Given (Save i) = Unit {0}
+  Given (OfBallots e) = Unit {0}
   Given (Restore i) = Unit {0}
 
   pub record GateIn (c : Controller) : Type 0 where
@@ -372,7 +373,7 @@ module _ (G H : ℕ → Type 0) (g0 : G 0) where
 
     perform-in : n ≤ limit → (v : View) (e : Event) → Inv n f v → accepts n f v e ≡ true → Given e → AllIn v → AllIn (performV n f v e)
     unfolding performV accepts firstNo isController
-    perform-in s v (Lock a c) inv q g h = h
+    perform-in s v (Lock a c own) inv q g h = h
     perform-in s v (Order o) inv q g h = opened-in v o g h
     perform-in s v (Cast i w t) inv q g h = commit-in v i _ (leb-true _ _ (search (ask-l, ask-r, and-l, and-r) depth 14)) (leb-true _ _ (search (ask-l, ask-r, and-l, and-r) depth 14)) h (vote-keeps i w t (v .ctl i) g (h .ctls i)) (vote-ok s i w t (v .ctl i))
     perform-in s v (Deliver i j k) inv q g h = commit-in v j _ (leb-true _ _ (search (ask-l, ask-r, and-l, and-r) depth 14)) (leb-true _ _ (search (ask-l, ask-r, and-l, and-r) depth 14)) h (arrives-keeps k i _ (v .ctl j) (h .ctls j)) (arrives-ok s k i j _ (v .ctl j) (leb-true _ _ (search (ask-l, ask-r, and-l, and-r) depth 14)) (search (ask-l, ask-r, and-l, and-r) depth 14))
@@ -382,6 +383,7 @@ module _ (G H : ℕ → Type 0) (g0 : G 0) where
     perform-in s v (Decide i w) inv q g h = decide-in v i w (leb-true _ _ (search (ask-l, ask-r, and-l, and-r) depth 14)) (leb-true _ _ (search (ask-l, ask-r, and-l, and-r) depth 14)) h
     perform-in s v (Stop i) inv q g h = commit-in v i _ (leb-true _ _ (search (ask-l, ask-r, and-l, and-r) depth 14)) (leb-true _ _ (search (ask-l, ask-r, and-l, and-r) depth 14)) h (becomes-keeps _ (cleared-in _ (v .ctl i) (omega arith) (h .ctls i))) (becomes-ok i _)
     perform-in s v (Save i) inv q g h = saved-in v i (leb-true _ _ (search (ask-l, ask-r, and-l, and-r) depth 14)) (unfold isController in (search (ask-l, ask-r, and-l, and-r) depth 14)) h
+    perform-in s v (OfBallots e) inv q g h = unfold ballotsV in record { order = h .order; ctls = h .ctls; lines = h .lines; saved = h .saved }
     perform-in s v (Restore i) inv q g h = unfold ruleAnswer in commit-in v i _ (leb-true _ _ (search (ask-l, ask-r, and-l, and-r) depth 14)) (leb-true _ _ (search (ask-l, ask-r, and-l, and-r) depth 14)) h (restore-keeps v i h) (restore-ok v i)
 
     pub step-in : n ≤ limit → (v : View) (e : Event) → Inv n f v → (accepts n f v e ≡ true → Given e) → AllIn v → AllIn (stepV n f v e)

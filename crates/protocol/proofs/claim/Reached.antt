@@ -24,11 +24,13 @@ use Rattle.model.specs.Routes.{route, voteRoute, ackRoute, helpRoute}
 use Rattle.model.specs.declared.Kind.{Kind}
 use Rattle.model.specs.declared.Kind.the-variants.{Vote, Ack, Help, Helped}
 use Rattle.model.specs.declared.Checkpoint.{Checkpoint}
+use Rattle.model.specs.declared.Telegram.the-variants.{Plain, OfBallot}
 use Rattle.model.specs.declared.Event.{Event}
-use Rattle.model.specs.declared.Event.the-variants.{Lock, Order, Cast, Deliver, Timeout, Decide, Stop, Save, Restore}
+use Rattle.model.specs.declared.Event.the-variants.{Lock, Order, Cast, Deliver, Timeout, Decide, Stop, Save, Restore, OfBallots}
 use Rattle.records.specs.Codec.{Codec, ownForm, recordLength, bytesOf, writeReply, writes}
-use Rattle.message_record.specs.Messages.{bitsInRange, knowsForKind, suits, aboutMessage, messages}
-use Rattle.message_record.proofs.RoundTrips.{own-passes, message-back}
+use Rattle.message_record.specs.Messages.{bitsInRange, knowsForKind, suits, aboutMessage}
+use Rattle.message_record.specs.Telegrams.{telegrams}
+use Rattle.message_record.proofs.RoundTrips.{own-passes, message-back, telegram-passes, ballot-back}
 use Rattle.checkpoint_record.specs.Checkpoints.{aboutCheckpoint, checkpoints}
 use Rattle.checkpoint_record.proofs.RoundTrips.{promises as checkpoint-promises}
 use Rattle.protocol.specs.declared.Sent.{Sent}
@@ -39,7 +41,7 @@ use Rattle.protocol.specs.Questions.{accepted, unless, firstNo}
 use Rattle.protocol.specs.Steps.{step, run}
 use Rattle.protocol.specs.Claim.{after}
 use Rattle.protocol.specs.Display.{WasSent}
-use Rattle.protocol.specs.Reach.{HeldWithin, messageAt, IsSaved, AsRead, AllRead, Reach}
+use Rattle.protocol.specs.Reach.{HeldWithin, messageAt, IsSaved, AsRead, AllRead, Reach, ballotAt}
 use Rattle.protocol.proofs.view.View.{View, accepts, ask-l, ask-r}
 use Rattle.protocol.proofs.view.Performed.{stepV}
 use Rattle.protocol.proofs.view.Simulation.{view, Sound, Any, Steps, step-steps, step-sim}
@@ -47,6 +49,7 @@ use Rattle.protocol.proofs.invariant.Invariant.{HeldAck}
 use Rattle.protocol.proofs.invariant.Decisions.{Blank}
 use Rattle.protocol.proofs.claim.Start.{never-saved, fresh-in, freshes}
 use Rattle.protocol.proofs.claim.Counted.{unsent-kind}
+use Rattle.protocol.proofs.claim.BallotsBack.{ballot-passes}
 use Rattle.protocol.proofs.claim.Reach.{Reached, JustLocked, new-step, step-reached, reached}
 use Rattle.protocol.proofs.claim.Clear.{within-of, suits-sent}
 use Rattle.protocol.proofs.claim.Ranges.{Given, SentIn, SavedIn, AllIn, step-in}
@@ -68,10 +71,10 @@ module _ (G H : ℕ → Type 0) (g0 : G 0) (h0 : H 0) where
       (subst (λ (x : ℕ). AllIn G H g0 (b .shared .n) x (view (step b e))) (sym (s .same-f)) (subst (AllIn G H g0 (b .shared .n) (b .shared .f)) (sym (step-sim b (a) e)) i))
 
   locked-in : (b : Bench) → JustLocked b → In b
-  locked-in b l = subst In (sym (l .is)) (unfold benchOf in fresh-in G H g0 h0 true (l .n) (l .f))
+  locked-in b l = subst In (sym (l .is)) (unfold benchOf in fresh-in G H g0 h0 true (l .n) (l .f) (l .own))
 
   new-in : In newBench
-  new-in = unfold benchOf in fresh-in G H g0 h0 false 0 0
+  new-in = unfold benchOf in fresh-in G H g0 h0 false 0 0 false
 
   step-all-in : (b : Bench) (e : Event) → ((n f : ℕ) (v : View) → accepts n f v e ≡ true → Given G H g0 e) → Reached b → In b → In (step b e)
   step-all-in b e g (inr a) h = sound-in b e g a h
@@ -95,7 +98,7 @@ positioned-0 = refl
 
 asked-11 : (e : Event) (n f : ℕ) (v : View) → accepts n f v e ≡ true → Given Positioned Any positioned-0 e
 unfolding accepts firstNo
-asked-11 (Lock a c) n f v q = tt
+asked-11 (Lock a c own) n f v q = tt
 asked-11 (Order o) n f v q = tt
 asked-11 (Cast i w t) n f v q = search (ask-l, ask-r) depth 14
 asked-11 (Deliver i j k) n f v q = tt
@@ -103,6 +106,7 @@ asked-11 (Timeout i) n f v q = tt
 asked-11 (Decide i w) n f v q = tt
 asked-11 (Stop i) n f v q = tt
 asked-11 (Save i) n f v q = tt
+asked-11 (OfBallots e) n f v q = tt
 asked-11 (Restore i) n f v q = tt
 
 all-asked : (es : List Event) → AllGiven Positioned Any positioned-0 tt es
@@ -123,7 +127,7 @@ short-0 : Short 0
 short-0 = pow-pos 32
 
 as-read : (e : Event) → AsRead e → (n f : ℕ) (v : View) → accepts n f v e ≡ true → Given Short Short short-0 e
-as-read (Lock a c) r n f v q = tt
+as-read (Lock a c own) r n f v q = tt
 as-read (Order o) r n f v q = r
 as-read (Cast i w t) r n f v q = r
 as-read (Deliver i j k) r n f v q = tt
@@ -131,6 +135,7 @@ as-read (Timeout i) r n f v q = tt
 as-read (Decide i w) r n f v q = tt
 as-read (Stop i) r n f v q = tt
 as-read (Save i) r n f v q = tt
+as-read (OfBallots e) r n f v q = tt
 as-read (Restore i) r n f v q = tt
 
 all-read : (es : List Event) → AllRead es → AllGiven Short Short short-0 short-0 es
@@ -160,7 +165,7 @@ held-within b i (inl z) h = subst (λ (x : Bench). HeldWithin (controller x i)) 
 })
   where
     new : Blank (controller newBench i)
-    new = freshes false 0 0 i .ctl
+    new = freshes false 0 0 false i .ctl
 
 -- a number in a set is at least 1
 some-number : (m k : ℕ) → has m k ≡ true → 1 ≤ k
@@ -216,14 +221,14 @@ module _ (b : Bench) (a : Sound b) (h : Ranged b) (i : ℕ) where
       )
 
 new-unsent : (kind : Kind) (i j : ℕ) → has ((ofKind kind (sentBy newBench i)) .to) j ≡ false
-new-unsent kind i j = ap (λ (x : Sent). has ((ofKind kind x) .to) j) (freshes false 0 0 i .sent) ∙ ap (λ (m : ℕ). has m j) (unsent-kind kind) ∙ has-none j
+new-unsent kind i j = ap (λ (x : Sent). has ((ofKind kind x) .to) j) (freshes false 0 0 false i .sent) ∙ ap (λ (m : ℕ). has m j) (unsent-kind kind) ∙ has-none j
 
 message-passes : (b : Bench) (kind : Kind) (i j : ℕ) → Reached b → Ranged b → WasSent b kind i j → firstNo (aboutMessage (messageAt b kind i j)) ≡ accepted
 message-passes b kind i j (inr a) h e = passes b a h i kind j e
 message-passes b kind i j (inl z) h e = absurd (no-both _ (ap (λ (x : Bench). has ((ofKind kind (sentBy x i)) .to) j) (sym z) ∙ e) (new-unsent kind i j))
 
 checkpoint-passes : (b : Bench) (i : ℕ) (p : Checkpoint) → Reached b → Ranged b → IsSaved b i p → firstNo (aboutCheckpoint p) ≡ accepted
-checkpoint-passes b i p (inl z) h e = never-saved ((station newBench i) .saved) p (freshes false 0 0 i .saved) (ap (λ (x : Bench). (station x i) .saved) (sym z) ∙ e)
+checkpoint-passes b i p (inl z) h e = never-saved ((station newBench i) .saved) p (freshes false 0 0 false i .saved) (ap (λ (x : Bench). (station x i) .saved) (sym z) ∙ e)
 checkpoint-passes b i p (inr a) h e =
     let s : SavedIn Positioned Any positioned-0 (b .shared .n) (b .shared .f) i p = (unfold view in h .saved i p e) in
     unfold aboutCheckpoint in yes-all (aboutCheckpoint p) (
@@ -237,7 +242,7 @@ unfolding writes writeReply firstNo unless
 written-out k a out h p = rw (eq-eqb _ _ h, p)
 
 own-checkpoint : (b : Bench) (i : ℕ) (p : Checkpoint) → Reached b → Ranged b → IsSaved b i p → p .id ≡ i
-own-checkpoint b i p (inl z) h e = never-saved ((station newBench i) .saved) p (freshes false 0 0 i .saved) (ap (λ (x : Bench). (station x i) .saved) (sym z) ∙ e)
+own-checkpoint b i p (inl z) h e = never-saved ((station newBench i) .saved) p (freshes false 0 0 false i .saved) (ap (λ (x : Bench). (station x i) .saved) (sym z) ∙ e)
 own-checkpoint b i p (inr a) h e = let s : SavedIn Positioned Any positioned-0 (b .shared .n) (b .shared .f) i p = (unfold view in h .saved i p e) in s .id
 
 pub reach : Reach
@@ -246,11 +251,14 @@ reach = record {
   positions = λ es i. unfold view in all-in es .ctls i .gate .position;
   vote-sets = λ es i. held-within (after es) i (reached es) (all-in es);
   messages-pass = λ es kind i j e. message-passes (after es) kind i j (reached es) (all-in es) e;
+  ballots-pass = λ es kind i j b e. ballot-passes (after es) kind i j b (reached es) e;
   checkpoints-pass = λ es i p e. checkpoint-passes (after es) i p (reached es) (all-in es) e;
   checkpoints-own = λ es i p e. own-checkpoint (after es) i p (reached es) (all-in es) e;
-  messages-written = λ es kind i j out h e. written-out messages (messageAt (after es) kind i j) out h (own-passes (messageAt (after es) kind i j) (message-passes (after es) kind i j (reached es) (all-in es) e));
+  messages-written = λ es kind i j out h e. written-out telegrams (Plain (messageAt (after es) kind i j)) out h (own-passes (messageAt (after es) kind i j) (message-passes (after es) kind i j (reached es) (all-in es) e));
+  ballots-written = λ es kind i j b out h e. written-out telegrams (OfBallot (ballotAt (after es) kind i j b)) out h (telegram-passes (OfBallot (ballotAt (after es) kind i j b)) (ballot-passes (after es) kind i j b (reached es) e));
   checkpoints-written = λ es i p out h e. written-out checkpoints p out h (checkpoint-passes (after es) i p (reached es) (all-in es) e);
   messages-back = λ es kind i j r e. message-back (messageAt (after es) kind i j) (unfold view in all-short es r .order) (message-passes (after es) kind i j (reached es) (all-in es) e);
   checkpoints-back = λ es i p r e. let s : SavedIn Short Short short-0 ((after es) .shared .n) ((after es) .shared .f) i p = (unfold view in all-short es r .saved i p e) in
       checkpoint-promises .reads-back p (s .order-in, (s .position, tt)) (checkpoint-passes (after es) i p (reached es) (all-in es) e);
+  ballots-back = λ es kind i j b r e. ballot-back (ballotAt (after es) kind i j b) (unfold view in all-short es r .order) (ballot-passes (after es) kind i j b (reached es) e);
 }

@@ -19,7 +19,7 @@ use Rattle.votes.specs.declared.VoteSet.{VoteSet}
 use Rattle.model.specs.declared.Kind.{Kind}
 use Rattle.model.specs.declared.Kind.the-variants.{Vote, Ack, Help, Helped}
 use Rattle.model.specs.declared.Event.{Event}
-use Rattle.model.specs.declared.Event.the-variants.{Lock, Order, Cast, Deliver, Timeout, Decide, Stop, Save, Restore}
+use Rattle.model.specs.declared.Event.the-variants.{Lock, Order, Cast, Deliver, Timeout, Decide, Stop, Save, Restore, OfBallots}
 use Rattle.protocol.specs.declared.Controller.{Controller}
 use Rattle.protocol.specs.declared.Answer.{Answer}
 use Rattle.protocol.specs.declared.Outgoing.{Outgoing}
@@ -201,7 +201,7 @@ module _ (n f : ℕ) where
   -- the rule of every accepted event
   pub rule-new : (b : View) → Inv n f b → (e : Event) → accepts n f b e ≡ true → New (b .state .sent (subject e)) (ruleAnswer n f b e)
   unfolding ruleAnswer accepts firstNo
-  rule-new b inv (Lock a c) q = passed-new _ _
+  rule-new b inv (Lock a c own) q = passed-new _ _
   rule-new b inv (Order o) q = passed-new _ _
   rule-new b inv (Cast i w t) q = vote-new b inv i w t (search (ask-l, ask-r, and-l, and-r) depth 14) (eqb-true _ _ (search (ask-l, ask-r, and-l, and-r) depth 14))
   rule-new b inv (Deliver i j k) q = arrives-new b inv j k i _
@@ -210,6 +210,7 @@ module _ (n f : ℕ) where
   rule-new b inv (Decide i w) q = becomes-new _ _
   rule-new b inv (Stop i) q = becomes-new _ _
   rule-new b inv (Save i) q = passed-new _ _
+  rule-new b inv (OfBallots e) q = passed-new _ _
   rule-new b inv (Restore i) q = restore-cases (New (b .state .sent i)) _ _ (b .ctl i) (λ x z. unfold restore in by-cond (New (b .state .sent i)) (isStopped ((b .ctl i) .condition)) _ _ (λ y. becomes-new _ _) (λ y. passed-new _ _)) (passed-new _ _)
 
   -- what is sent of a kind after an answer

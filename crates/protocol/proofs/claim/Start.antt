@@ -16,7 +16,7 @@ use Rattle.model.specs.Ranges.{sizesInRange}
 use Rattle.model.specs.RangeLaws.{ranges}
 use Rattle.model.specs.declared.Outcome.the-variants.{None}
 use Rattle.model.specs.declared.Event.{Event}
-use Rattle.model.specs.declared.Event.the-variants.{Lock, Order, Cast, Deliver, Timeout, Decide, Stop, Save, Restore}
+use Rattle.model.specs.declared.Event.the-variants.{Lock, Order, Cast, Deliver, Timeout, Decide, Stop, Save, Restore, OfBallots}
 use Rattle.protocol.specs.declared.Station.{Station}
 use Rattle.protocol.specs.declared.Saved.{Saved}
 use Rattle.protocol.specs.declared.Saved.the-variants.{Nothing, Newest}
@@ -27,6 +27,7 @@ use Rattle.protocol.specs.Benches.{unsentAll, fresh, freshStation, bench
 use Rattle.protocol.specs.Questions.{isAccepted, unless, firstNo, reply}
 use Rattle.protocol.specs.Steps.{perform, step, run}
 use Rattle.protocol.specs.Display.{shownOutcome, shownPosition}
+use Rattle.protocol.proofs.paxos.Order.{Balloted, new-balloted}
 use Rattle.protocol.proofs.invariant.Invariant.{votedBy, ackedBy, Inv}
 use Rattle.protocol.proofs.invariant.Decisions.{Blank, blank-inv}
 use Rattle.protocol.proofs.clean.Log.{entered}
@@ -39,14 +40,15 @@ use Rattle.protocol.proofs.claim.Moments.{push, logOf}
 pub record Opened (es : List Event) : Type 0 where
   pub n : ℕ
   pub f : ℕ
+  pub own : Bool
   pub pre : List Event
   pub post : List Event
-  pub parts : es ≡ pre ++ (Lock n f ∷ post)
+  pub parts : es ≡ pre ++ (Lock n f own ∷ post)
   pub sized : sizesInRange n f ≡ true
   pub idle : run newBench pre ≡ newBench
-  pub locks : step newBench (Lock n f) ≡ benchOf true n f
-  pub is : run newBench es ≡ run (benchOf true n f) post
-  pub silent : logOf newBench [] es ≡ logOf (benchOf true n f) [] post
+  pub locks : step newBench (Lock n f own) ≡ benchOf true n f own
+  pub is : run newBench es ≡ run (benchOf true n f own) post
+  pub silent : logOf newBench [] es ≡ logOf (benchOf true n f own) [] post
 
 again : (e : Event) (es : List Event) → step newBench e ≡ newBench → push newBench e [] ≡ [] → (run newBench es ≡ newBench) ⊎ Opened es → (run newBench (e ∷ es) ≡ newBench) ⊎ Opened (e ∷ es)
 unfolding run logOf
@@ -54,6 +56,7 @@ again e es q z (inl p) = inl (ap (λ (b : Bench). run b es) q ∙ p)
 again e es q z (inr o) = inr (record {
   n = o .n;
   f = o .f;
+  own = o .own;
   pre = e ∷ o .pre;
   post = o .post;
   parts = ap (λ (l : List Event). e ∷ l) (o .parts);
@@ -64,37 +67,38 @@ again e es q z (inr o) = inr (record {
   silent = ap (λ (b : Bench). logOf b (push newBench e []) es) q ∙ ap (λ (l : List Event). logOf newBench l es) z ∙ o .silent;
 })
 
-lock-push : (a c : ℕ) → push newBench (Lock a c) [] ≡ []
+lock-push : (a c : ℕ) (own : Bool) → push newBench (Lock a c own) [] ≡ []
 unfolding push entered
-lock-push a c = by-cond (λ (l : List Event). l ≡ []) (isAccepted (reply newBench (Lock a c))) [] [] (λ e. refl) (λ e. refl)
+lock-push a c own = by-cond (λ (l : List Event). l ≡ []) (isAccepted (reply newBench (Lock a c own))) [] [] (λ e. refl) (λ e. refl)
 
-lock-step : (a c : ℕ) (es : List Event) → (run newBench es ≡ newBench) ⊎ Opened es → (run newBench (Lock a c ∷ es) ≡ newBench) ⊎ Opened (Lock a c ∷ es)
+lock-step : (a c : ℕ) (own : Bool) (es : List Event) → (run newBench es ≡ newBench) ⊎ Opened es → (run newBench (Lock a c own ∷ es) ≡ newBench) ⊎ Opened (Lock a c own ∷ es)
 unfolding run logOf
-lock-step a c es h = elim (split (sizesInRange a c)) [
+lock-step a c own es h = elim (split (sizesInRange a c)) [
   | inl q ↦ inr (record {
     n = a;
     f = c;
+    own = own;
     pre = [];
     post = es;
     parts = refl;
     sized = q;
     idle = refl;
-    locks = taken a c q;
-    is = ap (λ (b : Bench). run b es) (taken a c q);
-    silent = ap (λ (b : Bench). logOf b (push newBench (Lock a c) []) es) (taken a c q) ∙ ap (λ (l : List Event). logOf (benchOf true a c) l es) (lock-push a c);
+    locks = taken a c own q;
+    is = ap (λ (b : Bench). run b es) (taken a c own q);
+    silent = ap (λ (b : Bench). logOf b (push newBench (Lock a c own) []) es) (taken a c own q) ∙ ap (λ (l : List Event). logOf (benchOf true a c own) l es) (lock-push a c own);
   })
-  | inr q ↦ again (Lock a c) es (passedOver a c q) (lock-push a c) h
+  | inr q ↦ again (Lock a c own) es (passedOver a c own q) (lock-push a c own) h
 ]
   where
-    taken : (a c : ℕ) → sizesInRange a c ≡ true → step newBench (Lock a c) ≡ benchOf true a c
-    taken a c q = unfold step reply firstNo unless benchOf perform in rw q
+    taken : (a c : ℕ) (own : Bool) → sizesInRange a c ≡ true → step newBench (Lock a c own) ≡ benchOf true a c own
+    taken a c own q = unfold step reply firstNo unless benchOf perform in rw q
 
-    passedOver : (a c : ℕ) → sizesInRange a c ≡ false → step newBench (Lock a c) ≡ newBench
-    passedOver a c q = unfold step reply firstNo unless in rw q
+    passedOver : (a c : ℕ) (own : Bool) → sizesInRange a c ≡ false → step newBench (Lock a c own) ≡ newBench
+    passedOver a c own q = unfold step reply firstNo unless in rw q
 
 -- before the lock every other event is refused
 abbrev NotLock : Event → Type 0
-NotLock (Lock a c) = ⊥
+NotLock (Lock a c own) = ⊥
 NotLock (Order o) = Unit {0}
 NotLock (Cast i w t) = Unit {0}
 NotLock (Deliver i j k) = Unit {0}
@@ -102,11 +106,12 @@ NotLock (Timeout i) = Unit {0}
 NotLock (Decide i w) = Unit {0}
 NotLock (Stop i) = Unit {0}
 NotLock (Save i) = Unit {0}
+NotLock (OfBallots e) = Unit {0}
 NotLock (Restore i) = Unit {0}
 
 pub unlocked : (e : Event) → NotLock e → isAccepted (reply newBench e) ≡ false
 unfolding reply firstNo unless benchOf
-unlocked (Lock a c) h = absurd h
+unlocked (Lock a c own) h = absurd h
 unlocked (Order o) h = refl
 unlocked (Cast i w t) h = refl
 unlocked (Deliver i j k) h = refl
@@ -114,6 +119,7 @@ unlocked (Timeout i) h = refl
 unlocked (Decide i w) h = refl
 unlocked (Stop i) h = refl
 unlocked (Save i) h = refl
+unlocked (OfBallots e) h = refl
 unlocked (Restore i) h = refl
 
 pub idle : (e : Event) → NotLock e → step newBench e ≡ newBench
@@ -129,7 +135,7 @@ waits e es h = again e es (idle e h) (idle-push e h)
 
 pub start : (es : List Event) → (run newBench es ≡ newBench) ⊎ Opened es
 start [] = unfold run in inl refl
-start (Lock a c ∷ es) = lock-step a c es (start es)
+start (Lock a c own ∷ es) = lock-step a c own es (start es)
 start (Order o ∷ es) = waits (Order o) es tt (start es)
 start (Cast i w t ∷ es) = waits (Cast i w t) es tt (start es)
 start (Deliver i j k ∷ es) = waits (Deliver i j k) es tt (start es)
@@ -137,6 +143,7 @@ start (Timeout i ∷ es) = waits (Timeout i) es tt (start es)
 start (Decide i w ∷ es) = waits (Decide i w) es tt (start es)
 start (Stop i ∷ es) = waits (Stop i) es tt (start es)
 start (Save i ∷ es) = waits (Save i) es tt (start es)
+start (OfBallots e ∷ es) = waits (OfBallots e) es tt (start es)
 start (Restore i ∷ es) = waits (Restore i) es tt (start es)
 
 -- the stations of a bench on which nothing has happened
@@ -157,9 +164,9 @@ fresh-is : (l : List VoteSet) → Fresh (freshStation l)
 unfolding freshStation fresh
 fresh-is l = record { sent = refl; ctl = record { votes = refl; phase = refl; acks-none = refl; helps-none = refl; helped = refl; cnt-none = refl; cnt-help-none = refl; waiting = refl; calls-none = refl; outcome = refl }; saved = refl; position = refl }
 
-pub freshes : (locked : Bool) (n f k : ℕ) → Fresh (station (benchOf locked n f) k)
+pub freshes : (locked : Bool) (n f : ℕ) (own : Bool) (k : ℕ) → Fresh (station (benchOf locked n f own) k)
 unfolding station benchOf
-freshes locked n f = all-of-copies Fresh (freshStation []) (freshStation (replicate limit empty)) (fresh-is []) (fresh-is (replicate limit empty)) limit
+freshes locked n f own = all-of-copies Fresh (freshStation []) (freshStation (replicate limit empty)) (fresh-is []) (fresh-is (replicate limit empty)) limit
 
 pub never-saved : {X : Type 0} (s : Saved) (p : Checkpoint) → s ≡ Nothing → s ≡ Newest p → X
 never-saved s p e q = let z : _≡_ {A = ℕ} 0 1 = cc in absurd (omega arith)
@@ -170,21 +177,29 @@ module _ (G H : ℕ → Type 0) (g0 : G 0) (h0 : H 0) where
   unfolding freshStation fresh
   fresh-controller l = record { low = omega arith; gate = record { target = g0; position = g0 }; help = λ k e. none-has k e }
 
-  pub fresh-in : (locked : Bool) (n f : ℕ) → AllIn G H g0 n f (view (benchOf locked n f))
+  pub fresh-in : (locked : Bool) (n f : ℕ) (own : Bool) → AllIn G H g0 n f (view (benchOf locked n f own))
   unfolding view
-  fresh-in locked n f = record {
+  fresh-in locked n f own = record {
     order = unfold benchOf in h0;
     ctls = controllers;
-    lines = λ k. subst (SentIn G H g0 n f _ k) (sym (freshes locked n f k .sent)) (unsent-in G H g0 n f _ k);
-    saved = λ k p e. never-saved _ p (freshes locked n f k .saved) e;
+    lines = λ k. subst (SentIn G H g0 n f _ k) (sym (freshes locked n f own k .sent)) (unsent-in G H g0 n f _ k);
+    saved = λ k p e. never-saved _ p (freshes locked n f own k .saved) e;
   }
     where
-      controllers : (k : ℕ) → InRange G H g0 (controller (benchOf locked n f) k)
+      controllers : (k : ℕ) → InRange G H g0 (controller (benchOf locked n f own) k)
       controllers k = unfold station benchOf in all-of-copies (λ (s : Station). InRange G H g0 (s .controller)) (freshStation []) (freshStation (replicate limit empty)) (fresh-controller []) (fresh-controller (replicate limit empty)) limit k
 
-module _ (n f : ℕ) (sized : sizesInRange n f ≡ true) where
+unput : (n f : ℕ) (own : Bool) (k : ℕ) → (controller (benchOf true n f own) k) .proposal ≡ None
+unfolding station benchOf
+unput n f own k = all-of-copies (λ (x : Station). x .controller .proposal ≡ None) (freshStation []) (freshStation (replicate limit empty)) (unfold freshStation fresh in refl) (unfold freshStation fresh in refl) limit k
+
+lock-balloted : (n f : ℕ) (own : Bool) → Balloted n (view (benchOf true n f own))
+unfolding view
+lock-balloted n f own = new-balloted n (view (benchOf true n f own)) (unfold view benchOf in refl) (unfold view benchOf in refl) (unfold view benchOf in refl) (unfold view benchOf in refl) (unfold view in unput n f own)
+
+module _ (n f : ℕ) (own : Bool) (sized : sizesInRange n f ≡ true) where
   abbrev b₀ : Bench
-  b₀ = benchOf true n f
+  b₀ = benchOf true n f own
 
   room : (k : ℕ) → 1 ≤ k → k ≤ limit → length ((station b₀ k) .controller .acks .sets) ≡ limit
   unfolding station benchOf nth
@@ -198,16 +213,16 @@ module _ (n f : ℕ) (sized : sizesInRange n f ≡ true) where
 
   pub lock-inv : Inv n f (view b₀)
   unfolding view
-  lock-inv = blank-inv n f _ _ _ _ _ (λ k. freshes true n f k .sent) (nothing .0) (nothing .1) (nothing .2) (λ k. freshes true n f k .ctl)
+  lock-inv = blank-inv n f _ _ _ _ _ (λ k. freshes true n f own k .sent) (nothing .0) (nothing .1) (nothing .2) (λ k. freshes true n f own k .ctl)
       (λ k x y. let q : length ((station b₀ k) .controller .acks .sets) ≡ limit = room k x (let s : n ≤ limit = ranges n f sized .small in omega arith) in let s : n ≤ limit = ranges n f sized .small in omega arith)
-      (λ k. rw (freshes true n f k .saved) (omega arith)) (λ k e. rw (freshes true n f k .saved))
+      (λ k. rw (freshes true n f own k .saved) (omega arith)) (λ k e. rw (freshes true n f own k .saved)) _ _
     where
       nothing : (b₀ .shared .consensus .«move_proposed» ≡ false) × (b₀ .shared .consensus .«stay_proposed» ≡ false) × (b₀ .shared .consensus .decision ≡ None)
       nothing = unfold benchOf in (refl, refl, refl)
 
   pub lock-sound : Sound b₀
   unfolding benchOf
-  lock-sound = record { locked = refl; size = refl; sized = sized; inv = lock-inv; ranged = fresh-in Any Any tt tt true n f }
+  lock-sound = record { locked = refl; size = refl; sized = sized; inv = lock-inv; ranged = fresh-in Any Any tt tt true n f own; balloted = lock-balloted n f own }
 
   unsent-by : (k : ℕ) → (votedBy k unsentAll ≡ false) × (ackedBy k unsentAll ≡ false)
   unfolding unsentAll
@@ -215,18 +230,18 @@ module _ (n f : ℕ) (sized : sizesInRange n f ≡ true) where
 
   pub lock-good : (f<n : f < n) → Good n f f<n (view b₀) []
   unfolding view
-  lock-good f<n = blank-good n f f<n _ (λ k. freshes true n f k .ctl) (λ k. ap (ackedBy k) (freshes true n f k .sent) ∙ unsent-by k .1)
+  lock-good f<n = blank-good n f f<n _ (λ k. freshes true n f own k .ctl) (λ k. ap (ackedBy k) (freshes true n f own k .sent) ∙ unsent-by k .1)
 
   pub lock-unvoted : (k : ℕ) → votedBy k ((view b₀) .state .sent k) ≡ false
   unfolding view
-  lock-unvoted k = ap (votedBy k) (freshes true n f k .sent) ∙ unsent-by k .0
+  lock-unvoted k = ap (votedBy k) (freshes true n f own k .sent) ∙ unsent-by k .0
 
 -- a new bench holds no outcome, and its first accepted event moves no gate
 pub new-holds : (k : ℕ) → shownOutcome newBench k ≡ None
-new-holds k = freshes false 0 0 k .ctl .outcome
+new-holds k = freshes false 0 0 false k .ctl .outcome
 
 pub new-still : (e : Event) (k : ℕ) → shownPosition (step newBench e) k ≡ shownPosition newBench k
-new-still (Lock a c) k = unfold step perform in by-cond (λ (b : Bench). shownPosition b k ≡ shownPosition newBench k) (isAccepted (reply newBench (Lock a c))) (benchOf true a c) newBench (λ q. freshes true a c k .position ∙ sym (freshes false 0 0 k .position)) (λ q. refl)
+new-still (Lock a c own) k = unfold step perform in by-cond (λ (b : Bench). shownPosition b k ≡ shownPosition newBench k) (isAccepted (reply newBench (Lock a c own))) (benchOf true a c own) newBench (λ q. freshes true a c own k .position ∙ sym (freshes false 0 0 false k .position)) (λ q. refl)
 new-still (Order o) k = ap (λ (b : Bench). shownPosition b k) (idle (Order o) tt)
 new-still (Cast i w t) k = ap (λ (b : Bench). shownPosition b k) (idle (Cast i w t) tt)
 new-still (Deliver i j x) k = ap (λ (b : Bench). shownPosition b k) (idle (Deliver i j x) tt)
@@ -234,4 +249,5 @@ new-still (Timeout i) k = ap (λ (b : Bench). shownPosition b k) (idle (Timeout 
 new-still (Decide i w) k = ap (λ (b : Bench). shownPosition b k) (idle (Decide i w) tt)
 new-still (Stop i) k = ap (λ (b : Bench). shownPosition b k) (idle (Stop i) tt)
 new-still (Save i) k = ap (λ (b : Bench). shownPosition b k) (idle (Save i) tt)
+new-still (OfBallots e) k = ap (λ (b : Bench). shownPosition b k) (idle (OfBallots e) tt)
 new-still (Restore i) k = ap (λ (b : Bench). shownPosition b k) (idle (Restore i) tt)

@@ -15,7 +15,7 @@ use Rattle.model.specs.declared.Kind.the-variants.{Vote, Ack}
 use Rattle.model.specs.declared.Outcome.{Outcome}
 use Rattle.model.specs.declared.Outcome.the-variants.{None, Stay, Move}
 use Rattle.model.specs.declared.Event.{Event}
-use Rattle.model.specs.declared.Event.the-variants.{Lock, Cast, Timeout, Restore}
+use Rattle.model.specs.declared.Event.the-variants.{Lock, Cast, Timeout, Restore, OfBallots}
 use Rattle.protocol.specs.declared.Bench.{Bench}
 use Rattle.protocol.specs.Controllers.{outcome}
 use Rattle.protocol.specs.Benches.{benchOf, newBench}
@@ -74,13 +74,13 @@ module _ (es : List Event) (o : Opened es) where
   f = o .f
 
   abbrev b₀ : Bench
-  b₀ = benchOf true (o .n) (o .f)
+  b₀ = benchOf true (o .n) (o .f) (o .own)
 
   pub range : Ranges n f
   range = ranges n f (o .sized)
 
   pub sound₀ : Sound b₀
-  sound₀ = lock-sound n f (o .sized)
+  sound₀ = lock-sound n f (o .own) (o .sized)
 
   pub n₀ : b₀ .shared .n ≡ n
   n₀ = unfold benchOf in refl
@@ -92,8 +92,8 @@ module _ (es : List Event) (o : Opened es) where
   from-lock l = run-sim n f l b₀ sound₀ n₀ f₀
 
   -- the bench after the lock and these events
-  reach : (l : List Event) → after (o .pre ++ (Lock n f ∷ l)) ≡ run b₀ l
-  reach l = run-append (o .pre) (Lock n f ∷ l) newBench ∙ ap (λ (b : Bench). run b (Lock n f ∷ l)) (o .idle) ∙ run-cons (Lock n f) l newBench ∙ ap (λ (b : Bench). run b l) (o .locks)
+  reach : (l : List Event) → after (o .pre ++ (Lock n f (o .own) ∷ l)) ≡ run b₀ l
+  reach l = run-append (o .pre) (Lock n f (o .own) ∷ l) newBench ∙ ap (λ (b : Bench). run b (Lock n f (o .own) ∷ l)) (o .idle) ∙ run-cons (Lock n f (o .own)) l newBench ∙ ap (λ (b : Bench). run b l) (o .locks)
 
   pub record Here : Type 0 where
     pub sound : Sound (after es)
@@ -111,7 +111,7 @@ module _ (es : List Event) (o : Opened es) where
       }
 
   inv : Inv n f (view (after es))
-  inv = subst (Inv n f) (sym (here .shows)) (run-inv n f (range .high) (range .low) (range .small) (o .post) (view b₀) (lock-inv n f (o .sized)))
+  inv = subst (Inv n f) (sym (here .shows)) (run-inv n f (range .high) (range .low) (range .small) (o .post) (view b₀) (lock-inv n f (o .own) (o .sized)))
 
   -- and further events
   further : (es′ : List Event) → view (run (after es) es′) ≡ runV n f (view (after es)) es′
@@ -128,13 +128,13 @@ module _ (es : List Event) (o : Opened es) where
   -- a vote found in the views was accepted on the bench
   module _ (k : ℕ) (v : VotedBefore n f (view b₀) (o .post) k) where
     abbrev pre′ : List Event
-    pre′ = o .pre ++ (Lock n f ∷ v .before)
+    pre′ = o .pre ++ (Lock n f (o .own) ∷ v .before)
 
     abbrev cast : Event
     cast = Cast k true (v .target)
 
     vote-parts : es ≡ pre′ ++ (cast ∷ v .after)
-    vote-parts = o .parts ∙ ap (λ (l : List Event). o .pre ++ (Lock n f ∷ l)) (v .parts) ∙ append-assoc (o .pre) (Lock n f ∷ v .before) (cast ∷ v .after)
+    vote-parts = o .parts ∙ ap (λ (l : List Event). o .pre ++ (Lock n f (o .own) ∷ l)) (v .parts) ∙ append-assoc (o .pre) (Lock n f (o .own) ∷ v .before) (cast ∷ v .after)
 
     at-vote : Runs b₀ (run b₀ (v .before)) (runV n f (view b₀) (v .before))
     at-vote = from-lock (v .before)
@@ -163,7 +163,7 @@ module _ (es : List Event) (o : Opened es) where
       let h : (after es) .shared .n ≡ n = here .is-n in
       let w : Willing n f (view (after es)) k = inv .ctls i .outcome-ok true e .0 k x (omega arith) in
       elim (voted-run n f (range .high) (range .low) (range .small) (o .post) (view b₀) k (subst (λ (v : View). Willing n f v k) (here .shows) w)) [
-        | inl p ↦ absurd (no-both _ (p .1 .0) (lock-unvoted n f (o .sized) k))
+        | inl p ↦ absurd (no-both _ (p .1 .0) (lock-unvoted n f (o .own) (o .sized) k))
         | inr v ↦ record { target = v .target; vote = vote-in-order k v }
       ]
 
@@ -215,14 +215,14 @@ in-range b k w t q = (leb-true _ _ (search (ask-l, ask-r, and-l, and-r) depth 14
 
 module _ (es : List Event) (o : Opened es) (i : ℕ) (a : Accepted es (Timeout i)) (sec₀ : IsSecondTimeout ((after es) .shared .n) ((after es) .shared .f) es i) (cl₀ : Clean ((after es) .shared .n) ((after es) .shared .f) (es ++ (Timeout i ∷ []))) where
   vb : View
-  vb = runV (o .n) (o .f) (view (benchOf true (o .n) (o .f))) (o .post)
+  vb = runV (o .n) (o .f) (view (benchOf true (o .n) (o .f) (o .own))) (o .post)
 
   vlog : List Event
-  vlog = logV (o .n) (o .f) (view (benchOf true (o .n) (o .f))) [] (o .post)
+  vlog = logV (o .n) (o .f) (view (benchOf true (o .n) (o .f) (o .own))) [] (o .post)
 
   is-log : logAt es ≡ vlog
   unfolding vlog
-  is-log = o .silent ∙ log-sim (o .n) (o .f) (o .post) (benchOf true (o .n) (o .f)) (sound₀ es o) (n₀ es o) (f₀ es o) []
+  is-log = o .silent ∙ log-sim (o .n) (o .f) (o .post) (benchOf true (o .n) (o .f) (o .own)) (sound₀ es o) (n₀ es o) (f₀ es o) []
 
   -- the log right after the timeout
   timeout-log : logAt (es ++ (Timeout i ∷ [])) ≡ (Timeout i ∷ logAt es)
@@ -245,7 +245,7 @@ module _ (es : List Event) (o : Opened es) (i : ℕ) (a : Accepted es (Timeout i
 
   decides : Decides (o .n) (o .f) (range es o .high) (range es o .low) (range es o .small) vb vlog i
   unfolding vb vlog
-  decides = clean-decides (o .n) (o .f) (range es o .high) (range es o .low) (range es o .small) (view (benchOf true (o .n) (o .f))) (lock-inv (o .n) (o .f) (o .sized)) (lock-good (o .n) (o .f) (o .sized) (range es o .high)) (o .post) i timeout-passes (prem .sec) (prem .cl)
+  decides = clean-decides (o .n) (o .f) (range es o .high) (range es o .low) (range es o .small) (view (benchOf true (o .n) (o .f) (o .own))) (lock-inv (o .n) (o .f) (o .own) (o .sized)) (lock-good (o .n) (o .f) (o .own) (o .sized) (range es o .high)) (o .post) i timeout-passes (prem .sec) (prem .cl)
 
   timeout-view : view (step (after es) (Timeout i)) ≡ stepV (o .n) (o .f) vb (Timeout i)
   unfolding vb

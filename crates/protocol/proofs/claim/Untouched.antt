@@ -17,15 +17,16 @@ use Rattle.votes.specs.declared.Joined.{Joined}
 use Rattle.votes.specs.declared.Joined.the-variants.{Agreed}
 use Rattle.model.specs.RangeLaws.{ranges}
 use Rattle.model.specs.declared.Kind.{Kind}
+use Rattle.model.specs.declared.BallotEvent.the-variants.{Open, Carry}
 use Rattle.model.specs.declared.Event.{Event}
-use Rattle.model.specs.declared.Event.the-variants.{Lock, Order, Cast, Deliver, Timeout, Decide, Stop, Save, Restore}
+use Rattle.model.specs.declared.Event.the-variants.{Lock, Order, Cast, Deliver, Timeout, Decide, Stop, Save, Restore, OfBallots}
 use Rattle.protocol.specs.declared.Answer.{Answer}
 use Rattle.protocol.specs.declared.Bench.{Bench}
 use Rattle.protocol.specs.Controllers.{hasAck}
 use Rattle.protocol.specs.Rules.{ackJoin, helpVotes}
 use Rattle.protocol.specs.Benches.{newBench, benchOf, station, controller, sentBy}
 use Rattle.protocol.specs.Events.{subject, source}
-use Rattle.protocol.specs.Questions.{Facts, Reply, accepted, refused, isAccepted, Question, unless, firstNo, mayOpen, questionsOf, factsOf, reply}
+use Rattle.protocol.specs.Questions.{Facts, Reply, accepted, refused, isAccepted, Question, unless, firstNo, mayOpen, mayGive, questionsOf, factsOf, reply}
 use Rattle.protocol.specs.Steps.{answering, effectOf, putBack, perform, step, run}
 use Rattle.protocol.specs.Claim.{after}
 use Rattle.protocol.specs.NoContradiction.{Agreeing, acksUnion, votesSent, JoinIsUnion, untestedReply, untestedPerform, untestedStep, untestedRun, NoContradiction}
@@ -58,7 +59,7 @@ refused-asked k (q ∷ qs) e = elim (split (q .yes)) [
 
 -- without the test no question has the number 24
 not-asked : (v : Facts) (e : Event) → v .agrees ≡ true → someNo 24 (questionsOf v e) ≡ false
-not-asked v (Lock n f) h = refl
+not-asked v (Lock n f own) h = refl
 not-asked v (Order o) h = refl
 not-asked v (Cast i w t) h = refl
 not-asked v (Deliver i j k) h = rw h
@@ -66,12 +67,14 @@ not-asked v (Timeout i) h = refl
 not-asked v (Decide i w) h = refl
 not-asked v (Stop i) h = refl
 not-asked v (Save i) h = refl
+not-asked v (OfBallots (Open i b)) h = refl
+not-asked v (OfBallots (Carry i j k b)) h = refl
 not-asked v (Restore i) h = refl
 
 -- a new bench: question 5 comes first
 new-answers : (e : Event) → reply newBench e ≡ untestedReply newBench e
 unfolding reply firstNo unless benchOf
-new-answers (Lock n f) = refl
+new-answers (Lock n f own) = refl
 new-answers (Order o) = refl
 new-answers (Cast i w t) = refl
 new-answers (Deliver i j k) = refl
@@ -79,6 +82,7 @@ new-answers (Timeout i) = refl
 new-answers (Decide i w) = refl
 new-answers (Stop i) = refl
 new-answers (Save i) = refl
+new-answers (OfBallots e) = refl
 new-answers (Restore i) = refl
 
 answers-at : (b : Bench) (e : Event) → Reached b → reply b e ≡ untestedReply b e
@@ -86,14 +90,14 @@ answers-at b e (inl z) = subst (λ (x : Bench). reply x e ≡ untestedReply x e)
 answers-at b e (inr a) = reply-untested b (a) e
 
 abbrev untested : Bench → Event → Facts
-untested b e = factsOf (b .shared) e (station b (subject e)) (sentBy b (source e)) (mayOpen (b .shared)) true
+untested b e = factsOf (b .shared) (b .ballots) e (station b (subject e)) (sentBy b (source e)) (mayOpen (b .shared)) (mayGive (b .shared) (b .ballots)) true
 
 never-at : (b : Bench) (e : Event) → Reached b → reply b e ≡ refused 24 → ⊥
 never-at b e r h = no-both (someNo 24 (questionsOf (untested b e) e)) (refused-asked 24 (questionsOf (untested b e) e) (sym (answers-at b e r) ∙ h)) (not-asked (untested b e) e refl)
 
 -- an accepted event does what the rules of document 01 say
 performs : (b : Bench) → Sound b → (e : Event) → accepts (b .shared .n) (b .shared .f) (view b) e ≡ true → perform b e ≡ untestedPerform b e
-performs b ok (Lock n f) q = refl
+performs b ok (Lock n f own) q = refl
 performs b ok (Order o) q = refl
 performs b ok (Cast i w t) q = unfold perform effectOf in ap (λ (a : Answer). putBack b i (answering (b .shared) (station b i) a)) (rule-sim b ok (Cast i w t) q ∙ (unfold ruleAnswer view in refl))
 performs b ok (Deliver i j k) q = unfold perform effectOf in ap (λ (a : Answer). putBack b j (answering (b .shared) (station b j) a)) (rule-sim b ok (Deliver i j k) q ∙ (unfold ruleAnswer view in refl))
@@ -101,6 +105,7 @@ performs b ok (Timeout i) q = refl
 performs b ok (Decide i w) q = refl
 performs b ok (Stop i) q = refl
 performs b ok (Save i) q = refl
+performs b ok (OfBallots e) q = refl
 performs b ok (Restore i) q = refl
 
 steps : (b : Bench) (e : Event) → Reached b → step b e ≡ untestedStep b e
@@ -108,7 +113,7 @@ unfolding step untestedStep
 steps b e (inl z) = subst (λ (x : Bench). cond (isAccepted (reply x e)) (perform x e) x ≡ cond (isAccepted (untestedReply x e)) (untestedPerform x e) x) (sym z) (new e)
   where
     new : (e : Event) → cond (isAccepted (reply newBench e)) (perform newBench e) newBench ≡ cond (isAccepted (untestedReply newBench e)) (untestedPerform newBench e) newBench
-    new (Lock n f) = rw (new-answers (Lock n f))
+    new (Lock n f own) = rw (new-answers (Lock n f own))
     new (Order o) = unfold reply firstNo unless benchOf in refl
     new (Cast i w t) = unfold reply firstNo unless benchOf in refl
     new (Deliver i j k) = unfold reply firstNo unless benchOf in refl
@@ -116,6 +121,7 @@ steps b e (inl z) = subst (λ (x : Bench). cond (isAccepted (reply x e)) (perfor
     new (Decide i w) = unfold reply firstNo unless benchOf in refl
     new (Stop i) = unfold reply firstNo unless benchOf in refl
     new (Save i) = unfold reply firstNo unless benchOf in refl
+    new (OfBallots e) = unfold reply firstNo unless benchOf in refl
     new (Restore i) = unfold reply firstNo unless benchOf in refl
 steps b e (inr a) = rw (sym (answers-at b e (inr a))) (elim (split (isAccepted (reply b e))) [
   | inl q ↦ rw q (performs b (a) e (sym (reply-sim b (a) e) ∙ q))
@@ -137,7 +143,7 @@ new-agrees i = record {
 }
   where
     none : Blank (controller newBench i)
-    none = freshes false 0 0 i .ctl
+    none = freshes false 0 0 false i .ctl
 
     nobody : {X : Type 0} (j : ℕ) → hasAck (controller newBench i) j ≡ true → X
     nobody j e = none-has j (ap (λ (m : ℕ). has m j) (sym (none .acks-none)) ∙ e)
@@ -162,7 +168,7 @@ new-joins i = record {
 }
   where
     none : Blank (controller newBench i)
-    none = freshes false 0 0 i .ctl
+    none = freshes false 0 0 false i .ctl
 
     alone : agreedOr ((controller newBench i) .votes) (join empty ((controller newBench i) .votes)) ≡ union empty ((controller newBench i) .votes)
     alone = ap (λ (j : Joined). agreedOr ((controller newBench i) .votes) j) (join-agreed empty ((controller newBench i) .votes) (empty-agrees ((controller newBench i) .votes)))

@@ -18,7 +18,7 @@ use Rattle.model.specs.Ranges.{isController}
 use Rattle.model.specs.Routes.{route, voteRoute}
 use Rattle.model.specs.declared.Kind.the-variants.{Vote, Ack, Help, Helped}
 use Rattle.model.specs.declared.Event.{Event}
-use Rattle.model.specs.declared.Event.the-variants.{Lock, Order, Cast, Deliver, Timeout, Decide, Stop, Save, Restore}
+use Rattle.model.specs.declared.Event.the-variants.{Lock, Order, Cast, Deliver, Timeout, Decide, Stop, Save, Restore, OfBallots}
 use Rattle.protocol.specs.declared.Controller.{Controller}
 use Rattle.protocol.specs.declared.Answer.{Answer}
 use Rattle.protocol.specs.Controllers.{runs, phase, hasAck, advance, learn, keepAck, keepHelped, freeze, await, propose, conclude}
@@ -137,7 +137,7 @@ module _ (n f : ℕ) where
     pub after : 2 ≤ phase (b′ .ctl i)
 
   abbrev pub New : Event → View → View → Type 0
-  New (Lock a c) b b′ = Unit {0}
+  New (Lock a c own) b b′ = Unit {0}
   New (Order o) b b′ = Unit {0}
   New (Cast i w t) b b′ = NewVote b b′ i w
   New (Deliver i j Vote) b b′ = NewVoteTo b b′ i j
@@ -148,11 +148,12 @@ module _ (n f : ℕ) where
   New (Decide i w) b b′ = Unit {0}
   New (Stop i) b b′ = Unit {0}
   New (Save i) b b′ = Unit {0}
+  New (OfBallots e) b b′ = Unit {0}
   New (Restore i) b b′ = Unit {0}
 
   pub perform-new : n ≤ limit → (b : View) (e : Event) → Inv n f b → accepts n f b e ≡ true → New e b (performV n f b e)
   unfolding performV accepts firstNo isController route arrives timeoutRule
-  perform-new s b (Lock a c) inv q = tt
+  perform-new s b (Lock a c own) inv q = tt
   perform-new s b (Order o) inv q = tt
   perform-new s b (Cast i w t) inv q =
       let lo : 1 ≤ i = leb-true _ _ (search (ask-l, ask-r, and-l, and-r) depth 14) in let hi : i ≤ n = leb-true _ _ (search (ask-l, ask-r, and-l, and-r) depth 14) in
@@ -178,4 +179,5 @@ module _ (n f : ℕ) where
   perform-new s b (Decide i w) inv q = tt
   perform-new s b (Stop i) inv q = tt
   perform-new s b (Save i) inv q = tt
+  perform-new s b (OfBallots e) inv q = tt
   perform-new s b (Restore i) inv q = tt

@@ -17,7 +17,7 @@ use Rattle.model.specs.declared.Kind.{Kind}
 use Rattle.model.specs.declared.Kind.the-variants.{Vote, Ack, Help, Helped}
 use Rattle.model.specs.declared.Outcome.{Outcome}
 use Rattle.model.specs.declared.Event.{Event}
-use Rattle.model.specs.declared.Event.the-variants.{Lock, Order, Cast, Deliver, Timeout, Decide, Stop, Save, Restore}
+use Rattle.model.specs.declared.Event.the-variants.{Lock, Order, Cast, Deliver, Timeout, Decide, Stop, Save, Restore, OfBallots}
 use Rattle.protocol.specs.declared.Condition.{Condition}
 use Rattle.protocol.specs.declared.Condition.the-variants.{Running, Stopped, Standby}
 use Rattle.protocol.specs.declared.Controller.{Controller}
@@ -33,7 +33,7 @@ use Rattle.protocol.specs.Events.{restoreFrom}
 use Rattle.protocol.specs.Benches.{sentAfter}
 use Rattle.protocol.specs.Questions.{firstNo}
 use Rattle.protocol.proofs.view.RuleCases.{timeout-cases, vote-cases, ack-cases, help-cases, helped-cases, sufficient-cases, second-cases}
-use Rattle.protocol.proofs.view.View.{View, accepts, ask-l, ask-r}
+use Rattle.protocol.proofs.view.View.{ballotsV, View, accepts, ask-l, ask-r}
 use Rattle.protocol.proofs.view.Performed.{commitV, chosen, savedV, checkpointAt, identityV, performV}
 use Rattle.protocol.proofs.invariant.Words.{noting-runs, noting-phase}
 use Rattle.protocol.proofs.invariant.Invariant.{ackOn, ackedBy}
@@ -160,7 +160,7 @@ module _ (n f : ℕ) where
 
   -- neither a lock, a new order nor a stop
   abbrev pub Goes : Event → Type 0
-  Goes (Lock a c) = ⊥
+  Goes (Lock a c own) = ⊥
   Goes (Order o) = ⊥
   Goes (Cast i w t) = Unit {0}
   Goes (Deliver i j k) = Unit {0}
@@ -168,11 +168,12 @@ module _ (n f : ℕ) where
   Goes (Decide i w) = Unit {0}
   Goes (Stop i) = ⊥
   Goes (Save i) = Unit {0}
+  Goes (OfBallots e) = Unit {0}
   Goes (Restore i) = Unit {0}
 
   pub perform-tame : n ≤ limit → (b : View) (e : Event) → Goes e → accepts n f b e ≡ true → KeptAll e b (performV n f b e)
   unfolding performV accepts firstNo isController
-  perform-tame s b (Lock a c) g q = absurd g
+  perform-tame s b (Lock a c own) g q = absurd g
   perform-tame s b (Order o) g q = absurd g
   perform-tame s b (Cast i w t) g q = commit-tame _ b i _ (vote-live s i w t _ _ (search (ask-l, ask-r, and-l, and-r) depth 14) (eqb-true _ _ (search (ask-l, ask-r, and-l, and-r) depth 14)))
   perform-tame s b (Deliver i j k) g q = commit-tame _ b j _ (arrives-live s _ k i j _ _ _ (leb-true _ _ (search (ask-l, ask-r, and-l, and-r) depth 14)) (leb-true _ _ (search (ask-l, ask-r, and-l, and-r) depth 14)))
@@ -182,4 +183,5 @@ module _ (n f : ℕ) where
   perform-tame s b (Decide i w) g q = decide-tame b i w
   perform-tame s b (Stop i) g q = absurd g
   perform-tame s b (Save i) g q = save-tame b i
+  perform-tame s b (OfBallots e) g q = unfold ballotsV in (λ k. live-refl (OfBallots e) k (b .ctl k) (b .state .sent k))
   perform-tame s b (Restore i) g q = commit-tame _ b i _ (restored-live _ i (identityV n f b i) (b .saved i) (b .ctl i) (b .state .sent i) (stopped-idle ((b .ctl i) .condition) (search (ask-l, ask-r, and-l, and-r) depth 14)))

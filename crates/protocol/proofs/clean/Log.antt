@@ -16,7 +16,7 @@ use Rattle.model.specs.Numbers.{wordOf}
 use Rattle.model.specs.declared.Kind.the-variants.{Vote, Ack}
 use Rattle.model.specs.declared.Outcome.the-variants.{None}
 use Rattle.model.specs.declared.Event.{Event}
-use Rattle.model.specs.declared.Event.the-variants.{Lock, Order, Cast, Deliver, Timeout, Decide, Stop, Save, Restore}
+use Rattle.model.specs.declared.Event.the-variants.{Lock, Order, Cast, Deliver, Timeout, Decide, Stop, Save, Restore, OfBallots}
 use Rattle.protocol.specs.declared.Controller.{Controller}
 use Rattle.protocol.specs.declared.Sent.{Sent}
 use Rattle.protocol.specs.Controllers.{runs, phase, outcome, hasAck, ackOf, advance, freeze, conclude}
@@ -34,7 +34,7 @@ In e (x ∷ log) = (e ≡ x) ⊎ In e log
 
 -- an accepted event enters the log; an order begins it anew
 unfoldable pub entered : Event → List Event → List Event
-entered (Lock a c) log = []
+entered (Lock a c own) log = []
 entered (Order o) log = []
 entered (Cast i w t) log = Cast i w t ∷ log
 entered (Deliver i j k) log = Deliver i j k ∷ log
@@ -42,10 +42,11 @@ entered (Timeout i) log = Timeout i ∷ log
 entered (Decide i w) log = Decide i w ∷ log
 entered (Stop i) log = Stop i ∷ log
 entered (Save i) log = Save i ∷ log
+entered (OfBallots e) log = OfBallots e ∷ log
 entered (Restore i) log = Restore i ∷ log
 
 abbrev pub NotTimeout : Event → Type 0
-NotTimeout (Lock a c) = Unit {0}
+NotTimeout (Lock a c own) = Unit {0}
 NotTimeout (Order o) = Unit {0}
 NotTimeout (Cast i w t) = Unit {0}
 NotTimeout (Deliver i j k) = Unit {0}
@@ -53,6 +54,7 @@ NotTimeout (Timeout i) = ⊥
 NotTimeout (Decide i w) = Unit {0}
 NotTimeout (Stop i) = Unit {0}
 NotTimeout (Save i) = Unit {0}
+NotTimeout (OfBallots e) = Unit {0}
 NotTimeout (Restore i) = Unit {0}
 
 module _ (n f : ℕ) where
@@ -81,7 +83,7 @@ module _ (n f : ℕ) where
   Second i log = (suc f < i) ⊎ In (Timeout i) log
 
   abbrev pub CleanStep : Event → List Event → Type 0
-  CleanStep (Lock a c) log = Unit {0}
+  CleanStep (Lock a c own) log = Unit {0}
   CleanStep (Order o) log = Unit {0}
   CleanStep (Cast i w t) log = Unit {0}
   CleanStep (Deliver i j k) log = Unit {0}
@@ -89,6 +91,7 @@ module _ (n f : ℕ) where
   CleanStep (Decide i w) log = Unit {0}
   CleanStep (Stop i) log = ⊥
   CleanStep (Save i) log = Unit {0}
+  CleanStep (OfBallots e) log = Unit {0}
   CleanStep (Restore i) log = Unit {0}
 
   abbrev pub Clean : List Event → Type 0

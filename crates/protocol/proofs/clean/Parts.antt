@@ -17,13 +17,13 @@ use Rattle.model.specs.Routes.{voteRoute, ackRoute}
 use Rattle.model.specs.Numbers.{wordOf}
 use Rattle.model.specs.declared.Kind.the-variants.{Vote, Ack}
 use Rattle.model.specs.declared.Event.{Event}
-use Rattle.model.specs.declared.Event.the-variants.{Lock, Order, Cast, Deliver, Timeout, Decide, Stop, Save, Restore}
+use Rattle.model.specs.declared.Event.the-variants.{Lock, Order, Cast, Deliver, Timeout, Decide, Stop, Save, Restore, OfBallots}
 use Rattle.protocol.specs.Controllers.{runs, phase, outcome, hasAck}
 use Rattle.protocol.specs.Rules.{decides, secondTimeout}
 use Rattle.protocol.specs.Benches.{unsentAll}
 use Rattle.protocol.specs.Questions.{firstNo}
 use Rattle.protocol.specs.Steps.{renewed, orderOpened}
-use Rattle.protocol.proofs.view.View.{View, newOrderState, openedV, accepts, ask-l, ask-r}
+use Rattle.protocol.proofs.view.View.{ballotsV, View, newOrderState, openedV, accepts, ask-l, ask-r}
 use Rattle.protocol.proofs.view.Performed.{commitV, chosen, savedV, timeoutRule, performV, stepV, runV}
 use Rattle.protocol.proofs.invariant.Invariant.{votedBy, willBy, ackOn, ackedBy, Grows, Inv}
 use Rattle.protocol.proofs.invariant.Arrivals.{stage-bounds}
@@ -267,8 +267,8 @@ module _ (n f : ℕ) where
     opened-good b o = blank-good (openedV n f b o) (λ k. renew-blank (b .ctl k)) (λ k. has-none k)
 
     pub perform-order : (b : View) (e : Event) → Goes n f e → (performV n f b e) .order ≡ b .order
-    unfolding performV commitV chosen savedV
-    perform-order b (Lock a c) g = absurd g
+    unfolding performV commitV chosen savedV ballotsV
+    perform-order b (Lock a c own) g = absurd g
     perform-order b (Order o) g = absurd g
     perform-order b (Cast i w t) g = refl
     perform-order b (Deliver i j k) g = refl
@@ -276,6 +276,7 @@ module _ (n f : ℕ) where
     perform-order b (Decide i w) g = refl
     perform-order b (Stop i) g = absurd g
     perform-order b (Save i) g = refl
+    perform-order b (OfBallots e) g = refl
     perform-order b (Restore i) g = refl
 
     module _ (1≤f : 1 ≤ f) (small : n ≤ limit) where
@@ -299,7 +300,7 @@ module _ (n f : ℕ) where
 
       perform-good : (b : View) (e : Event) (log : List Event) → Inv n f b → accepts n f b e ≡ true → (Clean n f log → Good b log) → Clean n f (entered e log) → Good (performV n f b e) (entered e log)
       unfolding entered
-      perform-good b (Lock a x) log inv q h c = unfold accepts firstNo in absurd (false≢true (ask-l _ _ _ (ask-r _ _ _ q)))
+      perform-good b (Lock a x own) log inv q h c = unfold accepts firstNo in absurd (false≢true (ask-l _ _ _ (ask-r _ _ _ q)))
       perform-good b (Order o) log inv q h c = unfold performV in opened-good b o
       perform-good b (Cast i w t) log inv q h c = untimed-good b _ log inv tt tt q (h (c .0))
       perform-good b (Deliver i j k) log inv q h c = untimed-good b _ log inv tt tt q (h (c .0))
@@ -307,6 +308,7 @@ module _ (n f : ℕ) where
       perform-good b (Decide i w) log inv q h c = untimed-good b _ log inv tt tt q (h (c .0))
       perform-good b (Stop i) log inv q h c = absurd (c .1)
       perform-good b (Save i) log inv q h c = untimed-good b _ log inv tt tt q (h (c .0))
+      perform-good b (OfBallots e) log inv q h c = untimed-good b _ log inv tt tt q (h (c .0))
       perform-good b (Restore i) log inv q h c = untimed-good b _ log inv tt tt q (h (c .0))
 
       pub step-good : (b : View) (e : Event) (log : List Event) → Inv n f b → (Clean n f log → Good b log) → Clean n f (pushV n f b e log) → Good (stepV n f b e) (pushV n f b e log)

@@ -1,7 +1,7 @@
 -- A moment of a clean order that the bench can be brought to, by its log and the controllers' phases; and from one to the next.
 use Prim.Native.Nat.{ℕ, _≤_}
 use mathlib.Core.Path.{_≡_, refl, sym, _∙_, ap, subst}
-use mathlib.Core.Bool.{Bool, true, false≢true}
+use mathlib.Core.Bool.{false, Bool, true, false≢true}
 use mathlib.Core.List.{List, [], _∷_, _++_, reverse-cons}
 use native.Mathlib.Omega.{arith}
 use lib.ListN.{replicate}
@@ -52,7 +52,7 @@ module _ (n f : ℕ) (sized : sizesInRange n f ≡ true) where
     pub going : ReadyAll n f (view (after (fromLock n f log))) p
 
   pub one-later : (log : List Event) (e : Event) → fromLock n f (e ∷ log) ≡ fromLock n f log ++ (e ∷ [])
-  one-later log e = ap (λ (l : List Event). Lock n f ∷ Order 1 ∷ l) (reverse-cons e log)
+  one-later log e = ap (λ (l : List Event). Lock n f false ∷ Order 1 ∷ l) (reverse-cons e log)
 
   module _ {log : List Event} {p : ℕ → ℕ} (r : Reached log p) where
     abbrev b : Bench
@@ -99,48 +99,49 @@ module _ (n f : ℕ) (sized : sizesInRange n f ≡ true) where
       extend r p (Deliver i j kind) tt (deliver-accepted n f _ p (r .going) kind i j a b c d (sent i a b) e) (deliver-going n f _ p (r .going) kind i j c d (sent i a b))) n (omega arith) log
 
   -- a lock, and its first order
-  abbrev b₀ : Bench
-  b₀ = benchOf true n f
+  module _ (own : Bool) where
+    abbrev b₀ : Bench
+    b₀ = benchOf true n f own
 
-  pub begins : after (Lock n f ∷ Order 1 ∷ []) ≡ step b₀ (Order 1)
-  begins = unfold run in ap (λ (x : Bench). step x (Order 1)) locks
-    where
-      locks : step newBench (Lock n f) ≡ b₀
-      locks = unfold step reply firstNo unless benchOf perform in rw sized
+    pub begins : after (Lock n f own ∷ Order 1 ∷ []) ≡ step b₀ (Order 1)
+    begins = unfold run in ap (λ (x : Bench). step x (Order 1)) locks
+      where
+        locks : step newBench (Lock n f own) ≡ b₀
+        locks = unfold step reply firstNo unless benchOf perform in rw sized
 
-  pub shows : view (step b₀ (Order 1)) ≡ openedV n f (view b₀) 1
-  shows = step-sim b₀ (lock-sound n f sized) (Order 1) ∙ opens
-    where
-      opens : stepV (b₀ .shared .n) (b₀ .shared .f) (view b₀) (Order 1) ≡ openedV n f (view b₀) 1
-      opens = unfold stepV accepts firstNo unless performV view benchOf in refl
+    pub shows : view (step b₀ (Order 1)) ≡ openedV n f (view b₀) 1
+    shows = step-sim b₀ (lock-sound n f own sized) (Order 1) ∙ opens
+      where
+        opens : stepV (b₀ .shared .n) (b₀ .shared .f) (view b₀) (Order 1) ≡ openedV n f (view b₀) 1
+        opens = unfold stepV accepts firstNo unless performV view benchOf in refl
 
-  pub fresh-going : ReadyAll n f (openedV n f (view b₀) 1) (λ k. 0)
-  unfolding openedV view orderOpened renewed
-  fresh-going = record { opened = refl; able = λ k lo hi. record { running = ap isRunning (again k); at = ap phaseIn (again k); sent = λ kind j a b d r. absurd (none kind d) } }
-    where
-      runs₀ : (k : ℕ) → (station b₀ k) .controller .condition ≡ inPhase 0 None
-      runs₀ k = unfold station benchOf in all-of-copies (λ (x : Station). x .controller .condition ≡ inPhase 0 None) (freshStation []) (freshStation (replicate limit empty)) (unfold freshStation fresh in refl) (unfold freshStation fresh in refl) limit k
+    pub fresh-going : ReadyAll n f (openedV n f (view b₀) 1) (λ k. 0)
+    unfolding openedV view orderOpened renewed
+    fresh-going = record { opened = refl; able = λ k lo hi. record { running = ap isRunning (again k); at = ap phaseIn (again k); sent = λ kind j a b d r. absurd (none kind d) } }
+      where
+        runs₀ : (k : ℕ) → (station b₀ k) .controller .condition ≡ inPhase 0 None
+        runs₀ k = unfold station benchOf in all-of-copies (λ (x : Station). x .controller .condition ≡ inPhase 0 None) (freshStation []) (freshStation (replicate limit empty)) (unfold freshStation fresh in refl) (unfold freshStation fresh in refl) limit k
 
-      again : (k : ℕ) → (renew ((station b₀ k) .controller)) .condition ≡ inPhase 0 None
-      again k = unfold renew cleared in rw (runs₀ k)
+        again : (k : ℕ) → (renew ((station b₀ k) .controller)) .condition ≡ inPhase 0 None
+        again k = unfold renew cleared in rw (runs₀ k)
 
-      none : (kind : Kind) → due kind 0 ≡ true → ⊥
-      none Vote d = false≢true d
-      none Ack d = false≢true d
-      none Help d = false≢true d
-      none Helped d = false≢true d
+        none : (kind : Kind) → due kind 0 ≡ true → ⊥
+        none Vote d = false≢true d
+        none Ack d = false≢true d
+        none Help d = false≢true d
+        none Helped d = false≢true d
 
   pub start : Reached [] (λ k. 0)
   start = record {
-    sound = subst Sound (sym begins) (s .sound);
-    is-n = ap (λ (x : Bench). x .shared .n) begins ∙ s .same-n ∙ (unfold benchOf in refl);
-    is-f = ap (λ (x : Bench). x .shared .f) begins ∙ s .same-f ∙ (unfold benchOf in refl);
-    is-log = unfold logOf in ap (push _ (Order 1)) (silent newBench (Lock n f) (unfold entered in refl)) ∙ silent _ (Order 1) (unfold entered in refl);
-    going = subst (λ (x : View). ReadyAll n f x (λ k. 0)) (sym (ap view begins ∙ shows)) fresh-going;
+    sound = subst Sound (sym (begins false)) (s .sound);
+    is-n = ap (λ (x : Bench). x .shared .n) (begins false) ∙ s .same-n ∙ (unfold benchOf in refl);
+    is-f = ap (λ (x : Bench). x .shared .f) (begins false) ∙ s .same-f ∙ (unfold benchOf in refl);
+    is-log = unfold logOf in ap (push _ (Order 1)) (silent newBench (Lock n f false) (unfold entered in refl)) ∙ silent _ (Order 1) (unfold entered in refl);
+    going = subst (λ (x : View). ReadyAll n f x (λ k. 0)) (sym (ap view (begins false) ∙ shows false)) (fresh-going false);
   }
     where
-      s : Steps b₀ (lock-sound n f sized) (step b₀ (Order 1))
-      s = step-steps b₀ (lock-sound n f sized) (Order 1)
+      s : Steps (b₀ false) (lock-sound n f false sized) (step (b₀ false) (Order 1))
+      s = step-steps (b₀ false) (lock-sound n f false sized) (Order 1)
 
       silent : (b : Bench) (e : Event) → entered e [] ≡ [] → push b e [] ≡ []
       silent b e h = unfold push in by-cond (λ (l : List Event). l ≡ []) (isAccepted (reply b e)) (entered e []) [] (λ q. h) (λ q. refl)

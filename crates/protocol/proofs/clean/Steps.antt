@@ -6,7 +6,7 @@ use mathlib.Core.List.{List, [], _∷_, _++_}
 use native.Mathlib.Decide.{decLe, ℕ-discrete}
 use mathlib.Core.Logic.{_⊎_, inl, inr}
 use Rattle.model.specs.declared.Event.{Event}
-use Rattle.model.specs.declared.Event.the-variants.{Lock, Order, Cast, Deliver, Timeout, Decide, Stop, Save, Restore}
+use Rattle.model.specs.declared.Event.the-variants.{Lock, Order, Cast, Deliver, Timeout, Decide, Stop, Save, Restore, OfBallots}
 use Rattle.protocol.specs.Claim.{IsSecondTimeout, CastBy}
 use Rattle.protocol.specs.Claim as claim
 use Rattle.protocol.proofs.clean.Log.{NotTimeout, In, Voted, VotesIn, AcksIn, Second, CleanStep, Clean}
@@ -17,7 +17,7 @@ record IsTimeout (e : Event) : Type 0 where
   is : e ≡ Timeout at
 
 which : (e : Event) → NotTimeout e ⊎ IsTimeout e
-which (Lock a c) = inl tt
+which (Lock a c own) = inl tt
 which (Order o) = inl tt
 which (Cast i w t) = inl tt
 which (Deliver i j k) = inl tt
@@ -25,6 +25,7 @@ which (Timeout i) = inr (record { at = i; is = refl })
 which (Decide i w) = inl tt
 which (Stop i) = inl tt
 which (Save i) = inl tt
+which (OfBallots e) = inl tt
 which (Restore i) = inl tt
 
 inject : (i k : ℕ) → Timeout i ≡ Timeout k → i ≡ k
@@ -146,7 +147,7 @@ module _ (n f : ℕ) where
   ]
 
   one-step : (e : Event) (log : List Event) → CleanOrder (e ∷ log) → CleanStep n f e log
-  one-step (Lock a x) log c = tt
+  one-step (Lock a x own) log c = tt
   one-step (Order o) log c = tt
   one-step (Cast i w t) log c = tt
   one-step (Deliver i j k) log c = tt
@@ -154,6 +155,7 @@ module _ (n f : ℕ) where
   one-step (Decide i w) log c = tt
   one-step (Stop i) log c = absurd (c .stops i (inl refl))
   one-step (Save i) log c = tt
+  one-step (OfBallots e) log c = tt
   one-step (Restore i) log c = tt
 
   pub clean-by-steps : (log : List Event) → CleanOrder log → Clean n f log

@@ -20,8 +20,10 @@ use Rattle.model.specs.declared.Kind.the-variants.{Vote, Ack, Help, Helped}
 use Rattle.model.specs.declared.Outcome.{Outcome}
 use Rattle.model.specs.declared.Outcome.the-variants.{None}
 use Rattle.model.specs.declared.Checkpoint.{Checkpoint}
+use Rattle.model.specs.declared.BallotEvent.{BallotEvent}
 use Rattle.model.specs.declared.Event.{Event}
-use Rattle.model.specs.declared.Event.the-variants.{Lock, Order, Cast, Deliver, Timeout, Decide, Stop, Save, Restore}
+use Rattle.model.specs.declared.Event.the-variants.{Lock, Order, Cast, Deliver, Timeout, Decide, Stop, Save, Restore, OfBallots}
+use Rattle.protocol.specs.declared.Ballots.{Ballots}
 use Rattle.protocol.specs.declared.Consensus.{Consensus}
 use Rattle.protocol.specs.declared.Controller.{Controller}
 use Rattle.protocol.specs.declared.Answer.{Answer}
@@ -35,7 +37,7 @@ use Rattle.protocol.specs.Benches.{ofKind, unsentAll, sentAfter}
 use Rattle.protocol.specs.Questions.{firstNo, wasProposed}
 use Rattle.protocol.specs.Steps.{renewed, orderOpened}
 use Rattle.protocol.specs.SentOnce.{receiversOf}
-use Rattle.protocol.proofs.view.View.{View, savedOrder, savedOutcome, openedV, accepts, ask-l, ask-r}
+use Rattle.protocol.proofs.view.View.{ballotsV, View, savedOrder, savedOutcome, openedV, accepts, ask-l, ask-r}
 use Rattle.protocol.proofs.view.Performed.{commitV, savedV, checkpointAt, identityV, timeoutRule, performV, stepV, runV}
 use Rattle.protocol.proofs.view.RuleCases.{vote-cases, ack-cases, restore-cases, sufficient-cases, timeout-cases}
 use Rattle.protocol.proofs.invariant.Invariant.{Inv}
@@ -83,7 +85,7 @@ module _ (n f : ℕ) where
 
   -- the message that is delivered, if one is, was sent
   abbrev WasSent : View → Event → Type 0
-  WasSent b (Lock a c) = Unit {0}
+  WasSent b (Lock a c own) = Unit {0}
   WasSent b (Order o) = Unit {0}
   WasSent b (Cast i w t) = Unit {0}
   WasSent b (Deliver i j kind) = has ((ofKind kind (b .state .sent i)) .to) j ≡ true
@@ -91,6 +93,7 @@ module _ (n f : ℕ) where
   WasSent b (Decide i w) = Unit {0}
   WasSent b (Stop i) = Unit {0}
   WasSent b (Save i) = Unit {0}
+  WasSent b (OfBallots e) = Unit {0}
   WasSent b (Restore i) = Unit {0}
 
   commit-without-help : (b : View) (log : List Event) (e : Event) (i : ℕ) (a : Answer) → WasSent b e → WithoutHelp b log → WithoutHelpBy (e ∷ log) a → WithoutHelp (commitV b i a) (e ∷ log)
@@ -170,6 +173,19 @@ module _ (n f : ℕ) where
       (λ e. becomes-without-help _ _ (record { waits = refl; held = λ v. by-cond (λ (o : Outcome). o ≡ wordOf v → Delivered (Restore i ∷ log)) (eqb (x .order) (b .order)) (x .outcome) None (λ t h. more _ log (q .saved i v (ap savedOrder s ∙ eqb-true _ _ t) (ap savedOutcome s ∙ h))) (λ t h. none-word v h) }))
       (λ e. passed-without-help _ _ (now b log (Restore i) i q))
 
+  ballot-without-help : (b : View) (log : List Event) (e : BallotEvent) (s : Ballots) → WithoutHelp b log → WithoutHelp (ballotsV b s) (OfBallots e ∷ log)
+  unfolding ballotsV
+  ballot-without-help b log e s q = record {
+    sent = λ x y kind m. elim m [ inl z ↦ subst (WasSent b) (sym z) tt | inr z ↦ q .sent x y kind z ];
+    no-help = q .no-help;
+    no-helped = q .no-helped;
+    none-waits = q .none-waits;
+    no-move = q .no-move;
+    no-stay = q .no-stay;
+    held = λ k v h. more _ log (q .held k v h);
+    saved = λ k v o h. more _ log (q .saved k v o h);
+  }
+
   saved-without-help : (b : View) (log : List Event) (i : ℕ) → WithoutHelp b log → WithoutHelp (savedV b i (checkpointAt n f b i)) (Save i ∷ log)
   unfolding savedV
   saved-without-help b log i q = record {
@@ -215,7 +231,7 @@ module _ (n f : ℕ) where
 
     perform-without-help : (b : View) (e : Event) (log : List Event) → Inv n f b → accepts n f b e ≡ true → (Clean n f log → Good n f f<n b log) → (Clean n f log → WithoutHelp b log) → Clean n f (entered e log) → WithoutHelp (performV n f b e) (entered e log)
     unfolding entered performV accepts firstNo
-    perform-without-help b (Lock a x) log inv q g h c = absurd (false≢true (ask-l _ _ _ (ask-r _ _ _ q)))
+    perform-without-help b (Lock a x own) log inv q g h c = absurd (false≢true (ask-l _ _ _ (ask-r _ _ _ q)))
     perform-without-help b (Order o) log inv q g h c = opened-without-help b o inv (leb-true _ _ (search (ask-l, ask-r, and-l, and-r) depth 14))
     perform-without-help b (Cast i w t) log inv q g h c = commit-without-help b log (Cast i w t) i _ tt (h (c .0)) (vote-without-help _ i w t (b .ctl i) (now b log (Cast i w t) i (h (c .0))))
     perform-without-help b (Deliver i j k) log inv q g h c = let s : WasSent b (Deliver i j k) = (search (ask-l, ask-r, and-l, and-r) depth 14) in commit-without-help b log (Deliver i j k) j _ s (h (c .0)) (deliver-without-help b log i j k s (h (c .0)))
@@ -223,6 +239,7 @@ module _ (n f : ℕ) where
     perform-without-help b (Decide i w) log inv q g h c = absurd (no-both (wasProposed (b .state .consensus) w) (search (ask-l, ask-r, and-l, and-r) depth 14) (not-proposed (b .state .consensus) w (h (c .0) .no-move) (h (c .0) .no-stay)))
     perform-without-help b (Stop i) log inv q g h c = absurd (c .1)
     perform-without-help b (Save i) log inv q g h c = saved-without-help b log i (h (c .0))
+    perform-without-help b (OfBallots e) log inv q g h c = ballot-without-help b log e _ (h (c .0))
     perform-without-help b (Restore i) log inv q g h c = commit-without-help b log (Restore i) i _ tt (h (c .0)) (restore-cases (WithoutHelpBy _) _ _ (b .ctl i) (restored-without-help b log i (h (c .0))) (passed-without-help _ _ (now b log (Restore i) i (h (c .0)))))
 
     step-without-help : (b : View) (e : Event) (log : List Event) → Inv n f b → (Clean n f log → Good n f f<n b log) → (Clean n f log → WithoutHelp b log) → Clean n f (pushV n f b e log) → WithoutHelp (stepV n f b e) (pushV n f b e log)

@@ -17,7 +17,7 @@ use Rattle.ground.specs.Limit.{limit}
 use Rattle.model.specs.Ranges.{isController}
 use Rattle.model.specs.Numbers.{wordOf, isNone}
 use Rattle.model.specs.declared.Event.{Event}
-use Rattle.model.specs.declared.Event.the-variants.{Lock, Order, Cast, Deliver, Timeout, Decide, Stop, Save, Restore}
+use Rattle.model.specs.declared.Event.the-variants.{Lock, Order, Cast, Deliver, Timeout, Decide, Stop, Save, Restore, OfBallots}
 use Rattle.protocol.specs.declared.Condition.the-variants.{Stopped}
 use Rattle.protocol.specs.declared.Controller.{Controller}
 use Rattle.protocol.specs.declared.Answer.{Answer}
@@ -27,7 +27,7 @@ use Rattle.protocol.specs.Rules.{becomes, voteRule}
 use Rattle.protocol.specs.Benches.{unsentAll, sentAfter}
 use Rattle.protocol.specs.Questions.{firstNo}
 use Rattle.protocol.specs.Steps.{renewed, orderOpened}
-use Rattle.protocol.proofs.view.View.{View, newOrderState, openedV, accepts, ask-l, ask-r}
+use Rattle.protocol.proofs.view.View.{ballotsV, View, newOrderState, openedV, accepts, ask-l, ask-r}
 use Rattle.protocol.proofs.view.Performed.{identityV, commitV, chosen, savedV, checkpointAt, performV, stepV, runV}
 use Rattle.protocol.proofs.invariant.Invariant.{votedBy, willBy, Inv}
 use Rattle.protocol.proofs.invariant.Decisions.{renew-keeps}
@@ -117,7 +117,7 @@ module _ (n f : ℕ) where
 
   perform-facts : n ≤ limit → (b : View) (e : Event) → accepts n f b e ≡ true → StepFacts b e (performV n f b e)
   unfolding performV
-  perform-facts s b (Lock a c) q = unfold accepts firstNo in absurd (false≢true (ask-l _ _ _ (ask-r _ _ _ q)))
+  perform-facts s b (Lock a c own) q = unfold accepts firstNo in absurd (false≢true (ask-l _ _ _ (ask-r _ _ _ q)))
   perform-facts s b (Order o) q = order-facts b o (later b o q)
   perform-facts s b (Cast i w t) q = let r : Voting b i = vote-ran b i w t q in vote-facts b i w t (r .lo) (let h : i ≤ n = r .hi in omega arith) (r .runs) q
   perform-facts s b (Deliver i j k) q = commit-facts b _ j _ (arrives-framed n f k i _ (b .ctl j) (b .state .sent j))
@@ -125,6 +125,7 @@ module _ (n f : ℕ) where
   perform-facts s b (Decide i w) q = decide-facts b i w
   perform-facts s b (Stop i) q = commit-facts b _ i _ (cleared-framed Stopped (b .ctl i) (b .state .sent i) refl)
   perform-facts s b (Save i) q = save-facts b i
+  perform-facts s b (OfBallots e) q = unfold ballotsV in record { voted = λ k x. (refl, inl x); taken = λ o k h. h; moved = λ k. inl refl }
   perform-facts s b (Restore i) q = commit-facts b _ i _ (restore-framed (identityV n f b i) (b .saved i) (b .ctl i) (b .state .sent i))
 
   step-facts : n ≤ limit → (b : View) (e : Event) → StepFacts b e (stepV n f b e)

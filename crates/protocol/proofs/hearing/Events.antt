@@ -18,8 +18,9 @@ use Rattle.model.specs.Numbers.{wordOf, isMove, isStay}
 use Rattle.model.specs.declared.Kind.the-variants.{Vote, Ack, Help, Helped}
 use Rattle.model.specs.declared.Outcome.{Outcome}
 use Rattle.model.specs.declared.Outcome.the-variants.{None}
+use Rattle.model.specs.declared.BallotEvent.{BallotEvent}
 use Rattle.model.specs.declared.Event.{Event}
-use Rattle.model.specs.declared.Event.the-variants.{Lock, Order, Cast, Deliver, Timeout, Decide, Stop, Save, Restore}
+use Rattle.model.specs.declared.Event.the-variants.{Lock, Order, Cast, Deliver, Timeout, Decide, Stop, Save, Restore, OfBallots}
 use Rattle.protocol.specs.declared.Condition.{Condition}
 use Rattle.protocol.specs.declared.Condition.the-variants.{Stopped, Standby}
 use Rattle.protocol.specs.declared.Controller.{Controller}
@@ -33,7 +34,7 @@ use Rattle.protocol.specs.Benches.{unsentAll, sentAfter}
 use Rattle.protocol.specs.Events.{subject}
 use Rattle.protocol.specs.Questions.{firstNo, wasProposed}
 use Rattle.protocol.specs.SentOnce.{receiversOf, sendOf}
-use Rattle.protocol.proofs.view.View.{View, openedV, accepts, ask-l, ask-r}
+use Rattle.protocol.proofs.view.View.{ballotsV, View, openedV, accepts, ask-l, ask-r}
 use Rattle.protocol.proofs.view.Performed.{commitV, chosen, identityV, savedV, performV}
 use Rattle.protocol.proofs.view.RuleCases.{vote-cases, ack-cases, helped-cases, help-cases, restore-cases, sufficient-cases, second-cases, timeout-cases}
 use Rattle.protocol.proofs.invariant.Invariant.{frozenBy, Inv}
@@ -208,6 +209,14 @@ module _ (n f : ℕ) where
       put = h .put;
     })
 
+    ballot-heard : (e : BallotEvent) (u : View) → u .ctl ≡ v .ctl → u .state ≡ v .state → Heard u (OfBallots e ∷ log)
+    ballot-heard e u p q = rw (p, q) (record {
+      listening = λ k lo hi r. let x : Listening n f k (v .ctl k) (v .state .sent k) log = h .listening k lo hi r in
+          record { came = came-more k (v .ctl k) (OfBallots e) log (x .came) tt; stands = x .stands; short = x .short };
+      asked = h .asked;
+      put = h .put;
+    })
+
     cleared-heard : (e : Event) (i : ℕ) → subject e ≡ i → (k : Condition) → isRunning k ≡ false → Heard (commitV v i (becomes (cleared k (v .ctl i)))) (e ∷ log)
     cleared-heard e i s k z = commit-heard v log e i (becomes (cleared k (v .ctl i))) s h (cleared-proper v i k) (not-now e i (becomes (cleared k (v .ctl i))) (unfold becomes cleared in z))
 
@@ -233,7 +242,7 @@ module _ (n f : ℕ) where
 
     pub perform-heard : (e : Event) → accepts n f v e ≡ true → Heard (performV n f v e) (entered e log)
     unfolding performV accepts firstNo isController entered arrives
-    perform-heard (Lock a x) q = absurd (false≢true (ask-l _ _ _ (ask-r _ _ _ q)))
+    perform-heard (Lock a x own) q = absurd (false≢true (ask-l _ _ _ (ask-r _ _ _ q)))
     perform-heard (Order o) q = opened-heard o
     perform-heard (Cast i w t) q = commit-heard v log (Cast i w t) i _ refl h (vote-proper v i w t) (λ r.
         ((search (ask-l, ask-r, and-l, and-r) depth 14), λ x. vote-follows n f i (v .ctl i) (v .state .sent i) (x .stands) (x .short) w t (eqb-true _ _ (search (ask-l, ask-r, and-l, and-r) depth 14))))
@@ -265,4 +274,5 @@ module _ (n f : ℕ) where
     perform-heard (Decide i w) q = decided-heard i w
     perform-heard (Stop i) q = cleared-heard (Stop i) i refl Stopped refl
     perform-heard (Save i) q = saved-heard i (performV n f v (Save i)) (unfold performV savedV in refl) (unfold performV savedV in refl)
+    perform-heard (OfBallots e) q = ballot-heard e (performV n f v (OfBallots e)) (unfold performV ballotsV in refl) (unfold performV ballotsV in refl)
     perform-heard (Restore i) q = restored-heard i (search (ask-l, ask-r, and-l, and-r) depth 14)

@@ -15,7 +15,7 @@ use Rattle.ground.specs.Update.{upd-other, upd-all}
 use Rattle.model.specs.QuestionLaws.{is-accepted}
 use Rattle.model.specs.declared.Kind.{Kind}
 use Rattle.model.specs.declared.Event.{Event}
-use Rattle.model.specs.declared.Event.the-variants.{Lock, Order, Cast, Deliver, Timeout, Decide, Stop, Save, Restore}
+use Rattle.model.specs.declared.Event.the-variants.{Lock, Order, Cast, Deliver, Timeout, Decide, Stop, Save, Restore, OfBallots}
 use Rattle.protocol.specs.declared.Condition.{Condition}
 use Rattle.protocol.specs.declared.Condition.the-variants.{Running, Stopped, Standby}
 use Rattle.protocol.specs.declared.Controller.{Controller}
@@ -25,11 +25,11 @@ use Rattle.protocol.specs.declared.Bench.{Bench}
 use Rattle.protocol.specs.Controllers.{isRunning, isStopped, runs, phase}
 use Rattle.protocol.specs.Benches.{newBench, ofKind, sentAfter}
 use Rattle.protocol.specs.Events.{subject}
-use Rattle.protocol.specs.Steps.{step}
+use Rattle.protocol.specs.Steps.{step, orderOpened}
 use Rattle.protocol.specs.SentOnce.{receiversOf, sendOf}
 use Rattle.protocol.specs.Claim.{after, Accepted}
-use Rattle.protocol.proofs.view.View.{View, accepts}
-use Rattle.protocol.proofs.view.Performed.{commitV, chosen, performV, stepV}
+use Rattle.protocol.proofs.view.View.{View, ballotsV, openedV, accepts}
+use Rattle.protocol.proofs.view.Performed.{commitV, chosen, savedV, performV, stepV}
 use Rattle.protocol.proofs.view.Simulation.{view, Sound, Steps, step-steps, reply-sim, step-sim}
 use Rattle.protocol.proofs.invariant.Invariant.{Inv}
 use Rattle.protocol.proofs.invariant.Orders.{perform-next, next-inv}
@@ -56,7 +56,7 @@ phases-up n f e j s s′ (voted w t q z p) = omega arith
 
 -- an event of a running controller
 abbrev pub Acts : Event → Type 0
-Acts (Lock a c) = ⊥
+Acts (Lock a c own) = ⊥
 Acts (Order o) = ⊥
 Acts (Cast i w t) = Unit {0}
 Acts (Deliver i j k) = Unit {0}
@@ -64,10 +64,11 @@ Acts (Timeout i) = Unit {0}
 Acts (Decide i w) = Unit {0}
 Acts (Stop i) = ⊥
 Acts (Save i) = ⊥
+Acts (OfBallots e) = Unit {0}
 Acts (Restore i) = ⊥
 
 acts-goes : (n f : ℕ) (e : Event) → Acts e → Goes n f e
-acts-goes n f (Lock a c) t = absurd t
+acts-goes n f (Lock a c own) t = absurd t
 acts-goes n f (Order o) t = absurd t
 acts-goes n f (Cast i w t) u = tt
 acts-goes n f (Deliver i j k) u = tt
@@ -75,10 +76,11 @@ acts-goes n f (Timeout i) u = tt
 acts-goes n f (Decide i w) u = tt
 acts-goes n f (Stop i) t = absurd t
 acts-goes n f (Save i) t = absurd t
+acts-goes n f (OfBallots e) u = tt
 acts-goes n f (Restore i) t = absurd t
 
 acts-enters : (e : Event) → Acts e → Enters e
-acts-enters (Lock a c) t = absurd t
+acts-enters (Lock a c own) t = absurd t
 acts-enters (Order o) t = absurd t
 acts-enters (Cast i w t) u = tt
 acts-enters (Deliver i j k) u = tt
@@ -86,7 +88,12 @@ acts-enters (Timeout i) u = tt
 acts-enters (Decide i w) u = tt
 acts-enters (Stop i) t = absurd t
 acts-enters (Save i) t = absurd t
+acts-enters (OfBallots e) u = tt
 acts-enters (Restore i) t = absurd t
+
+pub no-more : (es : List Event) → es ≡ es ++ []
+no-more [] = refl
+no-more (e ∷ es) = ap (λ (l : List Event). e ∷ l) (no-more es)
 
 module _ (n f o : ℕ) (f<n : f < n) (1≤f : 1 ≤ f) (small : n ≤ limit) where
   -- a moment of order o at a lock of n and f
@@ -97,6 +104,19 @@ module _ (n f o : ℕ) (f<n : f < n) (1≤f : 1 ≤ f) (small : n ≤ limit) whe
     pub is-order : (after es) .shared .order ≡ o
     pub inv : Inv n f (viewAt es)
     pub heard : Heard n f (viewAt es) (logAt es)
+
+  own-stays : (v : View) (e : Event) → (performV n f v e) .own ≡ v .own
+  unfolding performV commitV chosen savedV ballotsV openedV orderOpened
+  own-stays v (Lock a c own) = refl
+  own-stays v (Order o) = refl
+  own-stays v (Cast i w t) = refl
+  own-stays v (Deliver i j k) = refl
+  own-stays v (Timeout i) = refl
+  own-stays v (Decide i w) = refl
+  own-stays v (Stop i) = refl
+  own-stays v (Save i) = refl
+  own-stays v (Restore i) = refl
+  own-stays v (OfBallots e) = refl
 
   module _ (es : List Event) (m : Moment es) (e : Event) (q : accepts n f (viewAt es) e ≡ true) where
     pub taken : Accepted es e
@@ -133,23 +153,21 @@ module _ (n f o : ℕ) (f<n : f < n) (1≤f : 1 ≤ f) (small : n ≤ limit) whe
     pub moment : Moment es′
     pub more : List Event
     pub parts : es′ ≡ es ++ more
+    pub own : (viewAt es′) .own ≡ (viewAt es) .own
     pub running : (k : ℕ) → runs ((viewAt es′) .ctl k) ≡ runs ((viewAt es) .ctl k)
     pub stopped : (k : ℕ) → isStopped (((viewAt es′) .ctl k) .condition) ≡ isStopped (((viewAt es) .ctl k) .condition)
     pub phases : (k : ℕ) → runs ((viewAt es) .ctl k) ≡ true → phase ((viewAt es) .ctl k) ≤ phase ((viewAt es′) .ctl k)
     pub log : (e : Event) → In e (logAt es) → In e (logAt es′)
 
-  no-more : (es : List Event) → es ≡ es ++ []
-  no-more [] = refl
-  no-more (e ∷ es) = ap (λ (l : List Event). e ∷ l) (no-more es)
-
   pub later-refl : (es : List Event) → Moment es → Later es es
-  later-refl es m = record { moment = m; more = []; parts = no-more es; running = λ k. refl; stopped = λ k. refl; phases = λ k r. omega arith; log = λ e x. x }
+  later-refl es m = record { moment = m; more = []; parts = no-more es; own = refl; running = λ k. refl; stopped = λ k. refl; phases = λ k r. omega arith; log = λ e x. x }
 
   pub later-trans : (es es′ es″ : List Event) → Later es es′ → Later es′ es″ → Later es es″
   later-trans es es′ es″ a b = record {
     moment = b .moment;
     more = a .more ++ b .more;
     parts = b .parts ∙ ap (λ (l : List Event). l ++ b .more) (a .parts) ∙ sym (append-assoc es (a .more) (b .more));
+    own = b .own ∙ a .own;
     running = λ k. b .running k ∙ a .running k;
     stopped = λ k. b .stopped k ∙ a .stopped k;
     phases = λ k r. let x : phase ((viewAt es) .ctl k) ≤ phase ((viewAt es′) .ctl k) = a .phases k r in let y : phase ((viewAt es′) .ctl k) ≤ phase ((viewAt es″) .ctl k) = b .phases k (a .running k ∙ r) in omega arith;
@@ -158,8 +176,8 @@ module _ (n f o : ℕ) (f<n : f < n) (1≤f : 1 ≤ f) (small : n ≤ limit) whe
 
   -- a controller that an event does not concern
   pub other : (v : View) (e : Event) → Acts e → (k : ℕ) → eqb k (subject e) ≡ false → (performV n f v e) .ctl k ≡ v .ctl k
-  unfolding performV commitV chosen
-  other v (Lock a c) t k d = absurd t
+  unfolding performV commitV chosen ballotsV
+  other v (Lock a c own) t k d = absurd t
   other v (Order x) t k d = absurd t
   other v (Cast i w t) u k d = upd-other (v .ctl) i _ k d
   other v (Deliver i j x) u k d = upd-other (v .ctl) j _ k d
@@ -167,6 +185,7 @@ module _ (n f o : ℕ) (f<n : f < n) (1≤f : 1 ≤ f) (small : n ≤ limit) whe
   other v (Decide i w) u k d = upd-other (v .ctl) i _ k d
   other v (Stop i) t k d = absurd t
   other v (Save i) t k d = absurd t
+  other v (OfBallots e) u k d = refl
   other v (Restore i) t k d = absurd t
 
   -- one accepted event of a running controller
@@ -175,6 +194,7 @@ module _ (n f o : ℕ) (f<n : f < n) (1≤f : 1 ≤ f) (small : n ≤ limit) whe
     moment = moment-next es m e q (acts-enters e u) (perform-order n f f<n (viewAt es) e (acts-goes n f e u));
     more = e ∷ [];
     parts = refl;
+    own = ap (λ (x : View). x .own) (performs es m e q) ∙ own-stays (viewAt es) e;
     running = λ k. rw (performs es m e q) (kept k .running);
     stopped = λ k. rw (performs es m e q) (elim (split (eqb k (subject e))) [
       | inl z ↦ let z′ : runs ((viewAt es) .ctl k) ≡ true = rw (eqb-true k (subject e) z) r in running-up (((performV n f (viewAt es) e) .ctl k) .condition) (kept k .running ∙ z′) ∙ sym (running-up (((viewAt es) .ctl k) .condition) z′)

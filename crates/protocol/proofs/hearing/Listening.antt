@@ -9,7 +9,7 @@ use Rattle.ground.specs.Mask.{has}
 use Rattle.model.specs.Numbers.{isNone}
 use Rattle.model.specs.declared.Kind.the-variants.{Vote, Ack, Help, Helped}
 use Rattle.model.specs.declared.Event.{Event}
-use Rattle.model.specs.declared.Event.the-variants.{Lock, Order, Cast, Deliver, Timeout, Decide, Stop, Save, Restore}
+use Rattle.model.specs.declared.Event.the-variants.{Lock, Order, Cast, Deliver, Timeout, Decide, Stop, Save, Restore, OfBallots}
 use Rattle.protocol.specs.declared.Controller.{Controller}
 use Rattle.protocol.specs.declared.Answer.{Answer}
 use Rattle.protocol.specs.declared.Sent.{Sent}
@@ -36,7 +36,7 @@ pub record Came (i : ℕ) (c : Controller) (log : List Event) : Type 0 where
 
 -- what an event e adds to it
 abbrev pub Adds : ℕ → Controller → Event → Type 0
-Adds i c (Lock a x) = Unit {0}
+Adds i c (Lock a x own) = Unit {0}
 Adds i c (Order o) = Unit {0}
 Adds i c (Cast j w t) = Unit {0}
 Adds i c (Deliver k j Vote) = Unit {0}
@@ -47,11 +47,12 @@ Adds i c (Timeout j) = Unit {0}
 Adds i c (Decide j w) = j ≡ i → isNone (outcome c) ≡ false
 Adds i c (Stop j) = Unit {0}
 Adds i c (Save j) = Unit {0}
+Adds i c (OfBallots e) = Unit {0}
 Adds i c (Restore j) = Unit {0}
 
 -- an event of another controller adds nothing
 adds-none : (i : ℕ) (c : Controller) (e : Event) → (subject e ≡ i → ⊥) → Adds i c e
-adds-none i c (Lock a x) d = tt
+adds-none i c (Lock a x own) d = tt
 adds-none i c (Order o) d = tt
 adds-none i c (Cast j w t) d = tt
 adds-none i c (Deliver k j Vote) d = tt
@@ -62,6 +63,7 @@ adds-none i c (Timeout j) d = tt
 adds-none i c (Decide j w) d = λ q. absurd (d q)
 adds-none i c (Stop j) d = tt
 adds-none i c (Save j) d = tt
+adds-none i c (OfBallots e) d = tt
 adds-none i c (Restore j) d = tt
 
 pub came-more : (i : ℕ) (c : Controller) (e : Event) (log : List Event) → Came i c log → Adds i c e → Came i c (e ∷ log)

@@ -21,35 +21,31 @@ use Rattle.model.specs.Ranges.{sizesInRange, isController, positionInRange}
 use Rattle.model.specs.RangeLaws.{Ranges, ranges}
 use Rattle.model.specs.declared.Kind.the-variants.{Help, Helped}
 use Rattle.model.specs.declared.Event.{Event}
-use Rattle.model.specs.declared.Event.the-variants.{Lock, Order, Cast, Deliver, Timeout, Stop}
+use Rattle.model.specs.declared.Event.the-variants.{Cast, Deliver, Timeout, Stop}
 use Rattle.protocol.specs.declared.Controller.{Controller}
 use Rattle.protocol.specs.declared.Answer.{Answer}
 use Rattle.protocol.specs.declared.Bench.{Bench}
 use Rattle.protocol.specs.Controllers.{isStopped, runs, phase, hasAck, ackOf, hasHelped, cleared, advance, learn, aim, keepHelped, freeze, await, propose}
 use Rattle.protocol.specs.Rules.{passedOver, becomes, proposing, voteRule, decides, backupsComplete, sufficient, proposeIfSufficient, frozen, callsHelp, secondTimeout, helpedArrives}
 use Rattle.protocol.specs.Calls.{arrives}
-use Rattle.protocol.specs.Benches.{newBench, benchOf, controller, ofKind}
+use Rattle.protocol.specs.Benches.{newBench, controller, ofKind}
 use Rattle.protocol.specs.Questions.{unless, firstNo}
-use Rattle.protocol.specs.Steps.{renewed, orderOpened, run}
+use Rattle.protocol.specs.Steps.{run}
 use Rattle.protocol.specs.Claim.{after, opensAny}
 use Rattle.protocol.specs.Termination.{RunsAt, few-down, Meets, MetList, WaitedList, Onward}
-use Rattle.protocol.proofs.view.View.{View, openedV, accepts}
+use Rattle.protocol.proofs.view.View.{View, accepts}
 use Rattle.protocol.proofs.view.Performed.{commitV, timeoutRule, performV, runV}
 use Rattle.protocol.proofs.view.RuleCases.{helped-cases, sufficient-cases}
-use Rattle.protocol.proofs.view.Simulation.{view, step-steps, Runs, run-sim}
-use Rattle.protocol.proofs.invariant.Invariant.{Inv}
-use Rattle.protocol.proofs.invariant.Decisions.{Blank, renew-blank}
+use Rattle.protocol.proofs.view.Simulation.{view, Runs, run-sim}
+use Rattle.protocol.proofs.invariant.Decisions.{Blank}
 use Rattle.protocol.proofs.clean.Log.{In}
 use Rattle.protocol.proofs.clean.Kept.{stopped-idle}
-use Rattle.protocol.proofs.clean.Reached.{begins, shows, fresh-going}
 use Rattle.protocol.proofs.claim.Moments.{logAt, append-assoc, run-append, run-one}
-use Rattle.protocol.proofs.claim.Start.{start, lock-sound}
 use Rattle.protocol.proofs.hearing.Counts.{count-first}
 use Rattle.protocol.proofs.hearing.RuleSteps.{counted}
-use Rattle.protocol.proofs.hearing.Events.{Heard}
-use Rattle.protocol.proofs.hearing.Moments.{HeardAt, heard-at}
 use Rattle.protocol.proofs.hearing.Hears.{hears}
 use Rattle.protocol.proofs.hearing.Later.{viewAt, running-up, Moment, taken, performs, logs, moment-next, Later, later-trans, later-one}
+use Rattle.protocol.proofs.hearing.Opening.{opening, opening-moment, opening-own, opening-runs, opening-blank}
 use Rattle.protocol.proofs.hearing.Onward.{open-at, Brought, Raised, unmoved, to-stage, deliver-accepted, onward}
 
 module _ (n f : ℕ) (sized : sizesInRange n f ≡ true) where
@@ -65,41 +61,10 @@ module _ (n f : ℕ) (sized : sizesInRange n f ≡ true) where
   open-now : (es : List Event) → At es → leb 1 ((viewAt es) .order) ≡ true
   open-now = open-at n f 1 (range .high) (range .low) (range .small) (omega arith)
 
-  -- right after the order was opened
-  abbrev es₀ : List Event
-  es₀ = Lock n f ∷ Order 1 ∷ []
-
-  is-n₀ : (after es₀) .shared .n ≡ n
-  is-n₀ = ap (λ (b : Bench). b .shared .n) (begins n f sized) ∙ step-steps (benchOf true n f) (lock-sound n f sized) (Order 1) .same-n ∙ (unfold benchOf in refl)
-
-  is-f₀ : (after es₀) .shared .f ≡ f
-  is-f₀ = ap (λ (b : Bench). b .shared .f) (begins n f sized) ∙ step-steps (benchOf true n f) (lock-sound n f sized) (Order 1) .same-f ∙ (unfold benchOf in refl)
-
-  view₀ : viewAt es₀ ≡ openedV n f (view (benchOf true n f)) 1
-  view₀ = ap view (begins n f sized) ∙ shows n f sized
-
-  heard₀ : HeardAt (after es₀) (logAt es₀)
-  heard₀ = elim (start es₀) [
-    | inl z ↦ absurd (let q : (after es₀) .shared .n ≡ 0 = ap (λ (b : Bench). b .shared .n) z ∙ (unfold benchOf in refl) in let r : f < n = range .high in let e : (after es₀) .shared .n ≡ n = is-n₀ in omega arith)
-    | inr o ↦ heard-at es₀ o
-  ]
-
-  moment₀ : At es₀
-  moment₀ = record {
-    sound = heard₀ .sound;
-    is-n = is-n₀;
-    is-f = is-f₀;
-    is-order = order;
-    inv = subst (λ (x : ℕ). Inv x f (viewAt es₀)) is-n₀ (subst (λ (x : ℕ). Inv ((after es₀) .shared .n) x (viewAt es₀)) is-f₀ (heard₀ .sound .inv));
-    heard = subst (λ (x : ℕ). Heard x f (viewAt es₀) (logAt es₀)) is-n₀ (subst (λ (x : ℕ). Heard ((after es₀) .shared .n) x (viewAt es₀) (logAt es₀)) is-f₀ (heard₀ .heard));
-  }
-    where
-      order : (after es₀) .shared .order ≡ 1
-      order = unfold view openedV orderOpened in ap (λ (v : View). v .order) view₀
-
   -- 1 to m are stopped, and the others have just begun
   record Halted (m : ℕ) (es : List Event) : Type 0 where
     moment : At es
+    own : (viewAt es) .own ≡ false
     stopped : (k : ℕ) → 1 ≤ k → k ≤ m → isStopped (((viewAt es) .ctl k) .condition) ≡ true
     runs : (k : ℕ) → m < k → k ≤ n → runs ((viewAt es) .ctl k) ≡ true
     blank : (k : ℕ) → m < k → Blank ((viewAt es) .ctl k)
@@ -109,15 +74,22 @@ module _ (n f : ℕ) (sized : sizesInRange n f ≡ true) where
     halted : Halted m events
 
   halt : (m : ℕ) → m < n → HaltedList m
-  halt zero h = record { events = es₀; halted = record { moment = moment₀; stopped = λ k a b. absurd (omega arith); runs = λ k a b. run₀ k a b; blank = λ k a. subst (λ (v : View). Blank (v .ctl k)) (sym view₀) (unfold openedV renewed in renew-blank _) } }
-    where
-      run₀ : (k : ℕ) → 0 < k → k ≤ n → runs ((viewAt es₀) .ctl k) ≡ true
-      run₀ k a b = subst (λ (v : View). runs (v .ctl k) ≡ true) (sym view₀) (fresh-going n f sized .able k a b .running)
+  halt zero h = record {
+    events = opening n f sized false;
+    halted = record {
+      moment = opening-moment n f sized false (range .high) (range .low) (range .small);
+      own = opening-own n f sized false;
+      stopped = λ k a b. absurd (omega arith);
+      runs = λ k a b. opening-runs n f sized false k a b;
+      blank = λ k a. opening-blank n f sized false k;
+    };
+  }
   halt (suc m) h = let l : HaltedList m = halt m (omega arith) in record { events = l .events ++ (Stop (suc m) ∷ []); halted = stop-next (l .events) (l .halted) }
     where
       stop-next : (es : List Event) → Halted m es → Halted (suc m) (es ++ (Stop (suc m) ∷ []))
       stop-next es t = record {
         moment = moment-next n f 1 (range .high) (range .low) (range .small) es (t .moment) (Stop (suc m)) accepted tt (unfold performV commitV in refl);
+        own = ap (λ (v : View). v .own) then ∙ (unfold performV commitV in t .own);
         stopped = λ k lo hi. elim (ℕ-discrete k (suc m)) [
           | yes q ↦ subst (λ (x : ℕ). isStopped (((viewAt (es ++ (Stop (suc m) ∷ []))) .ctl x) .condition) ≡ true) (sym q) now
           | no q ↦ subst (λ (c : Controller). isStopped (c .condition) ≡ true) (sym (other k q)) (t .stopped k lo (omega arith))
@@ -141,6 +113,7 @@ module _ (n f : ℕ) (sized : sizesInRange n f ≡ true) where
   -- a moment at which just the backups are stopped, and all others run
   record BackupsStopped (es : List Event) : Type 0 where
     moment : At es
+    own : (viewAt es) .own ≡ false
     stopped : (k : ℕ) → 1 ≤ k → k ≤ f → isStopped (((viewAt es) .ctl k) .condition) ≡ true
     runs : (k : ℕ) → f < k → k ≤ n → runs ((viewAt es) .ctl k) ≡ true
 
@@ -156,11 +129,15 @@ module _ (n f : ℕ) (sized : sizesInRange n f ≡ true) where
     few : Meets few-down es
     few = let q : (after es) .shared .f ≡ f = t .moment .is-f in let e : countTo ((after es) .shared .n) (λ k. not (runs (controller (after es) k))) ≡ f = ap (λ (m : ℕ). countTo m (λ k. not (runs (controller (after es) k)))) (t .moment .is-n) ∙ down-f in omega arith
 
+    asked : (after es) .shared .own ≡ false
+    unfolding view
+    asked = t .own
+
     abbrev on : Onward es
-    on = onward es opened few
+    on = onward es opened asked few
 
     abbrev end : List Event
-    end = es ++ (onward es opened few) .more
+    end = es ++ (onward es opened asked few) .more
 
     same-lock : Runs (after es) (run (after es) (on .more)) (runV n f (viewAt es) (on .more))
     same-lock = run-sim n f (on .more) (after es) (t .moment .sound) (t .moment .is-n) (t .moment .is-f)
@@ -192,7 +169,7 @@ module _ (n f : ℕ) (sized : sizesInRange n f ≡ true) where
   all-stopped = halt f (range .high)
 
   backups-stopped : BackupsStopped (all-stopped .events)
-  backups-stopped = record { moment = all-stopped .halted .moment; stopped = all-stopped .halted .stopped; runs = all-stopped .halted .runs }
+  backups-stopped = record { moment = all-stopped .halted .moment; own = all-stopped .halted .own; stopped = all-stopped .halted .stopped; runs = all-stopped .halted .runs }
 
   pub met : MetList n f
   met = met-from (all-stopped .events) backups-stopped
@@ -349,6 +326,7 @@ module _ (n f : ℕ) (sized : sizesInRange n f ≡ true) where
     stopped₅ : BackupsStopped s₅
     stopped₅ = record {
       moment = later₅ .moment;
+      own = later₅ .own ∙ later₄ .own ∙ later₂ .own ∙ all-stopped .halted .own;
       stopped = λ k lo hi. later₅ .stopped k ∙ later₄ .stopped k ∙ later₂ .stopped k ∙ all-stopped .halted .stopped k lo hi;
       runs = λ k lo hi. later₅ .running k ∙ runs₄ k lo hi;
     }

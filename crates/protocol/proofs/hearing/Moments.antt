@@ -1,7 +1,7 @@
 -- At every moment of every list the running controllers have done with what came to them what Events.antt says.
 use Prim.Native.Nat.{ℕ}
 use mathlib.Core.Path.{_≡_, refl, sym, _∙_, ap, subst}
-use mathlib.Core.Bool.{true}
+use mathlib.Core.Bool.{Bool, true}
 use mathlib.Core.List.{List, [], _∷_}
 use native.Mathlib.Omega.{arith}
 use mathlib.Core.Logic.{inl, inr}
@@ -59,35 +59,35 @@ run-heard [] b log h = h
 run-heard (e ∷ es) b log h = run-heard es (step b e) (push b e log) (step-heard b e log h)
 
 -- right after the lock
-unput : (n f k : ℕ) → (controller (benchOf true n f) k) .proposal ≡ None
+unput : (n f : ℕ) (own : Bool) (k : ℕ) → (controller (benchOf true n f own) k) .proposal ≡ None
 unfolding station benchOf
-unput n f k = all-of-copies (λ (x : Station). x .controller .proposal ≡ None) (freshStation []) (freshStation (replicate limit empty)) (unfold freshStation fresh in refl) (unfold freshStation fresh in refl) limit k
+unput n f own k = all-of-copies (λ (x : Station). x .controller .proposal ≡ None) (freshStation []) (freshStation (replicate limit empty)) (unfold freshStation fresh in refl) (unfold freshStation fresh in refl) limit k
 
-lock-heard : (n f : ℕ) → Heard n f (view (benchOf true n f)) []
+lock-heard : (n f : ℕ) (own : Bool) → Heard n f (view (benchOf true n f own)) []
 unfolding view
-lock-heard n f = record {
-  listening = λ i lo hi r. let b : Blank (controller (benchOf true n f) i) = freshes true n f i .ctl in record {
+lock-heard n f own = record {
+  listening = λ i lo hi r. let b : Blank (controller (benchOf true n f own) i) = freshes true n f own i .ctl in record {
     came = record { calls = λ k m. absurd m; unhelped = λ p k m. m; answers = λ w k m. absurd m; acks = λ p k m. absurd m; decisions = λ w m. absurd m };
     stands = record {
       waits = λ w. absurd (no-both _ w (b .waiting));
-      ended = λ p. absurd (let q : phase (controller (benchOf true n f) i) ≡ 0 = b .phase in omega arith);
-      acked = λ p. absurd (let q : phase (controller (benchOf true n f) i) ≡ 0 = b .phase in omega arith);
+      ended = λ p. absurd (let q : phase (controller (benchOf true n f own) i) ≡ 0 = b .phase in omega arith);
+      acked = λ p. absurd (let q : phase (controller (benchOf true n f own) i) ≡ 0 = b .phase in omega arith);
     };
     short = λ w. absurd (no-both _ w (b .waiting));
   };
   asked = λ k i e. none-has i (nothing k i e);
-  put = λ i w e. none-word w (sym (unput n f i) ∙ e);
+  put = λ i w e. none-word w (sym (unput n f own i) ∙ e);
 }
   where
-    nothing : (k i : ℕ) → has ((sentBy (benchOf true n f) k) .helped .to) i ≡ true → has 0 i ≡ true
-    nothing k i e = unfold unsentAll in ap (λ (l : Sent). has (l .helped .to) i) (sym (freshes true n f k .sent)) ∙ e
+    nothing : (k i : ℕ) → has ((sentBy (benchOf true n f own) k) .helped .to) i ≡ true → has 0 i ≡ true
+    nothing k i e = unfold unsentAll in ap (λ (l : Sent). has (l .helped .to) i) (sym (freshes true n f own k .sent)) ∙ e
 
 -- a list in which a lock was accepted
 pub heard-at : (es : List Event) → Opened es → HeardAt (after es) (logAt es)
-heard-at es o = subst (λ (b : Bench). HeardAt b (logAt es)) (sym (o .is)) (subst (HeardAt (run (benchOf true (o .n) (o .f)) (o .post))) (sym (o .silent)) from-lock)
+heard-at es o = subst (λ (b : Bench). HeardAt b (logAt es)) (sym (o .is)) (subst (HeardAt (run (benchOf true (o .n) (o .f) (o .own)) (o .post))) (sym (o .silent)) from-lock)
   where
-    locked : HeardAt (benchOf true (o .n) (o .f)) []
-    locked = unfold benchOf in record { sound = locked-sound _ (record { n = o .n; f = o .f; sized = o .sized; is = refl }); heard = lock-heard (o .n) (o .f) }
+    locked : HeardAt (benchOf true (o .n) (o .f) (o .own)) []
+    locked = unfold benchOf in record { sound = locked-sound _ (record { n = o .n; f = o .f; own = o .own; sized = o .sized; is = refl }); heard = lock-heard (o .n) (o .f) (o .own) }
 
-    from-lock : HeardAt (run (benchOf true (o .n) (o .f)) (o .post)) (logOf (benchOf true (o .n) (o .f)) [] (o .post))
-    from-lock = run-heard (o .post) (benchOf true (o .n) (o .f)) [] locked
+    from-lock : HeardAt (run (benchOf true (o .n) (o .f) (o .own)) (o .post)) (logOf (benchOf true (o .n) (o .f) (o .own)) [] (o .post))
+    from-lock = run-heard (o .post) (benchOf true (o .n) (o .f) (o .own)) [] locked

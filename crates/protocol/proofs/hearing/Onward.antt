@@ -123,21 +123,22 @@ module _ (n f o : ℕ) (f<n : f < n) (1≤f : 1 ≤ f) (small : n ≤ limit) (op
     pub later : To es to
     pub holds : P to
 
-  -- k is at stage s or past it, and nobody else has changed
+  -- k is at stage s or past it; nobody else has changed, nor has any ballot
   pub record Raised (k s : ℕ) (es x : List Event) : Type 0 where
     pub stage : s ≤ phase ((viewAt x) .ctl k)
     pub others : (j : ℕ) → eqb j k ≡ false → (viewAt x) .ctl j ≡ (viewAt es) .ctl j
+    pub ballots : (viewAt x) .ballots ≡ (viewAt es) .ballots
 
   -- whom an event does not concern, it does not change
   pub unmoved : (es : List Event) (m : At es) (e : Event) → Acts e → accepts n f (viewAt es) e ≡ true → (j : ℕ) → eqb j (subject e) ≡ false → (viewAt (es ++ (e ∷ []))) .ctl j ≡ (viewAt es) .ctl j
   unmoved es m e u q j d = rw (performs n f o f<n 1≤f small es m e q) (other n f o f<n 1≤f small (viewAt es) e u j d)
 
   module _ (k : ℕ) (lo : 1 ≤ k) (hi : k ≤ n) where
-    timeout-taken : (es : List Event) → At es → runs ((viewAt es) .ctl k) ≡ true → (eqb (phase ((viewAt es) .ctl k)) 1 || eqb (phase ((viewAt es) .ctl k)) 2) ≡ true → accepts n f (viewAt es) (Timeout k) ≡ true
+    pub timeout-taken : (es : List Event) → At es → runs ((viewAt es) .ctl k) ≡ true → (eqb (phase ((viewAt es) .ctl k)) 1 || eqb (phase ((viewAt es) .ctl k)) 2) ≡ true → accepts n f (viewAt es) (Timeout k) ≡ true
     unfolding accepts firstNo unless isController
     timeout-taken es m r p = rw (le-leb 1 k lo, le-leb k n hi, open-at es m, r, p)
 
-    cast-accepted : (es : List Event) → At es → runs ((viewAt es) .ctl k) ≡ true → phase ((viewAt es) .ctl k) ≡ 0 → accepts n f (viewAt es) (Cast k true 0) ≡ true
+    pub cast-accepted : (es : List Event) → At es → runs ((viewAt es) .ctl k) ≡ true → phase ((viewAt es) .ctl k) ≡ 0 → accepts n f (viewAt es) (Cast k true 0) ≡ true
     unfolding accepts firstNo unless isController positionInRange
     cast-accepted es m r p = rw (le-leb 1 k lo, le-leb k n hi, open-at es m, r, p)
 
@@ -145,31 +146,31 @@ module _ (n f o : ℕ) (f<n : f < n) (1≤f : 1 ≤ f) (small : n ≤ limit) (op
     raised es m r zero h p =
         let q : accepts n f (viewAt es) (Cast k true 0) ≡ true = cast-accepted es m r p in
         let w : NewVote n f (viewAt es) (performV n f (viewAt es) (Cast k true 0)) k true = perform-new n f small (viewAt es) (Cast k true 0) (m .inv) q in
-        record { to = es ++ (Cast k true 0 ∷ []); later = later-one n f o f<n 1≤f small es m (Cast k true 0) tt q r; holds = record { stage = rw (performs n f o f<n 1≤f small es m (Cast k true 0) q) (w .begun); others = unmoved es m (Cast k true 0) tt q } }
+        record { to = es ++ (Cast k true 0 ∷ []); later = later-one n f o f<n 1≤f small es m (Cast k true 0) tt q r; holds = record { stage = rw (performs n f o f<n 1≤f small es m (Cast k true 0) q) (w .begun); others = unmoved es m (Cast k true 0) tt q; ballots = rw (performs n f o f<n 1≤f small es m (Cast k true 0) q) (unfold performV commitV in refl) } }
     raised es m r (suc zero) h p =
         let q : accepts n f (viewAt es) (Timeout k) ≡ true = timeout-taken es m r (rw p) in
         let w : NewTimeout n f (viewAt es) (performV n f (viewAt es) (Timeout k)) k = perform-new n f small (viewAt es) (Timeout k) (m .inv) q in
-        record { to = es ++ (Timeout k ∷ []); later = later-one n f o f<n 1≤f small es m (Timeout k) tt q r; holds = record { stage = rw (performs n f o f<n 1≤f small es m (Timeout k) q) (w .after); others = unmoved es m (Timeout k) tt q } }
+        record { to = es ++ (Timeout k ∷ []); later = later-one n f o f<n 1≤f small es m (Timeout k) tt q r; holds = record { stage = rw (performs n f o f<n 1≤f small es m (Timeout k) q) (w .after); others = unmoved es m (Timeout k) tt q; ballots = rw (performs n f o f<n 1≤f small es m (Timeout k) q) (unfold performV commitV in refl) } }
     raised es m r (suc (suc zero)) h p =
         let q : accepts n f (viewAt es) (Timeout k) ≡ true = timeout-taken es m r (rw p) in
-        record { to = es ++ (Timeout k ∷ []); later = later-one n f o f<n 1≤f small es m (Timeout k) tt q r; holds = record { stage = rw (performs n f o f<n 1≤f small es m (Timeout k) q) times-out; others = unmoved es m (Timeout k) tt q } }
+        record { to = es ++ (Timeout k ∷ []); later = later-one n f o f<n 1≤f small es m (Timeout k) tt q r; holds = record { stage = rw (performs n f o f<n 1≤f small es m (Timeout k) q) times-out; others = unmoved es m (Timeout k) tt q; ballots = rw (performs n f o f<n 1≤f small es m (Timeout k) q) (unfold performV commitV in refl) } }
       where
         times-out : 3 ≤ phase ((performV n f (viewAt es) (Timeout k)) .ctl k)
         times-out = unfold performV timeoutRule in rw p (omega (arith, reached-after n f (viewAt es) k (secondTimeout n f k ((viewAt es) .ctl k)) 3 (second-reaches n f k ((viewAt es) .ctl k))))
     raised es m r (suc (suc (suc s))) h p = absurd (omega arith)
 
     pub to-stage : (s : ℕ) → s ≤ 3 → (es : List Event) → At es → runs ((viewAt es) .ctl k) ≡ true → Brought es (Raised k s es)
-    to-stage zero h es m r = record { to = es; later = later-refl n f o f<n 1≤f small es m; holds = record { stage = omega arith; others = λ j d. refl } }
+    to-stage zero h es m r = record { to = es; later = later-refl n f o f<n 1≤f small es m; holds = record { stage = omega arith; others = λ j d. refl; ballots = refl } }
     to-stage (suc s) h es m r =
         let b : Brought es (Raised k s es) = to-stage s (omega arith) es m r in
         let low : s ≤ phase ((viewAt (b .to)) .ctl k) = b .holds .stage in
         elim (decLe (suc s) (phase ((viewAt (b .to)) .ctl k))) [
-          | yes y ↦ record { to = b .to; later = b .later; holds = record { stage = y; others = b .holds .others } }
+          | yes y ↦ record { to = b .to; later = b .later; holds = record { stage = y; others = b .holds .others; ballots = b .holds .ballots } }
           | no y ↦ let a : Brought (b .to) (Raised k (suc s) (b .to)) = raised (b .to) (b .later .moment) (b .later .running k ∙ r) s h (omega arith) in
               record {
                 to = a .to;
                 later = later-trans n f o f<n 1≤f small es (b .to) (a .to) (b .later) (a .later);
-                holds = record { stage = a .holds .stage; others = λ j d. a .holds .others j d ∙ b .holds .others j d };
+                holds = record { stage = a .holds .stage; others = λ j d. a .holds .others j d ∙ b .holds .others j d; ballots = a .holds .ballots ∙ b .holds .ballots };
               }
         ]
 
@@ -369,7 +370,7 @@ module _ (n f o : ℕ) (f<n : f < n) (1≤f : 1 ≤ f) (small : n ≤ limit) (op
   unfolding onto-refl
   told-refl es P m h = record { onto = onto-refl every es P m h; proposals = λ k. refl }
 
-  module _ (k : ℕ) (lo : 1 ≤ k) (hi : k ≤ n) (es : List Event) (m : At es) (r : runs ((viewAt es) .ctl k) ≡ true) (late : 3 ≤ phase ((viewAt es) .ctl k)) (w : Choice ((viewAt es) .state .consensus)) where
+  module _ (k : ℕ) (lo : 1 ≤ k) (hi : k ≤ n) (es : List Event) (m : At es) (r : runs ((viewAt es) .ctl k) ≡ true) (late : 3 ≤ phase ((viewAt es) .ctl k)) (ask : (viewAt es) .own ≡ false) (w : Choice ((viewAt es) .state .consensus)) where
     abbrev e : Event
     e = Decide k (w .move)
 
@@ -378,7 +379,7 @@ module _ (n f o : ℕ) (f<n : f < n) (1≤f : 1 ≤ f) (small : n ≤ limit) (op
 
     decide-accepted : accepts n f (viewAt es) e ≡ true
     unfolding accepts firstNo unless isController
-    decide-accepted = rw (le-leb 1 k lo, le-leb k n hi, open-at es m, r, not-both (((viewAt es) .ctl k) .condition) r, at-3, w .may)
+    decide-accepted = rw (le-leb 1 k lo, le-leb k n hi, open-at es m, r, not-both (((viewAt es) .ctl k) .condition) r, at-3, w .may, ask)
 
     decided : Told es (Given k)
     decided = record {
@@ -400,24 +401,24 @@ module _ (n f o : ℕ) (f<n : f < n) (1≤f : 1 ≤ f) (small : n ≤ limit) (op
   abbrev AllGiven : ℕ → List Event → Type 0
   AllGiven m es = (k : ℕ) → 1 ≤ k → k ≤ m → Given k es
 
-  give-one : (es : List Event) → At es → Staged n es → (k : ℕ) → 1 ≤ k → k ≤ n → Told es (Given k)
-  give-one es m st k lo hi = elim (split (runs ((viewAt es) .ctl k))) [
+  give-one : (es : List Event) → At es → (viewAt es) .own ≡ false → Staged n es → (k : ℕ) → 1 ≤ k → k ≤ n → Told es (Given k)
+  give-one es m ask st k lo hi = elim (split (runs ((viewAt es) .ctl k))) [
     | inr r ↦ told-refl es (Given k) m (λ x y. absurd (no-both _ x r))
     | inl r ↦ elim (split (isNone (((viewAt es) .ctl k) .proposal))) [
       | inl p ↦ told-refl es (Given k) m (λ x y. absurd (no-both _ p y))
-      | inr p ↦ decided k lo hi es m r (st k lo hi r) (choice es m k p)
+      | inr p ↦ decided k lo hi es m r (st k lo hi r) ask (choice es m k p)
     ]
   ]
 
   staged-on : (es es′ : List Event) → To es es′ → Staged n es → Staged n es′
   staged-on es es′ t h k lo hi r = let r′ : runs ((viewAt es) .ctl k) ≡ true = sym (t .running k) ∙ r in let x : 3 ≤ phase ((viewAt es) .ctl k) = h k lo hi r′ in let y : phase ((viewAt es) .ctl k) ≤ phase ((viewAt es′) .ctl k) = t .phases k r′ in omega arith
 
-  give-all : (m : ℕ) → m ≤ n → (es : List Event) → At es → Staged n es → Told es (AllGiven m)
+  give-all : (m : ℕ) → m ≤ n → (es : List Event) → At es → (viewAt es) .own ≡ false → Staged n es → Told es (AllGiven m)
   unfolding onto-then
-  give-all zero h es w st = told-refl es (AllGiven zero) w (λ k a b. absurd (omega arith))
-  give-all (suc m) h es w st =
-      let a : Told es (AllGiven m) = give-all m (omega arith) es w st in
-      let b : Told (a .onto .to) (Given (suc m)) = give-one (a .onto .to) (a .onto .later .moment) (staged-on es (a .onto .to) (a .onto .later) st) (suc m) (omega arith) h in
+  give-all zero h es w ask st = told-refl es (AllGiven zero) w (λ k a b. absurd (omega arith))
+  give-all (suc m) h es w ask st =
+      let a : Told es (AllGiven m) = give-all m (omega arith) es w ask st in
+      let b : Told (a .onto .to) (Given (suc m)) = give-one (a .onto .to) (a .onto .later .moment) (a .onto .later .own ∙ ask) (staged-on es (a .onto .to) (a .onto .later) st) (suc m) (omega arith) h in
       record {
         onto = onto-then every es (AllGiven m) (Given (suc m)) (AllGiven (suc m)) (a .onto) (b .onto) (λ k lo hi. elim (ℕ-discrete k (suc m)) [
           | yes q ↦ subst (λ (x : ℕ). Given x (b .onto .to)) (sym q) (b .onto .holds)
@@ -437,12 +438,12 @@ module _ (n f o : ℕ) (f<n : f < n) (1≤f : 1 ≤ f) (small : n ≤ limit) (op
     done : Done es
     given : AllGiven n es
 
-  settle : (es : List Event) → At es → Brought es Settled
-  settle es m =
+  settle : (es : List Event) → At es → (viewAt es) .own ≡ false → Brought es Settled
+  settle es m ask =
       let a : Brought es (Staged n) = all-staged n (omega arith) es m in
       let b : Brought (a .to) Done = all-delivered (a .to) (a .later .moment) in
       let st : Staged n (b .to) = staged-on (a .to) (b .to) (b .later) (a .holds) in
-      let c : Told (b .to) (AllGiven n) = give-all n (omega arith) (b .to) (b .later .moment) st in
+      let c : Told (b .to) (AllGiven n) = give-all n (omega arith) (b .to) (b .later .moment) (b .later .own ∙ a .later .own ∙ ask) st in
       record {
         to = c .onto .to;
         later = later-trans n f o f<n 1≤f small es (b .to) (c .onto .to) (later-trans n f o f<n 1≤f small es (a .to) (b .to) (a .later) (b .later)) (c .onto .later);
@@ -478,7 +479,7 @@ module _ (n f o : ℕ) (f<n : f < n) (1≤f : 1 ≤ f) (small : n ≤ limit) (op
           let g : GivenIn i x = s .given i (r .low) (omega arith) (r .running) p in record { move = g .move; event = in-order x (Decide i (g .move)) (g .entry) })
 
 -- from a moment with its lock
-module _ (es : List Event) (h : HeardAt (after es) (logAt es)) (opened : 1 ≤ (after es) .shared .order) (few : Meets few-down es) where
+module _ (es : List Event) (h : HeardAt (after es) (logAt es)) (opened : 1 ≤ (after es) .shared .order) (arbiter : (viewAt es) .own ≡ false) (few : Meets few-down es) where
   abbrev n : ℕ
   n = (after es) .shared .n
 
@@ -495,7 +496,7 @@ module _ (es : List Event) (h : HeardAt (after es) (logAt es)) (opened : 1 ≤ (
   now = record { sound = h .sound; is-n = refl; is-f = refl; is-order = refl; inv = h .sound .inv; heard = h .heard }
 
   there : Brought n f o (range .high) (range .low) (range .small) opened es (Settled n f o (range .high) (range .low) (range .small) opened)
-  there = settle n f o (range .high) (range .low) (range .small) opened es now
+  there = settle n f o (range .high) (range .low) (range .small) opened es now arbiter
 
   onward-at : Onward es
   onward-at = record {
@@ -509,8 +510,8 @@ module _ (es : List Event) (h : HeardAt (after es) (logAt es)) (opened : 1 ≤ (
       same-order : (run (after es) (there .later .more)) .shared .order ≡ (after es) .shared .order
       same-order = ap (λ (b : Bench). b .shared .order) (sym (run-append es (there .later .more) newBench) ∙ ap after (sym (there .later .parts))) ∙ there .later .moment .is-order
 
-pub onward : (es : List Event) → 1 ≤ (after es) .shared .order → Meets few-down es → Onward es
-onward es o few = elim (start es) [
+pub onward : (es : List Event) → 1 ≤ (after es) .shared .order → (after es) .shared .own ≡ false → Meets few-down es → Onward es
+onward es o own few = elim (start es) [
   | inl z ↦ absurd (let q : (after es) .shared .order ≡ 0 = ap (λ (b : Bench). b .shared .order) z ∙ (unfold benchOf in refl) in omega arith)
-  | inr x ↦ onward-at es (heard-at es x) o few
+  | inr x ↦ onward-at es (heard-at es x) o (unfold view in own) few
 ]

@@ -18,7 +18,7 @@ use Rattle.model.specs.Numbers.{isNone, wordOf}
 use Rattle.model.specs.declared.Kind.the-variants.{Vote, Ack, Help, Helped}
 use Rattle.model.specs.declared.Outcome.{Outcome}
 use Rattle.model.specs.declared.Event.{Event}
-use Rattle.model.specs.declared.Event.the-variants.{Lock, Order, Cast, Deliver, Timeout, Decide, Stop, Save, Restore}
+use Rattle.model.specs.declared.Event.the-variants.{Lock, Order, Cast, Deliver, Timeout, Decide, Stop, Save, Restore, OfBallots}
 use Rattle.protocol.specs.declared.Controller.{Controller}
 use Rattle.protocol.specs.declared.Answer.{Answer}
 use Rattle.protocol.specs.declared.Sent.{Sent}
@@ -44,7 +44,7 @@ counted false w p q = absurd (no-both w p q)
 -- a word put adds nothing, and ends waiting
 adds-put : (i : ℕ) (c : Controller) (o : Outcome) (e : Event) → Adds i c e → Adds i (propose c o) e
 unfolding propose
-adds-put i c o (Lock a x) h = tt
+adds-put i c o (Lock a x own) h = tt
 adds-put i c o (Order x) h = tt
 adds-put i c o (Cast j w t) h = tt
 adds-put i c o (Deliver k j Vote) h = tt
@@ -55,6 +55,7 @@ adds-put i c o (Timeout j) h = tt
 adds-put i c o (Decide j w) h = h
 adds-put i c o (Stop j) h = tt
 adds-put i c o (Save j) h = tt
+adds-put i c o (OfBallots e) h = tt
 adds-put i c o (Restore j) h = tt
 
 module _ (n f : ℕ) where

@@ -16,7 +16,7 @@ use Rattle.model.specs.QuestionLaws.{AllYes, all-yes}
 use Rattle.model.specs.declared.Kind.{Kind}
 use Rattle.model.specs.declared.Kind.the-variants.{Vote, Ack, Help, Helped}
 use Rattle.model.specs.declared.Event.{Event}
-use Rattle.model.specs.declared.Event.the-variants.{Lock, Order, Cast, Deliver, Timeout, Decide, Stop, Save, Restore}
+use Rattle.model.specs.declared.Event.the-variants.{Lock, Order, Cast, Deliver, Timeout, Decide, Stop, Save, Restore, OfBallots}
 use Rattle.records.specs.Codes.{kindOf}
 use Rattle.records.specs.CodeLaws.{kind-of-number}
 use Rattle.message_record.specs.Messages.{aboutMessage}
@@ -33,7 +33,7 @@ use Rattle.protocol.proofs.claim.Reached.{reach}
 
 -- is an event this delivery; is it an answer of the arbiter to i
 abbrev isDelivery : ℕ → ℕ → Kind → Event → Bool
-isDelivery i j kind (Lock a c) = false
+isDelivery i j kind (Lock a c own) = false
 isDelivery i j kind (Order o) = false
 isDelivery i j kind (Cast k w t) = false
 isDelivery i j kind (Deliver a b k) = eqb i a && eqb j b && eqb (kindNumber kind) (kindNumber k)
@@ -41,10 +41,11 @@ isDelivery i j kind (Timeout k) = false
 isDelivery i j kind (Decide k w) = false
 isDelivery i j kind (Stop k) = false
 isDelivery i j kind (Save k) = false
+isDelivery i j kind (OfBallots e) = false
 isDelivery i j kind (Restore k) = false
 
 abbrev isAnswer : ℕ → Event → Bool
-isAnswer i (Lock a c) = false
+isAnswer i (Lock a c own) = false
 isAnswer i (Order o) = false
 isAnswer i (Cast k w t) = false
 isAnswer i (Deliver a b k) = false
@@ -52,6 +53,7 @@ isAnswer i (Timeout k) = false
 isAnswer i (Decide k w) = eqb i k
 isAnswer i (Stop k) = false
 isAnswer i (Save k) = false
+isAnswer i (OfBallots e) = false
 isAnswer i (Restore k) = false
 
 unfoldable pub anyIn : (Event → Bool) → List Event → Bool
@@ -81,7 +83,7 @@ same-kind : (k k′ : Kind) → eqb (kindNumber k) (kindNumber k′) ≡ true �
 same-kind k k′ e = sym (kind-of-number k) ∙ ap kindOf (eqb-true _ _ e) ∙ kind-of-number k′
 
 the-delivery : (i j : ℕ) (kind : Kind) (e : Event) → isDelivery i j kind e ≡ true → e ≡ Deliver i j kind
-the-delivery i j kind (Lock a c) h = absurd (false≢true h)
+the-delivery i j kind (Lock a c own) h = absurd (false≢true h)
 the-delivery i j kind (Order o) h = absurd (false≢true h)
 the-delivery i j kind (Cast k w t) h = absurd (false≢true h)
 the-delivery i j kind (Deliver a b k) h =
@@ -93,6 +95,7 @@ the-delivery i j kind (Timeout k) h = absurd (false≢true h)
 the-delivery i j kind (Decide k w) h = absurd (false≢true h)
 the-delivery i j kind (Stop k) h = absurd (false≢true h)
 the-delivery i j kind (Save k) h = absurd (false≢true h)
+the-delivery i j kind (OfBallots e) h = absurd (false≢true h)
 the-delivery i j kind (Restore k) h = absurd (false≢true h)
 
 record AnswerTo (i : ℕ) (e : Event) : Type 0 where
@@ -100,7 +103,7 @@ record AnswerTo (i : ℕ) (e : Event) : Type 0 where
   is : e ≡ Decide i move
 
 the-answer : (i : ℕ) (e : Event) → isAnswer i e ≡ true → AnswerTo i e
-the-answer i (Lock a c) h = absurd (false≢true h)
+the-answer i (Lock a c own) h = absurd (false≢true h)
 the-answer i (Order o) h = absurd (false≢true h)
 the-answer i (Cast k w t) h = absurd (false≢true h)
 the-answer i (Deliver a b k) h = absurd (false≢true h)
@@ -108,6 +111,7 @@ the-answer i (Timeout k) h = absurd (false≢true h)
 the-answer i (Decide k w) h = record { move = w; is = ap (λ (x : ℕ). Decide x w) (sym (eqb-true i k h)) }
 the-answer i (Stop k) h = absurd (false≢true h)
 the-answer i (Save k) h = absurd (false≢true h)
+the-answer i (OfBallots e) h = absurd (false≢true h)
 the-answer i (Restore k) h = absurd (false≢true h)
 
 -- a test of each kind

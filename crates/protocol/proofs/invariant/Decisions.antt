@@ -19,6 +19,7 @@ use Rattle.protocol.specs.declared.Condition.{Condition}
 use Rattle.protocol.specs.declared.Condition.the-variants.{Stopped}
 use Rattle.protocol.specs.declared.Controller.{Controller}
 use Rattle.protocol.specs.declared.Counts.{Counts}
+use Rattle.protocol.specs.declared.Ballots.{Ballots}
 use Rattle.protocol.specs.declared.Saved.{Saved}
 use Rattle.protocol.specs.declared.Saved.the-variants.{Newest}
 use Rattle.protocol.specs.declared.Sent.{Sent}
@@ -28,7 +29,7 @@ use Rattle.protocol.specs.Calls.{renew}
 use Rattle.protocol.specs.Benches.{unsentAll}
 use Rattle.protocol.specs.Questions.{noOther}
 use Rattle.protocol.specs.Steps.{renewed, orderOpened}
-use Rattle.protocol.proofs.view.View.{OrderState, View, newOrderState, savedOrder, savedOutcome, openedV}
+use Rattle.protocol.proofs.view.View.{OrderState, View, ballotsV, newOrderState, savedOrder, savedOutcome, openedV}
 use Rattle.protocol.proofs.view.Performed.{chosen, savedV}
 use Rattle.protocol.proofs.invariant.Words.{word-is, none-word, noting-runs, noting-phase, noting-outcome, given-is}
 use Rattle.protocol.proofs.invariant.Invariant.{OutcomeGrounds, Own, HeldSound, Inv}
@@ -144,9 +145,9 @@ renew-keeps c = by-cond (RenewKeeps c) (isStopped (c .condition)) (cleared Stopp
 -- a bench on which nothing has happened keeps the invariant, whatever checkpoints of older orders it has
 pub blank-inv : (n f o : ℕ) (w : OrderState) (ctl : ℕ → Controller) (saved : ℕ → Saved) (counts : Counts) → ((k : ℕ) → w .sent k ≡ unsentAll) → w .consensus .«move_proposed» ≡ false → w .consensus .«stay_proposed» ≡ false → w .consensus .decision ≡ None
     → ((k : ℕ) → Blank (ctl k)) → ((k : ℕ) → 1 ≤ k → k ≤ n → n ≤ length ((ctl k) .acks .sets)) → ((k : ℕ) → savedOrder (saved k) ≤ o) → ((k : ℕ) → savedOrder (saved k) ≡ o → savedOutcome (saved k) ≡ None)
-    → Inv n f (record { order = o; state = w; ctl = ctl; saved = saved; counts = counts })
+    → (own : Bool) (bs : Ballots) → Inv n f (record { own = own; order = o; state = w; ctl = ctl; saved = saved; counts = counts; ballots = bs })
 unfolding unsentAll
-blank-inv n f o w ctl saved counts ln pm ps ch bl room old fresh = record {
+blank-inv n f o w ctl saved counts ln pm ps ch bl room old fresh own bs = record {
   lines = λ k. rw (ln k) (record { ack-ok = λ e. none-has k e; help-ok = λ e. none-has k e; ack-in-help = λ e. none-has k e; vote-to = λ j e. none-has j e; ack-to = λ j e. none-has j e; help-to = λ j e. none-has j e; helped-to = λ j e. none-has j e; vote-within = λ j e. none-has j e; vote-only = λ j e. none-has j e });
   owns = λ k. let s : phase (ctl k) ≡ 0 = bl k .phase in record {
     phased = record {
@@ -190,4 +191,9 @@ blank-inv n f o w ctl saved counts ln pm ps ch bl room old fresh = record {
 pub opened-inv : (n f : ℕ) (b : View) (o : ℕ) → b .order < o → Inv n f b → Inv n f (openedV n f b o)
 unfolding openedV newOrderState orderOpened renewed
 opened-inv n f b o h inv = blank-inv n f o _ _ (b .saved) _ (λ k. refl) refl refl refl (λ k. renew-blank (b .ctl k)) (λ k x y. rw (renew-keeps (b .ctl k) .acks) (inv .owns k .counted .room x y))
-    (λ k. let q : savedOrder (b .saved k) ≤ b .order = inv .saved-old k in omega arith) (λ k e. let q : savedOrder (b .saved k) ≤ b .order = inv .saved-old k in absurd (omega arith))
+    (λ k. let q : savedOrder (b .saved k) ≤ b .order = inv .saved-old k in omega arith) (λ k e. let q : savedOrder (b .saved k) ≤ b .order = inv .saved-old k in absurd (omega arith)) (b .own) _
+
+-- an event of ballots
+pub ballots-inv : (n f : ℕ) (b : View) (s : Ballots) → Inv n f b → Inv n f (ballotsV b s)
+unfolding ballotsV
+ballots-inv n f b s inv = record { lines = inv .lines; owns = inv .owns; ctls = inv .ctls; move = inv .move; stay = inv .stay; saved-old = inv .saved-old; saved-ok = inv .saved-ok; chosen = inv .chosen }

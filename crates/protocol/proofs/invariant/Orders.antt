@@ -14,8 +14,9 @@ use Rattle.model.specs.Routes.{route, helpRoute}
 use Rattle.model.specs.Numbers.{wordOf}
 use Rattle.model.specs.declared.Kind.the-variants.{Vote, Ack, Help, Helped}
 use Rattle.model.specs.declared.Event.{Event}
-use Rattle.model.specs.declared.Event.the-variants.{Lock, Order, Cast, Deliver, Timeout, Decide, Stop, Save, Restore}
+use Rattle.model.specs.declared.Event.the-variants.{Lock, Order, Cast, Deliver, Timeout, Decide, Stop, Save, Restore, OfBallots}
 use Rattle.protocol.specs.declared.Answer.{Answer}
+use Rattle.protocol.specs.declared.Ballots.{Ballots}
 use Rattle.protocol.specs.declared.Condition.{Condition}
 use Rattle.protocol.specs.declared.Condition.the-variants.{Running, Stopped, Standby}
 use Rattle.protocol.specs.Controllers.{isRunning, isStandby, runs, standsBy, phase, outcome, conclude}
@@ -25,7 +26,7 @@ use Rattle.protocol.specs.Benches.{sentAfter}
 use Rattle.protocol.specs.Questions.{firstNo, noOther, wasProposed}
 use Rattle.protocol.specs.Steps.{orderOpened}
 use Rattle.protocol.proofs.view.RuleCases.{timeout-cases}
-use Rattle.protocol.proofs.view.View.{View, openedV, accepts, ask-l, ask-r}
+use Rattle.protocol.proofs.view.View.{View, ballotsV, openedV, accepts, ask-l, ask-r}
 use Rattle.protocol.proofs.view.Performed.{chosen, commitV, savedV, checkpointAt, performV, stepV, runV}
 use Rattle.protocol.proofs.invariant.Words.{given-is}
 use Rattle.protocol.proofs.invariant.Invariant.{Grows, OutcomeGrounds, Inv}
@@ -34,7 +35,7 @@ use Rattle.protocol.proofs.invariant.Exclusion.{agree}
 use Rattle.protocol.proofs.invariant.Commit.{Fits, commit-inv, grown-refl, grows-upd}
 use Rattle.protocol.proofs.invariant.SecondTimeout.{second-fits}
 use Rattle.protocol.proofs.invariant.Arrivals.{stop-fits, restore-fits, vote-in-fits, ack-in-fits, helped-in-fits, help-in-fits, vote-fits, first-fits}
-use Rattle.protocol.proofs.invariant.Decisions.{chosen-inv, decide-fits, saved-inv, opened-inv}
+use Rattle.protocol.proofs.invariant.Decisions.{chosen-inv, decide-fits, saved-inv, opened-inv, ballots-inv}
 
 -- one that runs does not stand by
 pub not-both : (k : Condition) → isRunning k ≡ true → isStandby k ≡ false
@@ -82,6 +83,10 @@ module _ (n f : ℕ) (f<n : f < n) (1≤f : 1 ≤ f) (small : n ≤ limit) where
   unfolding savedV
   saved-next b i inv = inl (record { order = refl; keeps = record { inv = saved-inv n f b i (checkpointAt n f b i) refl refl inv; lines = λ k. grown-refl k (b .state .sent k); decision = λ v e. e } })
 
+  ballot-next : (b : View) (s : Ballots) → Inv n f b → Next b (ballotsV b s)
+  unfolding ballotsV
+  ballot-next b s inv = inl (record { order = refl; keeps = record { inv = unfold ballotsV in ballots-inv n f b s inv; lines = λ k. grown-refl k (b .state .sent k); decision = λ v e. e } })
+
   opened-next : (b : View) (o : ℕ) → b .order < o → Inv n f b → Next b (openedV n f b o)
   unfolding openedV orderOpened
   opened-next b o h inv = inr (record { order = h; inv = opened-inv n f b o h inv })
@@ -92,7 +97,7 @@ module _ (n f : ℕ) (f<n : f < n) (1≤f : 1 ≤ f) (small : n ≤ limit) where
 
   pub perform-next : (b : View) (e : Event) → Inv n f b → accepts n f b e ≡ true → Next b (performV n f b e)
   unfolding accepts firstNo performV isController route helpRoute arrives
-  perform-next b (Lock a c) inv q = absurd (false≢true (ask-l _ _ _ (ask-r _ _ _ q)))
+  perform-next b (Lock a c own) inv q = absurd (false≢true (ask-l _ _ _ (ask-r _ _ _ q)))
   perform-next b (Order o) inv q = opened-next b o (leb-true _ _ (search (ask-l, ask-r, and-l, and-r) depth 14)) inv
   perform-next b (Cast i w t) inv q = commit-next b i _ inv (vote-fits n f small b inv i w t (leb-true _ _ (search (ask-l, ask-r, and-l, and-r) depth 14)) (leb-true _ _ (search (ask-l, ask-r, and-l, and-r) depth 14)) (search (ask-l, ask-r, and-l, and-r) depth 14) (eqb-true _ _ (search (ask-l, ask-r, and-l, and-r) depth 14)))
   perform-next b (Deliver i j Vote) inv q = commit-next b j _ inv (vote-in-fits n f small b inv j i)
@@ -105,6 +110,7 @@ module _ (n f : ℕ) (f<n : f < n) (1≤f : 1 ≤ f) (small : n ≤ limit) where
   perform-next b (Decide i w) inv q = decide-next b i w inv (at-three b i (search (ask-l, ask-r, and-l, and-r) depth 14)) (sym (proposed-is n f b w) ∙ (search (ask-l, ask-r, and-l, and-r) depth 14)) (search (ask-l, ask-r, and-l, and-r) depth 14)
   perform-next b (Stop i) inv q = commit-next b i _ inv (stop-fits n f small b inv i)
   perform-next b (Save i) inv q = saved-next b i inv
+  perform-next b (OfBallots e) inv q = ballot-next b _ inv
   perform-next b (Restore i) inv q = commit-next b i _ inv (restore-fits n f small b inv i)
 
   pub step-next : (b : View) (e : Event) → Inv n f b → Next b (stepV n f b e)

@@ -17,7 +17,9 @@ use Rattle.model.specs.declared.Checkpoint.{Checkpoint}
 use Rattle.votes.specs.VoteSets.{single}
 use Rattle.message_record.specs.Messages.{suits}
 use Rattle.model.specs.declared.Event.{Event}
-use Rattle.model.specs.declared.Event.the-variants.{Lock, Order, Cast, Deliver, Timeout, Decide, Stop, Save, Restore}
+use Rattle.model.specs.declared.Event.the-variants.{Lock, Order, Cast, Deliver, Timeout, Decide, Stop, Save, Restore, OfBallots}
+use Rattle.model.specs.declared.BallotEvent.the-variants.{Open, Carry}
+use Rattle.protocol.specs.BallotSteps.{ballotSubject, ballotsAfter}
 use Rattle.protocol.specs.declared.Condition.the-variants.{Stopped}
 use Rattle.protocol.specs.declared.Controller.{Controller}
 use Rattle.protocol.specs.declared.Answer.{Answer}
@@ -31,11 +33,12 @@ use Rattle.protocol.specs.Benches.{identity, message, ofKind, sentAfter}
 use Rattle.protocol.specs.Events.{concernsOne, subject, source, restoreFrom, answerTo}
 use Rattle.protocol.specs.Questions.{firstNo}
 use Rattle.protocol.specs.Steps.{proposedTo, decidedAs, stationAfter, answering, keeping, effectOf}
-use Rattle.protocol.proofs.view.View.{View, stationV, putBackV, sharedV, openedV, accepts, playV, ask-l, ask-r}
+use Rattle.protocol.proofs.view.View.{View, ballotsV, stationV, putBackV, sharedV, openedV, accepts, playV, ask-l, ask-r}
 
 -- one controller's answer put back
 unfoldable pub commitV : View → ℕ → Answer → View
 commitV v i a = record {
+  own = v .own;
   order = v .order;
   state = record {
     sent = upd (v .state .sent) i (sentAfter (v .state .sent i) (a .sends));
@@ -48,11 +51,13 @@ commitV v i a = record {
   ctl = upd (v .ctl) i (a .controller);
   saved = v .saved;
   counts = countsAfter ((v .ctl i) .condition) (a .controller .condition) (v .counts);
+  ballots = v .ballots;
 }
 
 -- the consensus has chosen
 unfoldable pub chosen : View → Bool → View
 chosen v move = record {
+  own = v .own;
   order = v .order;
   state = record {
     sent = v .state .sent;
@@ -61,11 +66,12 @@ chosen v move = record {
   ctl = v .ctl;
   saved = v .saved;
   counts = v .counts;
+  ballots = v .ballots;
 }
 
 -- a checkpoint kept
 unfoldable pub savedV : View → ℕ → Checkpoint → View
-savedV v i checkpoint = record { order = v .order; state = v .state; ctl = v .ctl; saved = upd (v .saved) i (Newest checkpoint); counts = v .counts }
+savedV v i checkpoint = record { own = v .own; order = v .order; state = v .state; ctl = v .ctl; saved = upd (v .saved) i (Newest checkpoint); counts = v .counts; ballots = v .ballots }
 
 pub upd-id : {A : Type 0} (F : ℕ → A) (i : ℕ) → upd F i (F i) ≡ F
 unfolding upd
@@ -84,7 +90,7 @@ module _ (n f : ℕ) where
 
   -- the answer by the rules
   unfoldable pub ruleAnswer : View → Event → Answer
-  ruleAnswer v (Lock a c) = passedOver (v .ctl 0)
+  ruleAnswer v (Lock a c own) = passedOver (v .ctl 0)
   ruleAnswer v (Order o) = passedOver (v .ctl 0)
   ruleAnswer v (Cast i willing target) = voteRule n f i willing target (v .ctl i)
   ruleAnswer v (Deliver i j kind) = arrives kind n f i ((ofKind kind (v .state .sent i)) .votes) (v .ctl j)
@@ -92,10 +98,11 @@ module _ (n f : ℕ) where
   ruleAnswer v (Decide i move) = becomes (conclude (v .ctl i) (wordOf move))
   ruleAnswer v (Stop i) = becomes (cleared Stopped (v .ctl i))
   ruleAnswer v (Save i) = passedOver (v .ctl i)
+  ruleAnswer v (OfBallots e) = passedOver (v .ctl (ballotSubject e))
   ruleAnswer v (Restore i) = restoreFrom (identityV v i) (v .saved i) (v .ctl i)
 
   unfoldable pub performV : View → Event → View
-  performV v (Lock a c) = v
+  performV v (Lock a c own) = v
   performV v (Order o) = openedV n f v o
   performV v (Cast i willing target) = commitV v i (voteRule n f i willing target (v .ctl i))
   performV v (Deliver i j kind) = commitV v j (arrives kind n f i ((ofKind kind (v .state .sent i)) .votes) (v .ctl j))
@@ -103,6 +110,7 @@ module _ (n f : ℕ) where
   performV v (Decide i move) = commitV (chosen v move) i (becomes (conclude (v .ctl i) (wordOf move)))
   performV v (Stop i) = commitV v i (becomes (cleared Stopped (v .ctl i)))
   performV v (Save i) = savedV v i (checkpointAt v i)
+  performV v (OfBallots e) = ballotsV v (ballotsAfter n (v .ballots) ((v .ctl (ballotSubject e)) .proposal) e)
   performV v (Restore i) = commitV v i (restoreFrom (identityV v i) (v .saved i) (v .ctl i))
 
   module _ (v : View) where
@@ -112,6 +120,7 @@ module _ (n f : ℕ) where
       where
         back : putBackV v i (answering (sharedV n f v) (stationV v i) a) ≡ commitV v i a
         back = unfold putBackV answering proposedTo stationAfter commitV in λ p. record {
+          own = v .own;
           order = v .order;
           state = record {
             sent = upd (v .state .sent) i (sentAfter (v .state .sent i) (a .sends));
@@ -124,6 +133,7 @@ module _ (n f : ℕ) where
           ctl = upd (v .ctl) i (a .controller);
           saved = upd-id (v .saved) i p;
           counts = countsAfter ((v .ctl i) .condition) (a .controller .condition) (v .counts);
+          ballots = v .ballots;
         }
 
     decision-back : (i : ℕ) (w : Bool) (a a′ : Answer) → a ≡ a′ → putBackV v i (answering (decidedAs (sharedV n f v) w) (stationV v i) a) ≡ commitV (chosen v w) i a′
@@ -131,6 +141,7 @@ module _ (n f : ℕ) where
       where
         back : putBackV v i (answering (decidedAs (sharedV n f v) w) (stationV v i) a) ≡ commitV (chosen v w) i a
         back = unfold putBackV answering decidedAs proposedTo stationAfter commitV chosen in λ p. record {
+          own = v .own;
           order = v .order;
           state = record {
             sent = upd (v .state .sent) i (sentAfter (v .state .sent i) (a .sends));
@@ -143,16 +154,19 @@ module _ (n f : ℕ) where
           ctl = upd (v .ctl) i (a .controller);
           saved = upd-id (v .saved) i p;
           counts = countsAfter ((v .ctl i) .condition) (a .controller .condition) (v .counts);
+          ballots = v .ballots;
         }
 
     saved-back : (i : ℕ) → (runs (v .ctl i) || standsBy (v .ctl i)) ≡ true → playV n f v (Save i) ≡ savedV v i (checkpointAt v i)
     unfolding playV effectOf putBackV keeping savedV
     saved-back i p = λ t. record {
+      own = v .own;
       order = v .order;
       state = record { sent = upd-id (v .state .sent) i t; consensus = v .state .consensus };
       ctl = upd-id (v .ctl) i t;
       saved = upd (v .saved) i (save-is t);
       counts = v .counts;
+      ballots = v .ballots;
     }
       where
         save-is : save (identityV v i) (v .ctl i) ≡ Newest (checkpointAt v i)
@@ -207,7 +221,7 @@ module _ (n f : ℕ) where
 
   -- what the test of vote sets looks at: no acknowledgement held contradicts the own vote; a delivered vote set suits its kind and contradicts none held
   abbrev pub Clear : View → Event → Type 0
-  Clear v (Lock a c) = Unit {0}
+  Clear v (Lock a c own) = Unit {0}
   Clear v (Order o) = Unit {0}
   Clear v (Cast i w t) = dropContradicting n (single i w) (v .ctl i) ≡ v .ctl i
   Clear v (Deliver i j k) = (suits (message (sharedV n f v) k i j (v .state .sent i)) ≡ true) × (contradictsHeld n (v .ctl j) ((ofKind k (v .state .sent i)) .votes) ≡ false)
@@ -215,11 +229,12 @@ module _ (n f : ℕ) where
   Clear v (Decide i w) = Unit {0}
   Clear v (Stop i) = Unit {0}
   Clear v (Save i) = Unit {0}
+  Clear v (OfBallots e) = Unit {0}
   Clear v (Restore i) = Unit {0}
 
   pub answered-by-rule : sizesInRange n f ≡ true → (v : View) (e : Event) → Clear v e → accepts n f v e ≡ true → answerV v e ≡ ruleAnswer v e
   unfolding answerTo ruleAnswer accepts firstNo
-  answered-by-rule z v (Lock a c) k q = refl
+  answered-by-rule z v (Lock a c own) k q = refl
   answered-by-rule z v (Order o) k q = refl
   answered-by-rule z v (Cast i w t) k q = vote-is v z (search (ask-l, ask-r) depth 14) i w t _ (search (ask-l, ask-r) depth 14) (search (ask-l, ask-r) depth 14) (search (ask-l, ask-r) depth 14) k
   answered-by-rule z v (Deliver i j kind) k q = receive-is v z (search (ask-l, ask-r) depth 14) kind i j _ (search (ask-l, ask-r, and-l, and-r) depth 14) (search (ask-l, ask-r, and-l, and-r) depth 14) (search (ask-l, ask-r) depth 14) (search (ask-l, ask-r) depth 14) (k .0) (k .1)
@@ -227,11 +242,12 @@ module _ (n f : ℕ) where
   answered-by-rule z v (Decide i w) k q = decide-is w _ (search (ask-l, ask-r) depth 14) (search (ask-l, ask-r) depth 14)
   answered-by-rule z v (Stop i) k q = stop-is _ (search (ask-l, ask-r) depth 14)
   answered-by-rule z v (Save i) k q = refl
+  answered-by-rule z v (OfBallots e) k q = refl
   answered-by-rule z v (Restore i) k q = refl
 
   pub performed : sizesInRange n f ≡ true → (v : View) (e : Event) → Clear v e → accepts n f v e ≡ true → playV n f v e ≡ performV v e
   unfolding playV effectOf performV ruleAnswer
-  performed z v (Lock a c) k q = refl
+  performed z v (Lock a c own) k q = refl
   performed z v (Order o) k q = refl
   performed z v (Cast i w t) k q = answer-back v i _ _ (answered-by-rule z v (Cast i w t) k q)
   performed z v (Deliver i j kind) k q = answer-back v j _ _ (answered-by-rule z v (Deliver i j kind) k q)
@@ -239,12 +255,13 @@ module _ (n f : ℕ) where
   performed z v (Decide i w) k q = decision-back v i w _ _ (answered-by-rule z v (Decide i w) k q)
   performed z v (Stop i) k q = answer-back v i _ _ (answered-by-rule z v (Stop i) k q)
   performed z v (Save i) k q = saved-back v i (unfold accepts firstNo in search (ask-l, ask-r) depth 14)
+  performed z v (OfBallots e) k q = refl
   performed z v (Restore i) k q = answer-back v i _ _ (answered-by-rule z v (Restore i) k q)
 
   -- a delivered message has a receiver among the controllers, and so on: the controller that an accepted event concerns is one of them
   pub place : (v : View) (e : Event) → concernsOne e ≡ true → accepts n f v e ≡ true → (1 ≤ subject e) × (subject e ≤ n)
   unfolding accepts firstNo isController
-  place v (Lock x y) c q = absurd (false≢true c)
+  place v (Lock x y own) c q = absurd (false≢true c)
   place v (Order o) c q = absurd (false≢true c)
   place v (Cast i w t) c q = (leb-true _ _ (search (ask-l, ask-r, and-l, and-r) depth 14), leb-true _ _ (search (ask-l, ask-r, and-l, and-r) depth 14))
   place v (Deliver i j k) c q = (leb-true _ _ (search (ask-l, ask-r, and-l, and-r) depth 14), leb-true _ _ (search (ask-l, ask-r, and-l, and-r) depth 14))
@@ -252,6 +269,8 @@ module _ (n f : ℕ) where
   place v (Decide i w) c q = (leb-true _ _ (search (ask-l, ask-r, and-l, and-r) depth 14), leb-true _ _ (search (ask-l, ask-r, and-l, and-r) depth 14))
   place v (Stop i) c q = (leb-true _ _ (search (ask-l, ask-r, and-l, and-r) depth 14), leb-true _ _ (search (ask-l, ask-r, and-l, and-r) depth 14))
   place v (Save i) c q = (leb-true _ _ (search (ask-l, ask-r, and-l, and-r) depth 14), leb-true _ _ (search (ask-l, ask-r, and-l, and-r) depth 14))
+  place v (OfBallots (Open i b)) c q = (leb-true _ _ (search (ask-l, ask-r, and-l, and-r) depth 14), leb-true _ _ (search (ask-l, ask-r, and-l, and-r) depth 14))
+  place v (OfBallots (Carry i j k b)) c q = (leb-true _ _ (search (ask-l, ask-r, and-l, and-r) depth 14), leb-true _ _ (search (ask-l, ask-r, and-l, and-r) depth 14))
   place v (Restore i) c q = (leb-true _ _ (search (ask-l, ask-r, and-l, and-r) depth 14), leb-true _ _ (search (ask-l, ask-r, and-l, and-r) depth 14))
 
   unfoldable pub stepV : View → Event → View

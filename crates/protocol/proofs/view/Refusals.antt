@@ -9,7 +9,7 @@ use Rattle.model.specs.declared.Kind.{Kind}
 use Rattle.model.specs.declared.Kind.the-variants.{Vote, Ack, Help, Helped}
 use Rattle.model.specs.declared.Checkpoint.{Checkpoint}
 use Rattle.model.specs.declared.Event.{Event}
-use Rattle.model.specs.declared.Event.the-variants.{Lock, Order, Cast, Deliver, Timeout, Decide, Stop, Save, Restore}
+use Rattle.model.specs.declared.Event.the-variants.{Lock, Order, Cast, Deliver, Timeout, Decide, Stop, Save, Restore, OfBallots}
 use Rattle.protocol.specs.declared.Identity.{Identity}
 use Rattle.protocol.specs.declared.Controller.{Controller}
 use Rattle.protocol.specs.declared.Answer.{Answer}
@@ -75,7 +75,7 @@ restore-unrefused me x c = restore-cases Unrefused me x c (λ p q. restored p) (
     restored p = unfold restore in by-cond Unrefused (isStopped (c .condition)) _ _ (λ e. becomes-unrefused _) (λ e. passed-unrefused c)
 
 abbrev pub delivers : Event → Bool
-delivers (Lock n f) = false
+delivers (Lock n f own) = false
 delivers (Order o) = false
 delivers (Cast i willing target) = false
 delivers (Deliver i j kind) = true
@@ -83,11 +83,12 @@ delivers (Timeout i) = false
 delivers (Decide i move) = false
 delivers (Stop i) = false
 delivers (Save i) = false
+delivers (OfBallots e) = false
 delivers (Restore i) = false
 
 unrefused : (m : Shared) (e : Event) (sent : Sent) (s : Station) → delivers e ≡ false → Unrefused (answerTo m e sent s)
 unfolding answerTo
-unrefused m (Lock n f) sent s d = passed-unrefused _
+unrefused m (Lock n f own) sent s d = passed-unrefused _
 unrefused m (Order o) sent s d = passed-unrefused _
 unrefused m (Cast i w t) sent s d = vote-unrefused _ w t _
 unrefused m (Deliver i j k) sent s d = absurd (true≢false d)
@@ -95,6 +96,7 @@ unrefused m (Timeout i) sent s d = timeout-unrefused _ _
 unrefused m (Decide i w) sent s d = decide-unrefused w _
 unrefused m (Stop i) sent s d = stop-unrefused _
 unrefused m (Save i) sent s d = passed-unrefused _
+unrefused m (OfBallots e) sent s d = passed-unrefused _
 unrefused m (Restore i) sent s d = restore-unrefused _ (s .saved) _
 
 pub others-agree : (m : Shared) (e : Event) (sent : Sent) (s : Station) → delivers e ≡ false → agreesAt m e sent s ≡ true

@@ -2,7 +2,7 @@
 -- of vote sets, which the view does not make, finds nothing (Clear).
 use Prim.Native.Nat.{ℕ, _≤_}
 use mathlib.Core.Path.{_≡_, refl, sym, _∙_, ap, subst}
-use mathlib.Core.Bool.{Bool, true, false, not, cond, true≢false, false≢true}
+use mathlib.Core.Bool.{Bool, true, false, not, cond, _&&_, true≢false, false≢true, and-false, and-true}
 use mathlib.Core.List.{List, [], _∷_, map}
 use native.Mathlib.Omega.{arith}
 use lib.ListN.{length, length-map}
@@ -15,36 +15,40 @@ use Rattle.model.specs.Ranges.{sizesInRange, isController}
 use Rattle.model.specs.RangeLaws.{Ranges, ranges, member}
 use Rattle.model.specs.declared.Kind.{Kind}
 use Rattle.model.specs.declared.Event.{Event}
-use Rattle.model.specs.declared.Event.the-variants.{Lock, Order, Cast, Deliver, Timeout, Decide, Stop, Save, Restore}
+use Rattle.model.specs.declared.Event.the-variants.{Lock, Order, Cast, Deliver, Timeout, Decide, Stop, Save, Restore, OfBallots}
 use Rattle.protocol.specs.declared.Answer.{Answer}
 use Rattle.protocol.specs.declared.Station.{Station}
 use Rattle.protocol.specs.declared.Effect.{Effect}
 use Rattle.protocol.specs.declared.Sent.{Sent}
 use Rattle.protocol.specs.declared.Bench.{Bench}
+use Rattle.protocol.specs.Ballots.{newBallots, isChosen}
 use Rattle.protocol.specs.Controllers.{cleared}
 use Rattle.protocol.specs.Rules.{isContradicted}
 use Rattle.protocol.specs.Calls.{renew}
 use Rattle.protocol.specs.Benches.{fresh, freshStation, station, controller, sentBy}
 use Rattle.protocol.specs.Events.{subject, source, answerTo}
-use Rattle.protocol.specs.Questions.{Reply, accepted, refused, isAccepted, firstNo, mayOpen, agreesAt, questionsOf, factsOf, reply}
+use Rattle.protocol.specs.Questions.{Reply, accepted, refused, isAccepted, firstNo, mayOpen, mayGive, wasProposed, noOther, agreesAt, questionsOf, factsOf, reply}
 use Rattle.protocol.specs.QuestionLaws.{asked-last}
 use Rattle.protocol.specs.NoContradiction.{untestedReply}
 use Rattle.protocol.specs.Steps.{renewed, orderOpened, proposedTo, decidedAs, answering, effectOf, effect, putBack, performOne, perform, step, run}
-use Rattle.protocol.proofs.view.View.{View, putBackV, openedV, accepts, playOneV, playV, ask-l, ask-r, part}
+use Rattle.protocol.proofs.view.View.{View, ballotsV, mayGiveV, putBackV, openedV, accepts, playOneV, playV, ask-l, ask-r, part}
 use Rattle.protocol.proofs.view.Performed.{Clear, answerV, ruleAnswer, answered-by-rule, performed, stepV, runV}
 use Rattle.protocol.proofs.view.Refusals.{arrives-unrefused}
 use Rattle.protocol.proofs.invariant.Invariant.{Inv}
 use Rattle.protocol.proofs.invariant.Orders.{step-next, next-inv}
 use Rattle.protocol.proofs.claim.Ranges.{Given, AllIn, step-in}
 use Rattle.protocol.proofs.claim.Clear.{clear}
+use Rattle.protocol.proofs.paxos.Order.{Balloted, passes-18, step-balloted}
 
 unfoldable pub view : Bench → View
 view b = record {
+  own = b .shared .own;
   order = b .shared .order;
   state = record { sent = λ k. sentBy b k; consensus = b .shared .consensus };
   ctl = λ k. controller b k;
   saved = λ k. (station b k) .saved;
   counts = b .shared .counts;
+  ballots = b .ballots;
 }
 
 -- a part of the stations after one is changed
@@ -56,11 +60,13 @@ field b i lo hi g s = ap (λ (F : ℕ → Station). λ k. g (F k)) (nth-put (fre
 view-put-back : (b : Bench) (i : ℕ) → 1 ≤ i → i ≤ length (b .stations) → (t : Effect) → view (putBack b i t) ≡ putBackV (view b) i t
 unfolding view putBackV station
 view-put-back b i lo hi t = λ p. record {
+  own = t .shared .own;
   order = t .shared .order;
   state = record { sent = field b i lo hi (λ s. s .sent) (t .station) p; consensus = t .shared .consensus };
   ctl = field b i lo hi (λ s. s .controller) (t .station) p;
   saved = field b i lo hi (λ s. s .saved) (t .station) p;
   counts = t .shared .counts;
+  ballots = b .ballots;
 }
 
 renewed-fresh : renewed (freshStation []) ≡ freshStation []
@@ -76,7 +82,7 @@ abbrev pub Any : ℕ → Type 0
 Any x = Unit {0}
 
 given-any : (e : Event) → Given Any Any tt e
-given-any (Lock a c) = tt
+given-any (Lock a c own) = tt
 given-any (Order o) = tt
 given-any (Cast i w t) = tt
 given-any (Deliver i j k) = tt
@@ -84,6 +90,7 @@ given-any (Timeout i) = tt
 given-any (Decide i w) = tt
 given-any (Stop i) = tt
 given-any (Save i) = tt
+given-any (OfBallots e) = tt
 given-any (Restore i) = tt
 
 -- a bench with its lock, which keeps the invariant
@@ -93,6 +100,7 @@ pub record Sound (b : Bench) : Type 0 where
   pub sized : sizesInRange (b .shared .n) (b .shared .f) ≡ true
   pub inv : Inv (b .shared .n) (b .shared .f) (view b)
   pub ranged : AllIn Any Any tt (b .shared .n) (b .shared .f) (view b)
+  pub balloted : Balloted (b .shared .n) (view b)
 
 refused-before : (r x : Reply) → isAccepted r ≡ false → cond (isAccepted r) x r ≡ r
 refused-before accepted x e = absurd (true≢false e)
@@ -120,9 +128,19 @@ module _ (b : Bench) (ok : Sound b) where
       same = unfold view in rw (ok .locked)
 
   -- with a lock the view's questions are the bench's, but for 24
+  -- at c = 1 a word that a majority took passes document 01's question 18 too: the one place where the ballots' theorem enters
+  give-same : (move : Bool) → mayGive (b .shared) (b .ballots) move ≡ mayGiveV (b .shared) (b .ballots) move
+  give-same move = elim (split (b .shared .own)) [
+    | inl own ↦ rw own (elim (split (isChosen n (b .ballots) move)) [
+      | inl c ↦ (let p : (wasProposed (b .shared .consensus) move && noOther (b .shared .consensus .decision) move) ≡ true = (unfold view in passes-18 n (view b) (ok .balloted) (unfold view in own) move (unfold view in c)) in rw (c, p))
+      | inr c ↦ rw c (sym (and-false (wasProposed (b .shared .consensus) move && noOther (b .shared .consensus .decision) move)))
+    ])
+    | inr own ↦ rw own (sym (and-true (wasProposed (b .shared .consensus) move && noOther (b .shared .consensus .decision) move)))
+  ]
+
   untested-sim : (e : Event) → isAccepted (untestedReply b e) ≡ accepts n f (view b) e
   unfolding accepts view
-  untested-sim e = rw (ok .locked)
+  untested-sim e = ap (λ (g : Bool → Bool). isAccepted (firstNo (questionsOf (factsOf (b .shared) (b .ballots) e (station b (subject e)) (sentBy b (source e)) (mayOpen (b .shared)) g true) e))) (λ t w. give-same w t) ∙ (rw (ok .locked))
 
   agrees : (i j : ℕ) (kind : Kind) → accepts n f (view b) (Deliver i j kind) ≡ true → agreesAt (b .shared) (Deliver i j kind) (sentBy b i) (station b j) ≡ true
   unfolding ruleAnswer view
@@ -130,17 +148,18 @@ module _ (b : Bench) (ok : Sound b) where
 
   pub reply-untested : (e : Event) → reply b e ≡ untestedReply b e
   unfolding reply
-  reply-untested (Lock a c) = refl
+  reply-untested (Lock a c own) = refl
   reply-untested (Order o) = refl
   reply-untested (Cast i w t) = refl
   reply-untested (Deliver i j kind) = elim (split (accepts n f (view b) (Deliver i j kind))) [
-    | inl q ↦ ap (λ (t : Bool). firstNo (questionsOf (factsOf (b .shared) (Deliver i j kind) (station b j) (sentBy b i) (mayOpen (b .shared)) t) (Deliver i j kind))) (agrees i j kind q)
-    | inr q ↦ asked-last (b .shared) i j kind (station b j) (sentBy b i) (mayOpen (b .shared)) (agreesAt (b .shared) (Deliver i j kind) (sentBy b i) (station b j)) ∙ refused-before _ _ (untested-sim (Deliver i j kind) ∙ q)
+    | inl q ↦ ap (λ (t : Bool). firstNo (questionsOf (factsOf (b .shared) (b .ballots) (Deliver i j kind) (station b j) (sentBy b i) (mayOpen (b .shared)) (mayGive (b .shared) (b .ballots)) t) (Deliver i j kind))) (agrees i j kind q)
+    | inr q ↦ asked-last (b .shared) (b .ballots) (mayGive (b .shared) (b .ballots)) i j kind (station b j) (sentBy b i) (mayOpen (b .shared)) (agreesAt (b .shared) (Deliver i j kind) (sentBy b i) (station b j)) ∙ refused-before _ _ (untested-sim (Deliver i j kind) ∙ q)
   ]
   reply-untested (Timeout i) = refl
   reply-untested (Decide i w) = refl
   reply-untested (Stop i) = refl
   reply-untested (Save i) = refl
+  reply-untested (OfBallots e) = refl
   reply-untested (Restore i) = refl
 
   pub reply-sim : (e : Event) → isAccepted (reply b e) ≡ accepts n f (view b) e
@@ -149,11 +168,13 @@ module _ (b : Bench) (ok : Sound b) where
   view-open : (o : ℕ) → view (perform b (Order o)) ≡ openedV n f (view b) o
   unfolding view perform openedV station renewed orderOpened
   view-open o = λ t. record {
+    own = b .shared .own;
     order = o;
     state = record { sent = renewed-at (λ s. s .sent) b t; consensus = (orderOpened (b .shared) o) .consensus };
     ctl = renewed-at (λ s. s .controller) b t;
     saved = renewed-at (λ s. s .saved) b t;
     counts = (orderOpened (b .shared) o) .counts;
+    ballots = newBallots;
   }
 
   -- an event of one controller
@@ -165,7 +186,7 @@ module _ (b : Bench) (ok : Sound b) where
 
   perform-sim : (e : Event) → accepts n f (view b) e ≡ true → view (perform b e) ≡ playV n f (view b) e
   unfolding playV
-  perform-sim (Lock a c) q = unfold accepts firstNo in absurd (false≢true (ask-l _ _ _ (ask-r _ _ _ q)))
+  perform-sim (Lock a c own) q = unfold accepts firstNo in absurd (false≢true (ask-l _ _ _ (ask-r _ _ _ q)))
   perform-sim (Order o) q = view-open o
   perform-sim (Cast i w t) q = unfold perform in view-one (Cast i w t) (unfold accepts firstNo in search (ask-l, ask-r) depth 14)
   perform-sim (Deliver i j k) q = unfold perform in view-one (Deliver i j k) (unfold accepts firstNo in search (ask-l, ask-r, and-l, and-r) depth 14)
@@ -173,6 +194,7 @@ module _ (b : Bench) (ok : Sound b) where
   perform-sim (Decide i w) q = unfold perform in view-one (Decide i w) (unfold accepts firstNo in search (ask-l, ask-r) depth 14)
   perform-sim (Stop i) q = unfold perform in view-one (Stop i) (unfold accepts firstNo in search (ask-l, ask-r) depth 14)
   perform-sim (Save i) q = unfold perform in view-one (Save i) (unfold accepts firstNo in search (ask-l, ask-r) depth 14)
+  perform-sim (OfBallots e) q = unfold perform view ballotsV playV station in refl
   perform-sim (Restore i) q = unfold perform in view-one (Restore i) (unfold accepts firstNo in search (ask-l, ask-r) depth 14)
 
   -- what a step leaves
@@ -196,7 +218,7 @@ module _ (b : Bench) (ok : Sound b) where
 
   one-locked : (e : Event) (sent : Sent) (s : Station) → Locked (effect (b .shared) e sent s)
   unfolding effectOf answering proposedTo decidedAs
-  one-locked (Lock a c) sent s = record { locked = refl; same-n = refl; same-f = refl }
+  one-locked (Lock a c own) sent s = record { locked = refl; same-n = refl; same-f = refl }
   one-locked (Order o) sent s = record { locked = refl; same-n = refl; same-f = refl }
   one-locked (Cast i w t) sent s = record { locked = refl; same-n = refl; same-f = refl }
   one-locked (Deliver i j k) sent s = record { locked = refl; same-n = refl; same-f = refl }
@@ -204,6 +226,7 @@ module _ (b : Bench) (ok : Sound b) where
   one-locked (Decide i w) sent s = record { locked = refl; same-n = refl; same-f = refl }
   one-locked (Stop i) sent s = record { locked = refl; same-n = refl; same-f = refl }
   one-locked (Save i) sent s = record { locked = refl; same-n = refl; same-f = refl }
+  one-locked (OfBallots e) sent s = record { locked = refl; same-n = refl; same-f = refl }
   one-locked (Restore i) sent s = record { locked = refl; same-n = refl; same-f = refl }
 
   one-placed : (e : Event) → Placed (performOne b e)
@@ -213,7 +236,7 @@ module _ (b : Bench) (ok : Sound b) where
 
   perform-placed : (e : Event) → accepts n f (view b) e ≡ true → Placed (perform b e)
   unfolding perform
-  perform-placed (Lock a c) q = unfold accepts firstNo in absurd (false≢true (ask-l _ _ _ (ask-r _ _ _ q)))
+  perform-placed (Lock a c own) q = unfold accepts firstNo in absurd (false≢true (ask-l _ _ _ (ask-r _ _ _ q)))
   perform-placed (Order o) q = unfold orderOpened in record { locked = ok .locked; size = length-map (b .stations) renewed ∙ ok .size; same-n = refl; same-f = refl }
   perform-placed (Cast i w t) q = one-placed (Cast i w t)
   perform-placed (Deliver i j k) q = one-placed (Deliver i j k)
@@ -221,6 +244,7 @@ module _ (b : Bench) (ok : Sound b) where
   perform-placed (Decide i w) q = one-placed (Decide i w)
   perform-placed (Stop i) q = one-placed (Stop i)
   perform-placed (Save i) q = one-placed (Save i)
+  perform-placed (OfBallots e) q = record { locked = ok .locked; size = ok .size; same-n = refl; same-f = refl }
   perform-placed (Restore i) q = one-placed (Restore i)
 
   step-placed : (e : Event) → Placed (step b e)
@@ -247,6 +271,7 @@ module _ (b : Bench) (ok : Sound b) where
           sized = rw (t .same-n, t .same-f) (ok .sized);
           inv = back Inv t i;
           ranged = back (AllIn Any Any tt) t a;
+          balloted = back (λ x y v. Balloted x v) t (step-balloted n f (r .small) (view b) e (ok .balloted));
         };
         same-n = t .same-n;
         same-f = t .same-f;

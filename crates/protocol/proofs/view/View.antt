@@ -7,12 +7,12 @@ use mathlib.Core.Logic.{inl, inr}
 use lib.Dec.{eqb}
 use Rattle.ground.specs.Tests.{split}
 use native.Mathlib.Omega.{arith}
-use mathlib.Core.Bool.{Bool, true, false}
+use mathlib.Core.Bool.{Bool, true, false, cond, _&&_}
 use Rattle.ground.specs.Update.{upd, fun-ext}
 use Rattle.model.specs.declared.Outcome.{Outcome}
 use Rattle.model.specs.declared.Outcome.the-variants.{None}
 use Rattle.model.specs.declared.Event.{Event}
-use Rattle.model.specs.declared.Event.the-variants.{Lock, Order, Cast, Deliver, Timeout, Decide, Stop, Save, Restore}
+use Rattle.model.specs.declared.Event.the-variants.{Lock, Order, Cast, Deliver, Timeout, Decide, Stop, Save, Restore, OfBallots}
 use Rattle.protocol.specs.declared.Controller.{Controller}
 use Rattle.protocol.specs.declared.Saved.{Saved}
 use Rattle.protocol.specs.declared.Saved.the-variants.{Nothing, Newest}
@@ -22,9 +22,12 @@ use Rattle.protocol.specs.declared.Consensus.{Consensus}
 use Rattle.protocol.specs.declared.Counts.{Counts}
 use Rattle.protocol.specs.declared.Shared.{Shared}
 use Rattle.protocol.specs.declared.Effect.{Effect}
+use Rattle.protocol.specs.declared.Ballots.{Ballots}
+use Rattle.protocol.specs.Ballots.{newBallots, isChosen}
+use Rattle.protocol.specs.BallotSteps.{ballotSubject, ballotsAfter}
 use Rattle.protocol.specs.Benches.{unsentAll, noConsensus}
 use Rattle.protocol.specs.Events.{subject, source}
-use Rattle.protocol.specs.Questions.{Reply, isAccepted, unless, firstNo, mayOpen, factsOf, questionsOf}
+use Rattle.protocol.specs.Questions.{Reply, isAccepted, unless, firstNo, mayOpen, wasProposed, noOther, factsOf, questionsOf}
 use Rattle.protocol.specs.Steps.{renewed, orderOpened, effect}
 
 -- what one order has brought: what was sent, the consensus
@@ -33,11 +36,13 @@ pub record OrderState : Type 0 where
   pub consensus : Consensus
 
 pub record View : Type 0 where
+  pub own : Bool
   pub order : ℕ
   pub state : OrderState
   pub ctl : ℕ → Controller
   pub saved : ℕ → Saved
   pub counts : Counts
+  pub ballots : Ballots
 
 unfoldable pub newOrderState : OrderState
 newOrderState = record { sent = λ k. unsentAll; consensus = noConsensus }
@@ -57,29 +62,41 @@ stationV v i = record { controller = v .ctl i; sent = v .state .sent i; saved = 
 
 unfoldable pub putBackV : View → ℕ → Effect → View
 putBackV v i t = record {
+  own = t .shared .own;
   order = t .shared .order;
   state = record { sent = upd (v .state .sent) i (t .station .sent); consensus = t .shared .consensus };
   ctl = upd (v .ctl) i (t .station .controller);
   saved = upd (v .saved) i (t .station .saved);
   counts = t .shared .counts;
+  ballots = v .ballots;
 }
+
+-- the view with other ballots
+unfoldable pub ballotsV : View → Ballots → View
+ballotsV v s = record { own = v .own; order = v .order; state = v .state; ctl = v .ctl; saved = v .saved; counts = v .counts; ballots = s }
+
+-- question 18, in both its forms: that at c = 1 document 01's holds too is shown in Simulation
+abbrev pub mayGiveV : Shared → Ballots → Bool → Bool
+mayGiveV m s move = wasProposed (m .consensus) move && noOther (m .consensus .decision) move && cond (m .own) (isChosen (m .n) s move) true
 
 module _ (n f : ℕ) where
   abbrev pub sharedV : View → Shared
-  sharedV v = record { locked = true; n = n; f = f; order = v .order; consensus = v .state .consensus; counts = v .counts }
+  sharedV v = record { locked = true; n = n; f = f; own = v .own; order = v .order; consensus = v .state .consensus; counts = v .counts }
 
   -- the questions, but for 24: that it is answered yes is shown in Simulation
   unfoldable pub accepts : View → Event → Bool
-  accepts v e = isAccepted (firstNo (questionsOf (factsOf (sharedV v) e (stationV v (subject e)) (v .state .sent (source e)) (mayOpen (sharedV v)) true) e))
+  accepts v e = isAccepted (firstNo (questionsOf (factsOf (sharedV v) (v .ballots) e (stationV v (subject e)) (v .state .sent (source e)) (mayOpen (sharedV v)) (mayGiveV (sharedV v) (v .ballots)) true) e))
 
   -- a new order
   unfoldable pub openedV : View → ℕ → View
   openedV v o = record {
+    own = (orderOpened (sharedV v) o) .own;
     order = (orderOpened (sharedV v) o) .order;
     state = record { sent = λ k. (renewed (stationV v k)) .sent; consensus = (orderOpened (sharedV v) o) .consensus };
     ctl = λ k. (renewed (stationV v k)) .controller;
     saved = λ k. (renewed (stationV v k)) .saved;
     counts = (orderOpened (sharedV v) o) .counts;
+    ballots = newBallots;
   }
 
   -- what an accepted event does
@@ -87,7 +104,7 @@ module _ (n f : ℕ) where
   playOneV v e = putBackV v (subject e) (effect (sharedV v) e (v .state .sent (source e)) (stationV v (subject e)))
 
   unfoldable pub playV : View → Event → View
-  playV v (Lock a c) = v
+  playV v (Lock a c own) = v
   playV v (Order o) = openedV v o
   playV v (Cast i willing target) = playOneV v (Cast i willing target)
   playV v (Deliver i j kind) = playOneV v (Deliver i j kind)
@@ -95,6 +112,7 @@ module _ (n f : ℕ) where
   playV v (Decide i move) = playOneV v (Decide i move)
   playV v (Stop i) = playOneV v (Stop i)
   playV v (Save i) = playOneV v (Save i)
+  playV v (OfBallots e) = ballotsV v (ballotsAfter n (v .ballots) ((v .ctl (ballotSubject e)) .proposal) e)
   playV v (Restore i) = playOneV v (Restore i)
 
 -- a part of a function changed at one place

@@ -9,7 +9,7 @@ summary-of-requires : tie.Need-summary-of-requires
 summary-of-requires c κs = search needs
 
 returns : tie.Need-returns
-returns c = simp (c .before .open-gates .ensures, c .summary-of .ensures)
+returns c = λ s. rw (c .before .open-gates .ensures, c .summary-of .ensures s)
 
 pub ended-spec : {M : Type 1} → statement M
 ended-spec = tie.close (tie.spec open-gates-requires summary-of-requires returns)

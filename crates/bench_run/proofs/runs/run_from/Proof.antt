@@ -1,5 +1,5 @@
 -- The loop keeps `Upto`: after k records the bench in the run's variables is that of their events, and the buffer begins with their answers. Each way through the body is one law of PlayLaws or
--- Records. The inner loop keeps that the stations before its index are renewed and the others as they were.
+-- Records. The second loop keeps that the stations before its index are renewed and the others as they were; the third, whether the word was chosen in a ballot before its index.
 use borrow.Author.Needs.{needs}
 use borrow.Author.Tests.{not-true, not-false}
 use Prim.Native.Nat.{ℕ, _-_, _≤_, min}
@@ -7,883 +7,1037 @@ use mathlib.Core.Path.{_≡_, refl, sym, ap, _∙_}
 use mathlib.Core.Bool.{true, false}
 use mathlib.Core.List.{List, []}
 use native.Mathlib.Omega.{arith}
-use lib.ListN.{length, drop, getD, set}
+use lib.ListN.{length, drop, getD, set, replicate}
 use Rattle.ground.specs.Limit.{limit}
+use Rattle.ground.specs.Quantify.{anyTo}
 use Rattle.ground.specs.Firsts.{mapFirst, first-none, first-more, first-all}
 use Rattle.event_record.specs.declared.ReadEvent.the-variants.{Read}
 use Rattle.protocol.specs.declared.Station.{Station}
+use Rattle.protocol.specs.Ballots.{ballotLimit, newAcceptor, newRow, chosenIn}
 use Rattle.protocol.specs.Benches.{freshStation, fresh, unsentAll}
 use Rattle.protocol.specs.Controllers.{phaseIn}
 use Rattle.protocol.specs.Steps.{renewed}
 use Rattle.bench_run.specs.Runs.{endOf}
-use Rattle.bench_run.proofs.Local.{benchWith, all-stations, new-parts}
+use Rattle.bench_run.proofs.Local.{benchWith, all-stations, new-parts, new-ballots}
 use Rattle.bench_run.proofs.Records.{Upto, start, not-read, no-room, ended, read-from, place-within}
-use Rattle.bench_run.proofs.PlayLaws.{order-size, lock-refused, lock-accepted, order-refused, order-accepted, cast-refused, cast-accepted, delivery-refused, vote-accepted, ack-passed-over, ack-held, ack-put, help-accepted, helped-accepted, timeout-refused, first-laid, second-accepted, decide-refused, decide-accepted, stop-refused, stop-accepted, save-refused, save-accepted, restore-refused, restore-accepted}
+use Rattle.bench_run.proofs.PlayLaws.{order-size, lock-refused, lock-accepted, order-refused, order-accepted, order-quiet, cast-refused, cast-accepted, delivery-refused, vote-accepted, ack-passed-over, ack-held, ack-put, help-accepted, helped-accepted, timeout-refused, first-laid, second-accepted, decide-refused, decide-accepted, stop-refused, stop-accepted, save-refused, save-accepted, restore-refused, restore-accepted}
+use Rattle.bench_run.proofs.BallotPlay.{none-chosen, more-chosen, may-give, ballot-refused, ballot-accepted}
 use Rattle.bench_run.proofs.runs.run_from.Statement.{statement}
 use Rattle.bench_run.proofs.runs.run_from.Tie as tie
 
 abbrev Inv-loop2 : tie.InvT-loop2
-Inv-loop2 s from answers count m stations₀ k number answer end i₀ stations i = (i ≤ end) × (length stations₀ ≡ limit) × (stations ≡ mapFirst renewed i stations₀)
+Inv-loop2 s from answers count m stations₀ acceptors rows k number answer end i₀ stations i = (i ≤ end) × (length stations₀ ≡ limit) × (stations ≡ mapFirst renewed i stations₀)
 
 abbrev μ-loop2 : tie.MeasureT-loop2
-μ-loop2 s from answers count m stations₀ k number answer end i₀ stations i = end - i
+μ-loop2 s from answers count m stations₀ acceptors rows k number answer end i₀ stations i = end - i
+
+abbrev Inv-loop3 : tie.InvT-loop3
+Inv-loop3 s from answers count m stations acceptors rows k id move at end chosen₀ i₀ chosen i = (i ≤ end) × (chosen ≡ anyTo i (chosenIn (m .n) (record { acceptors = acceptors; rows = rows }) move))
+
+abbrev μ-loop3 : tie.MeasureT-loop3
+μ-loop3 s from answers count m stations acceptors rows k id move at end chosen₀ i₀ chosen i = end - i
 
 abbrev Inv-loop : tie.InvT-loop
-Inv-loop s from answers₀ count m₀ stations₀ k₀ answers m stations k = Upto (drop from s) answers₀ count k (benchWith m stations) answers
+Inv-loop s from answers₀ count m₀ stations₀ acceptors₀ rows₀ k₀ answers m stations acceptors rows k = Upto (drop from s) answers₀ count k (benchWith m (record { acceptors = acceptors; rows = rows }) stations) answers
 
 abbrev μ-loop : tie.MeasureT-loop
-μ-loop s from answers₀ count m₀ stations₀ k₀ answers m stations k = count - k
+μ-loop s from answers₀ count m₀ stations₀ acceptors₀ rows₀ k₀ answers m stations acceptors rows k = count - k
 
-count-from-requires : tie.Need-count-from-requires Inv-loop2 μ-loop2 Inv-loop μ-loop
+count-from-requires : tie.Need-count-from-requires Inv-loop2 μ-loop2 Inv-loop3 μ-loop3 Inv-loop μ-loop
 count-from-requires c κs = search needs
 
-new-bench-requires : tie.Need-new-bench-requires Inv-loop2 μ-loop2 Inv-loop μ-loop
-new-bench-requires c κs = search needs
-
-ended-requires : tie.Need-ended-requires Inv-loop2 μ-loop2 Inv-loop μ-loop
-ended-requires c κs = search needs
-
-returns : tie.Need-returns Inv-loop2 μ-loop2 Inv-loop μ-loop
-returns c =
-    let n = no-room _ _ _ (c .before .before .before .count-from .ensures) (c .before .before .if1 .taken) in
-    record { result = c .ended .ensures ∙ ap (endOf false 0) (c .before .new-bench .ensures) ∙ n .result; buffer = n .buffer }
-
-new-shared-requires : tie.Need-new-shared-requires Inv-loop2 μ-loop2 Inv-loop μ-loop
+new-shared-requires : tie.Need-new-shared-requires Inv-loop2 μ-loop2 Inv-loop3 μ-loop3 Inv-loop μ-loop
 new-shared-requires c κs = search needs
 
-fresh-station-requires : tie.Need-fresh-station-requires Inv-loop2 μ-loop2 Inv-loop μ-loop
+fresh-station-requires : tie.Need-fresh-station-requires Inv-loop2 μ-loop2 Inv-loop3 μ-loop3 Inv-loop μ-loop
 fresh-station-requires c κs = search needs
 
-loop-holds : tie.Need-loop-holds Inv-loop2 μ-loop2 Inv-loop μ-loop
-loop-holds c = start _ _ _ _ (c .before .before .before .count-from .ensures) (c .before .before .if1 .left) (new-parts _ _ (c .before .new-shared .ensures) (c .fresh-station .ensures))
+ended-requires : tie.Need-ended-requires Inv-loop2 μ-loop2 Inv-loop3 μ-loop3 Inv-loop μ-loop
+ended-requires c κs = search needs
 
-mul-record-at : tie.Need-mul-record-at Inv-loop2 μ-loop2 Inv-loop μ-loop
+returns : tie.Need-returns Inv-loop2 μ-loop2 Inv-loop3 μ-loop3 Inv-loop μ-loop
+returns c =
+    let n = no-room _ _ _ (c .before .before .before .before .count-from .ensures) (c .before .if1 .taken) in
+    record { result = c .ended .ensures (record { acceptors = replicate limit newAcceptor; rows = replicate ballotLimit (newRow (replicate limit 0)) }) ∙ ap (endOf false 0) (new-parts _ _ _ _ (c .before .before .before .new-shared .ensures) (c .before .before .fresh-station .ensures) refl refl) ∙ n .result; buffer = n .buffer }
+
+new-acceptor-requires : tie.Need-new-acceptor-requires Inv-loop2 μ-loop2 Inv-loop3 μ-loop3 Inv-loop μ-loop
+new-acceptor-requires c κs = search needs
+
+new-row-requires : tie.Need-new-row-requires Inv-loop2 μ-loop2 Inv-loop3 μ-loop3 Inv-loop μ-loop
+new-row-requires c κs = search needs
+
+loop-holds : tie.Need-loop-holds Inv-loop2 μ-loop2 Inv-loop3 μ-loop3 Inv-loop μ-loop
+loop-holds c = start _ _ _ _ (c .before .before .before .before .before .count-from .ensures) (c .before .before .if1 .left) (new-parts _ _ _ _ (c .before .before .before .before .new-shared .ensures) (c .before .before .before .fresh-station .ensures) (c .before .new-acceptor .ensures) (c .new-row .ensures))
+
+mul-record-at : tie.Need-mul-record-at Inv-loop2 μ-loop2 Inv-loop3 μ-loop3 Inv-loop μ-loop
 mul-record-at c =
-    let a = c .before .before .before .before .before .before .before .before in
-    let p = place-within (a .args .s .now) (a .args .from) (c .before .before .before .before .before .count-from .result) (c .before .loop .k) (c .before .loop .inv .whole) (c .loop-test .taken) in
+    let a = c .before .before .before .before .before .before .before .before .before .before in
+    let p = place-within (a .args .s .now) (a .args .from) (c .before .before .before .before .before .before .before .count-from .result) (c .before .loop .k) (c .before .loop .inv .whole) (c .loop-test .taken) in
     omega (arith, p, a .good .0 .0)
 
-add-record-at : tie.Need-add-record-at Inv-loop2 μ-loop2 Inv-loop μ-loop
+add-record-at : tie.Need-add-record-at Inv-loop2 μ-loop2 Inv-loop3 μ-loop3 Inv-loop μ-loop
 add-record-at c =
-    let a = c .before .before .before .before .before .before .before .before in
-    let p = place-within (a .args .s .now) (a .args .from) (c .before .before .before .before .before .count-from .result) (c .before .loop .k) (c .before .loop .inv .whole) (c .loop-test .taken) in
+    let a = c .before .before .before .before .before .before .before .before .before .before in
+    let p = place-within (a .args .s .now) (a .args .from) (c .before .before .before .before .before .before .before .count-from .result) (c .before .loop .k) (c .before .loop .inv .whole) (c .loop-test .taken) in
     omega (arith, p, a .good .0 .0)
 
-record-at-requires : tie.Need-record-at-requires Inv-loop2 μ-loop2 Inv-loop μ-loop
+record-at-requires : tie.Need-record-at-requires Inv-loop2 μ-loop2 Inv-loop3 μ-loop3 Inv-loop μ-loop
 record-at-requires c κs = search needs
 
-enum-known-r : tie.Need-enum-known-r Inv-loop2 μ-loop2 Inv-loop μ-loop
+enum-known-r : tie.Need-enum-known-r Inv-loop2 μ-loop2 Inv-loop3 μ-loop3 Inv-loop μ-loop
 enum-known-r c = search needs
 
-enum-told : tie.Need-enum-told Inv-loop2 μ-loop2 Inv-loop μ-loop
+enum-told : tie.Need-enum-told Inv-loop2 μ-loop2 Inv-loop3 μ-loop3 Inv-loop μ-loop
 enum-told c = search needs
 
-answer-of-requires : tie.Need-answer-of-requires Inv-loop2 μ-loop2 Inv-loop μ-loop
+answer-of-requires : tie.Need-answer-of-requires Inv-loop2 μ-loop2 Inv-loop3 μ-loop3 Inv-loop μ-loop
 answer-of-requires c κs = search needs
 
-slice-write-answers : tie.Need-slice-write-answers Inv-loop2 μ-loop2 Inv-loop μ-loop
+slice-write-answers : tie.Need-slice-write-answers Inv-loop2 μ-loop2 Inv-loop3 μ-loop3 Inv-loop μ-loop
 slice-write-answers c = search needs
 
-add-k : tie.Need-add-k Inv-loop2 μ-loop2 Inv-loop μ-loop
+add-k : tie.Need-add-k Inv-loop2 μ-loop2 Inv-loop3 μ-loop3 Inv-loop μ-loop
 add-k c = search needs
 
-loop-less : tie.Need-loop-less Inv-loop2 μ-loop2 Inv-loop μ-loop
+loop-less : tie.Need-loop-less Inv-loop2 μ-loop2 Inv-loop3 μ-loop3 Inv-loop μ-loop
 loop-less c = omega (arith, c .before .before .before .before .loop-test .taken)
 
-loop-again : tie.Need-loop-again Inv-loop2 μ-loop2 Inv-loop μ-loop
+loop-again : tie.Need-loop-again Inv-loop2 μ-loop2 Inv-loop3 μ-loop3 Inv-loop μ-loop
 loop-again c = not-read _ _ _ _ _ _ (c .before .before .before .before .before .loop .inv) (c .before .before .before .before .loop-test .taken) _ (read-from _ _ _ _ (c .before .before .before .record-at .ensures)) _ (c .before .enum-told .given .1) _ (c .answer-of .ensures)
 
-enum-known-e : tie.Need-enum-known-e Inv-loop2 μ-loop2 Inv-loop μ-loop
+enum-known-e : tie.Need-enum-known-e Inv-loop2 μ-loop2 Inv-loop3 μ-loop3 Inv-loop μ-loop
 enum-known-e c = search needs
 
-lock-question-requires : tie.Need-lock-question-requires Inv-loop2 μ-loop2 Inv-loop μ-loop
+lock-question-requires : tie.Need-lock-question-requires Inv-loop2 μ-loop2 Inv-loop3 μ-loop3 Inv-loop μ-loop
 lock-question-requires c κs = search needs
 
-slice-write-answers-2 : tie.Need-slice-write-answers-2 Inv-loop2 μ-loop2 Inv-loop μ-loop
+slice-write-answers-2 : tie.Need-slice-write-answers-2 Inv-loop2 μ-loop2 Inv-loop3 μ-loop3 Inv-loop μ-loop
 slice-write-answers-2 c = search needs
 
-add-k-2 : tie.Need-add-k-2 Inv-loop2 μ-loop2 Inv-loop μ-loop
+add-k-2 : tie.Need-add-k-2 Inv-loop2 μ-loop2 Inv-loop3 μ-loop3 Inv-loop μ-loop
 add-k-2 c = search needs
 
-loop-less-2 : tie.Need-loop-less-2 Inv-loop2 μ-loop2 Inv-loop μ-loop
+loop-less-2 : tie.Need-loop-less-2 Inv-loop2 μ-loop2 Inv-loop3 μ-loop3 Inv-loop μ-loop
 loop-less-2 c = omega (arith, c .before .before .before .before .before .before .before .before .before .loop-test .taken)
 
-loop-again-2 : tie.Need-loop-again-2 Inv-loop2 μ-loop2 Inv-loop μ-loop
+loop-again-2 : tie.Need-loop-again-2 Inv-loop2 μ-loop2 Inv-loop3 μ-loop3 Inv-loop μ-loop
 unfolding freshStation fresh unsentAll
 loop-again-2 c =
-    lock-refused _ _ _ _ _ _ _ _ _ _ (record { upto = c .before .before .before .before .before .before .before .before .before .before .loop .inv; more = c .before .before .before .before .before .before .before .before .before .loop-test .taken; record-read = c .before .before .before .before .before .before .before .before .record-at .result; piece-read = read-from _ _ _ _ (c .before .before .before .before .before .before .before .before .record-at .ensures); event = c .before .before .before .before .before .before .r .given .1 ∙ ap Read (c .before .before .before .e .given .1) }) (c .before .lock-question .ensures) (c .if2 .taken)
+    lock-refused _ _ _ _ _ _ _ _ _ _ _ _ (record { upto = c .before .before .before .before .before .before .before .before .before .before .loop .inv; more = c .before .before .before .before .before .before .before .before .before .loop-test .taken; record-read = c .before .before .before .before .before .before .before .before .record-at .result; piece-read = read-from _ _ _ _ (c .before .before .before .before .before .before .before .before .record-at .ensures); event = c .before .before .before .before .before .before .r .given .1 ∙ ap Read (c .before .before .before .e .given .1) }) (c .before .lock-question .ensures false) (c .if2 .taken)
 
-locked-requires : tie.Need-locked-requires Inv-loop2 μ-loop2 Inv-loop μ-loop
+locked-requires : tie.Need-locked-requires Inv-loop2 μ-loop2 Inv-loop3 μ-loop3 Inv-loop μ-loop
 locked-requires c κs = search needs
 
-loop-less-3 : tie.Need-loop-less-3 Inv-loop2 μ-loop2 Inv-loop μ-loop
+loop-less-3 : tie.Need-loop-less-3 Inv-loop2 μ-loop2 Inv-loop3 μ-loop3 Inv-loop μ-loop
 loop-less-3 c = omega (arith, c .before .before .before .before .before .before .before .before .before .before .loop-test .taken)
 
-loop-again-3 : tie.Need-loop-again-3 Inv-loop2 μ-loop2 Inv-loop μ-loop
+loop-again-3 : tie.Need-loop-again-3 Inv-loop2 μ-loop2 Inv-loop3 μ-loop3 Inv-loop μ-loop
 unfolding freshStation fresh unsentAll
 loop-again-3 c =
-    lock-accepted _ _ _ _ _ _ _ _ _ _ (record { upto = c .before .before .before .before .before .before .before .before .before .before .before .loop .inv; more = c .before .before .before .before .before .before .before .before .before .before .loop-test .taken; record-read = c .before .before .before .before .before .before .before .before .before .record-at .result; piece-read = read-from _ _ _ _ (c .before .before .before .before .before .before .before .before .before .record-at .ensures); event = c .before .before .before .before .before .before .before .r .given .1 ∙ ap Read (c .before .before .before .before .e .given .1) }) (c .before .before .lock-question .ensures) (c .before .if2 .left) _ (c .locked .ensures)
+    lock-accepted _ _ _ _ _ _ _ _ _ _ _ _ (record { upto = c .before .before .before .before .before .before .before .before .before .before .before .loop .inv; more = c .before .before .before .before .before .before .before .before .before .before .loop-test .taken; record-read = c .before .before .before .before .before .before .before .before .before .record-at .result; piece-read = read-from _ _ _ _ (c .before .before .before .before .before .before .before .before .before .record-at .ensures); event = c .before .before .before .before .before .before .before .r .given .1 ∙ ap Read (c .before .before .before .before .e .given .1) }) (c .before .before .lock-question .ensures false) (c .before .if2 .left) _ (c .locked .ensures)
 
-enum-known-e-2 : tie.Need-enum-known-e-2 Inv-loop2 μ-loop2 Inv-loop μ-loop
+enum-known-e-2 : tie.Need-enum-known-e-2 Inv-loop2 μ-loop2 Inv-loop3 μ-loop3 Inv-loop μ-loop
 enum-known-e-2 c = search needs
 
-may-open-requires : tie.Need-may-open-requires Inv-loop2 μ-loop2 Inv-loop μ-loop
+may-open-requires : tie.Need-may-open-requires Inv-loop2 μ-loop2 Inv-loop3 μ-loop3 Inv-loop μ-loop
 may-open-requires c κs = search needs
 
-order-question-requires : tie.Need-order-question-requires Inv-loop2 μ-loop2 Inv-loop μ-loop
+order-question-requires : tie.Need-order-question-requires Inv-loop2 μ-loop2 Inv-loop3 μ-loop3 Inv-loop μ-loop
 order-question-requires c κs = search needs
 
-slice-write-answers-3 : tie.Need-slice-write-answers-3 Inv-loop2 μ-loop2 Inv-loop μ-loop
+slice-write-answers-3 : tie.Need-slice-write-answers-3 Inv-loop2 μ-loop2 Inv-loop3 μ-loop3 Inv-loop μ-loop
 slice-write-answers-3 c = search needs
 
-add-k-3 : tie.Need-add-k-3 Inv-loop2 μ-loop2 Inv-loop μ-loop
+add-k-3 : tie.Need-add-k-3 Inv-loop2 μ-loop2 Inv-loop3 μ-loop3 Inv-loop μ-loop
 add-k-3 c = search needs
 
-loop-less-4 : tie.Need-loop-less-4 Inv-loop2 μ-loop2 Inv-loop μ-loop
+loop-less-4 : tie.Need-loop-less-4 Inv-loop2 μ-loop2 Inv-loop3 μ-loop3 Inv-loop μ-loop
 loop-less-4 c = omega (arith, c .before .before .before .before .before .before .before .before .before .before .loop-test .taken)
 
-loop-again-4 : tie.Need-loop-again-4 Inv-loop2 μ-loop2 Inv-loop μ-loop
+loop-again-4 : tie.Need-loop-again-4 Inv-loop2 μ-loop2 Inv-loop3 μ-loop3 Inv-loop μ-loop
 unfolding freshStation fresh unsentAll
 loop-again-4 c =
-    order-refused _ _ _ _ _ _ _ _ _ (record { upto = c .before .before .before .before .before .before .before .before .before .before .before .loop .inv; more = c .before .before .before .before .before .before .before .before .before .before .loop-test .taken; record-read = c .before .before .before .before .before .before .before .before .before .record-at .result; piece-read = read-from _ _ _ _ (c .before .before .before .before .before .before .before .before .before .record-at .ensures); event = c .before .before .before .before .before .before .before .r .given .1 ∙ ap Read (c .before .before .before .before .e2 .given .1) }) _ (c .before .before .may-open .ensures) (c .before .order-question .ensures) (c .if3 .taken)
+    order-refused _ _ _ _ _ _ _ _ _ _ (record { upto = c .before .before .before .before .before .before .before .before .before .before .before .loop .inv; more = c .before .before .before .before .before .before .before .before .before .before .loop-test .taken; record-read = c .before .before .before .before .before .before .before .before .before .record-at .result; piece-read = read-from _ _ _ _ (c .before .before .before .before .before .before .before .before .before .record-at .ensures); event = c .before .before .before .before .before .before .before .r .given .1 ∙ ap Read (c .before .before .before .before .e2 .given .1) }) _ (c .before .before .may-open .ensures) (c .before .order-question .ensures) (c .if3 .taken)
 
-order-opened-requires : tie.Need-order-opened-requires Inv-loop2 μ-loop2 Inv-loop μ-loop
+order-opened-requires : tie.Need-order-opened-requires Inv-loop2 μ-loop2 Inv-loop3 μ-loop3 Inv-loop μ-loop
 order-opened-requires c κs = search needs
 
-up-to-limit-requires : tie.Need-up-to-limit-requires Inv-loop2 μ-loop2 Inv-loop μ-loop
+up-to-limit-requires : tie.Need-up-to-limit-requires Inv-loop2 μ-loop2 Inv-loop3 μ-loop3 Inv-loop μ-loop
 up-to-limit-requires c κs = search needs
 
-cast-end : tie.Need-cast-end Inv-loop2 μ-loop2 Inv-loop μ-loop
+cast-end : tie.Need-cast-end Inv-loop2 μ-loop2 Inv-loop3 μ-loop3 Inv-loop μ-loop
 cast-end c = search needs
 
-loop2-holds : tie.Need-loop2-holds Inv-loop2 μ-loop2 Inv-loop μ-loop
+loop2-holds : tie.Need-loop2-holds Inv-loop2 μ-loop2 Inv-loop3 μ-loop3 Inv-loop μ-loop
 loop2-holds c = (omega arith, all-stations _ _ (c .before .before .before .before .before .before .before .before .before .before .before .before .before .loop .inv .bench), first-none renewed _)
 
-loop-less-5 : tie.Need-loop-less-5 Inv-loop2 μ-loop2 Inv-loop μ-loop
-loop-less-5 c = omega (arith, c .before .before .before .before .before .before .before .before .before .before .before .before .before .before .loop-test .taken)
-
-loop-again-5 : tie.Need-loop-again-5 Inv-loop2 μ-loop2 Inv-loop μ-loop
-unfolding freshStation fresh unsentAll
-loop-again-5 c =
-    let i = c .before .loop2 .inv in
-    let all : c .before .loop2 .i ≡ min (c .before .before .before .before .before .before .before .before .before .before .before .before .before .before .before .loop .m .n) (length (c .before .before .before .before .before .before .before .before .before .before .before .before .before .before .before .loop .stations)) = order-size _ (c .before .before .before .before .before .before .before .before .before .before .before .before .before .before .before .loop .stations) _ _ (c .before .before .before .order-opened .ensures) _ _ (c .before .before .up-to-limit .ensures) (i .1) (omega (arith, i .0, c .loop2-test .left)) in
-    order-accepted _ _ _ _ _ _ _ _ _ (record { upto = c .before .before .before .before .before .before .before .before .before .before .before .before .before .before .before .loop .inv; more = c .before .before .before .before .before .before .before .before .before .before .before .before .before .before .loop-test .taken; record-read = c .before .before .before .before .before .before .before .before .before .before .before .before .before .record-at .result; piece-read = read-from _ _ _ _ (c .before .before .before .before .before .before .before .before .before .before .before .before .before .record-at .ensures); event = c .before .before .before .before .before .before .before .before .before .before .before .r .given .1 ∙ ap Read (c .before .before .before .before .before .before .before .before .e2 .given .1) }) _ (c .before .before .before .before .before .before .may-open .ensures) (c .before .before .before .before .before .order-question .ensures) (c .before .before .before .before .if3 .left) _ (c .before .before .before .order-opened .ensures) _ (i .2 ∙ first-all renewed (c .before .before .before .before .before .before .before .before .before .before .before .before .before .before .before .loop .m .n) (c .before .loop2 .i) (c .before .before .before .before .before .before .before .before .before .before .before .before .before .before .before .loop .stations) all)
-
-mul-renewed : tie.Need-mul-renewed Inv-loop2 μ-loop2 Inv-loop μ-loop
+mul-renewed : tie.Need-mul-renewed Inv-loop2 μ-loop2 Inv-loop3 μ-loop3 Inv-loop μ-loop
 mul-renewed c = search needs
 
-array-copy-out-renewed : tie.Need-array-copy-out-renewed Inv-loop2 μ-loop2 Inv-loop μ-loop
+array-copy-out-renewed : tie.Need-array-copy-out-renewed Inv-loop2 μ-loop2 Inv-loop3 μ-loop3 Inv-loop μ-loop
 array-copy-out-renewed c = search needs
 
-renewed-requires : tie.Need-renewed-requires Inv-loop2 μ-loop2 Inv-loop μ-loop
+renewed-requires : tie.Need-renewed-requires Inv-loop2 μ-loop2 Inv-loop3 μ-loop3 Inv-loop μ-loop
 renewed-requires c κs = search needs
 
-mul-stations : tie.Need-mul-stations Inv-loop2 μ-loop2 Inv-loop μ-loop
+mul-stations : tie.Need-mul-stations Inv-loop2 μ-loop2 Inv-loop3 μ-loop3 Inv-loop μ-loop
 mul-stations c = search needs
 
-array-set-from-stations : tie.Need-array-set-from-stations Inv-loop2 μ-loop2 Inv-loop μ-loop
+array-set-from-stations : tie.Need-array-set-from-stations Inv-loop2 μ-loop2 Inv-loop3 μ-loop3 Inv-loop μ-loop
 array-set-from-stations c = search needs
 
-add-i : tie.Need-add-i Inv-loop2 μ-loop2 Inv-loop μ-loop
+add-i : tie.Need-add-i Inv-loop2 μ-loop2 Inv-loop3 μ-loop3 Inv-loop μ-loop
 add-i c = search needs
 
-loop2-less : tie.Need-loop2-less Inv-loop2 μ-loop2 Inv-loop μ-loop
+loop2-less : tie.Need-loop2-less Inv-loop2 μ-loop2 Inv-loop3 μ-loop3 Inv-loop μ-loop
 loop2-less c = search needs
 
-loop2-again : tie.Need-loop2-again Inv-loop2 μ-loop2 Inv-loop μ-loop
+loop2-again : tie.Need-loop2-again Inv-loop2 μ-loop2 Inv-loop3 μ-loop3 Inv-loop μ-loop
 unfolding freshStation fresh unsentAll
 loop2-again c =
     let i = c .before .before .before .loop2 .inv in
     (omega arith, i .1, ap (λ (x : List Station). set x (c .before .before .before .loop2 .i) (c .renewed .result)) (i .2) ∙ ap (set (mapFirst renewed (c .before .before .before .loop2 .i) (c .before .before .before .before .before .before .before .before .before .before .before .before .before .before .before .before .before .loop .stations)) (c .before .before .before .loop2 .i)) (c .renewed .ensures ∙ ap (λ (x : List Station). renewed (getD x (c .before .before .before .loop2 .i) (freshStation []))) (i .2)) ∙ first-more renewed (c .before .before .before .loop2 .i) (c .before .before .before .before .before .before .before .before .before .before .before .before .before .before .before .before .before .loop .stations) (freshStation []) (omega (arith, i .1, i .0)))
 
-enum-known-e-3 : tie.Need-enum-known-e-3 Inv-loop2 μ-loop2 Inv-loop μ-loop
+loop-less-5 : tie.Need-loop-less-5 Inv-loop2 μ-loop2 Inv-loop3 μ-loop3 Inv-loop μ-loop
+loop-less-5 c = omega (arith, c .before .before .before .before .before .before .before .before .before .before .before .before .before .before .before .before .loop-test .taken)
+
+loop-again-5 : tie.Need-loop-again-5 Inv-loop2 μ-loop2 Inv-loop3 μ-loop3 Inv-loop μ-loop
+unfolding freshStation fresh unsentAll newRow
+loop-again-5 c =
+    let i = c .before .before .before .loop2 .inv in
+    let all : c .before .before .before .loop2 .i ≡ min (c .before .before .before .before .before .before .before .before .before .before .before .before .before .before .before .before .before .loop .m .n) (length (c .before .before .before .before .before .before .before .before .before .before .before .before .before .before .before .before .before .loop .stations)) = order-size _ (c .before .before .before .before .before .before .before .before .before .before .before .before .before .before .before .before .before .loop .stations) _ _ (c .before .before .before .before .before .order-opened .ensures) _ _ (c .before .before .before .before .up-to-limit .ensures) (i .1) (omega (arith, i .0, c .before .before .loop2-test .left)) in
+    order-quiet _ _ _ _ _ _ _ _ _ _ (record { upto = c .before .before .before .before .before .before .before .before .before .before .before .before .before .before .before .before .before .loop .inv; more = c .before .before .before .before .before .before .before .before .before .before .before .before .before .before .before .before .loop-test .taken; record-read = c .before .before .before .before .before .before .before .before .before .before .before .before .before .before .before .record-at .result; piece-read = read-from _ _ _ _ (c .before .before .before .before .before .before .before .before .before .before .before .before .before .before .before .record-at .ensures); event = c .before .before .before .before .before .before .before .before .before .before .before .before .before .r .given .1 ∙ ap Read (c .before .before .before .before .before .before .before .before .before .before .e2 .given .1) }) _ (c .before .before .before .before .before .before .before .before .may-open .ensures) (c .before .before .before .before .before .before .before .order-question .ensures) (c .before .before .before .before .before .before .if3 .left) _ (c .before .before .before .before .before .order-opened .ensures) (c .if4 .taken) _ (i .2 ∙ first-all renewed (c .before .before .before .before .before .before .before .before .before .before .before .before .before .before .before .before .before .loop .m .n) (c .before .before .before .loop2 .i) (c .before .before .before .before .before .before .before .before .before .before .before .before .before .before .before .before .before .loop .stations) all)
+
+new-acceptor-requires-2 : tie.Need-new-acceptor-requires-2 Inv-loop2 μ-loop2 Inv-loop3 μ-loop3 Inv-loop μ-loop
+new-acceptor-requires-2 c κs = search needs
+
+new-row-requires-2 : tie.Need-new-row-requires-2 Inv-loop2 μ-loop2 Inv-loop3 μ-loop3 Inv-loop μ-loop
+new-row-requires-2 c κs = search needs
+
+loop-less-6 : tie.Need-loop-less-6 Inv-loop2 μ-loop2 Inv-loop3 μ-loop3 Inv-loop μ-loop
+loop-less-6 c = omega (arith, c .before .before .before .before .before .before .before .before .before .before .before .before .before .before .before .before .before .before .loop-test .taken)
+
+loop-again-6 : tie.Need-loop-again-6 Inv-loop2 μ-loop2 Inv-loop3 μ-loop3 Inv-loop μ-loop
+unfolding freshStation fresh unsentAll newRow
+loop-again-6 c =
+    let i = c .before .before .before .before .before .loop2 .inv in
+    let all : c .before .before .before .before .before .loop2 .i ≡ min (c .before .before .before .before .before .before .before .before .before .before .before .before .before .before .before .before .before .before .before .loop .m .n) (length (c .before .before .before .before .before .before .before .before .before .before .before .before .before .before .before .before .before .before .before .loop .stations)) = order-size _ (c .before .before .before .before .before .before .before .before .before .before .before .before .before .before .before .before .before .before .before .loop .stations) _ _ (c .before .before .before .before .before .before .before .order-opened .ensures) _ _ (c .before .before .before .before .before .before .up-to-limit .ensures) (i .1) (omega (arith, i .0, c .before .before .before .before .loop2-test .left)) in
+    order-accepted _ _ _ _ _ _ _ _ _ _ (record { upto = c .before .before .before .before .before .before .before .before .before .before .before .before .before .before .before .before .before .before .before .loop .inv; more = c .before .before .before .before .before .before .before .before .before .before .before .before .before .before .before .before .before .before .loop-test .taken; record-read = c .before .before .before .before .before .before .before .before .before .before .before .before .before .before .before .before .before .record-at .result; piece-read = read-from _ _ _ _ (c .before .before .before .before .before .before .before .before .before .before .before .before .before .before .before .before .before .record-at .ensures); event = c .before .before .before .before .before .before .before .before .before .before .before .before .before .before .before .r .given .1 ∙ ap Read (c .before .before .before .before .before .before .before .before .before .before .before .before .e2 .given .1) }) _ (c .before .before .before .before .before .before .before .before .before .before .may-open .ensures) (c .before .before .before .before .before .before .before .before .before .order-question .ensures) (c .before .before .before .before .before .before .before .before .if3 .left) _ (c .before .before .before .before .before .before .before .order-opened .ensures) _ (i .2 ∙ first-all renewed (c .before .before .before .before .before .before .before .before .before .before .before .before .before .before .before .before .before .before .before .loop .m .n) (c .before .before .before .before .before .loop2 .i) (c .before .before .before .before .before .before .before .before .before .before .before .before .before .before .before .before .before .before .before .loop .stations) all) _ (new-ballots _ _ (c .before .new-acceptor2 .ensures) (c .new-row2 .ensures))
+
+enum-known-e-3 : tie.Need-enum-known-e-3 Inv-loop2 μ-loop2 Inv-loop3 μ-loop3 Inv-loop μ-loop
 enum-known-e-3 c = search needs
 
-seat-requires : tie.Need-seat-requires Inv-loop2 μ-loop2 Inv-loop μ-loop
+seat-requires : tie.Need-seat-requires Inv-loop2 μ-loop2 Inv-loop3 μ-loop3 Inv-loop μ-loop
 seat-requires c κs = search needs
 
-mul-condition-of : tie.Need-mul-condition-of Inv-loop2 μ-loop2 Inv-loop μ-loop
+mul-condition-of : tie.Need-mul-condition-of Inv-loop2 μ-loop2 Inv-loop3 μ-loop3 Inv-loop μ-loop
 mul-condition-of c = search needs
 
-array-copy-out-condition-of :
-    tie.Need-array-copy-out-condition-of Inv-loop2 μ-loop2 Inv-loop μ-loop
+array-copy-out-condition-of : tie.Need-array-copy-out-condition-of Inv-loop2 μ-loop2 Inv-loop3 μ-loop3 Inv-loop μ-loop
 array-copy-out-condition-of c = search needs
 
-condition-of-requires : tie.Need-condition-of-requires Inv-loop2 μ-loop2 Inv-loop μ-loop
+condition-of-requires : tie.Need-condition-of-requires Inv-loop2 μ-loop2 Inv-loop3 μ-loop3 Inv-loop μ-loop
 condition-of-requires c κs = search needs
 
-cast-question-requires : tie.Need-cast-question-requires Inv-loop2 μ-loop2 Inv-loop μ-loop
+cast-question-requires : tie.Need-cast-question-requires Inv-loop2 μ-loop2 Inv-loop3 μ-loop3 Inv-loop μ-loop
 cast-question-requires c κs = search needs
 
-slice-write-answers-4 : tie.Need-slice-write-answers-4 Inv-loop2 μ-loop2 Inv-loop μ-loop
+slice-write-answers-4 : tie.Need-slice-write-answers-4 Inv-loop2 μ-loop2 Inv-loop3 μ-loop3 Inv-loop μ-loop
 slice-write-answers-4 c = search needs
 
-add-k-4 : tie.Need-add-k-4 Inv-loop2 μ-loop2 Inv-loop μ-loop
+add-k-4 : tie.Need-add-k-4 Inv-loop2 μ-loop2 Inv-loop3 μ-loop3 Inv-loop μ-loop
 add-k-4 c = search needs
 
-loop-less-6 : tie.Need-loop-less-6 Inv-loop2 μ-loop2 Inv-loop μ-loop
-loop-less-6 c = omega (arith, c .before .before .before .before .before .before .before .before .before .before .before .before .loop-test .taken)
+loop-less-7 : tie.Need-loop-less-7 Inv-loop2 μ-loop2 Inv-loop3 μ-loop3 Inv-loop μ-loop
+loop-less-7 c = omega (arith, c .before .before .before .before .before .before .before .before .before .before .before .before .loop-test .taken)
 
-loop-again-6 : tie.Need-loop-again-6 Inv-loop2 μ-loop2 Inv-loop μ-loop
-unfolding freshStation fresh unsentAll
-loop-again-6 c =
-    cast-refused _ _ _ _ _ _ _ _ _ _ (c .before .before .before .before .seat .ensures) _ (c .before .before .condition-of .ensures) _ _
-    (record { upto = c .before .before .before .before .before .before .before .before .before .before .before .before .before .loop .inv; more = c .before .before .before .before .before .before .before .before .before .before .before .before .loop-test .taken; record-read = c .before .before .before .before .before .before .before .before .before .before .before .record-at .result; piece-read = read-from _ _ _ _ (c .before .before .before .before .before .before .before .before .before .before .before .record-at .ensures); event = c .before .before .before .before .before .before .before .before .before .r .given .1 ∙ ap Read (c .before .before .before .before .before .before .e3 .given .1) }) (c .before .cast-question .ensures true)
-    (c .if4 .taken)
-
-mul-cast-turn : tie.Need-mul-cast-turn Inv-loop2 μ-loop2 Inv-loop μ-loop
-mul-cast-turn c = search needs
-
-array-copy-out-cast-turn : tie.Need-array-copy-out-cast-turn Inv-loop2 μ-loop2 Inv-loop μ-loop
-array-copy-out-cast-turn c = search needs
-
-cast-turn-requires : tie.Need-cast-turn-requires Inv-loop2 μ-loop2 Inv-loop μ-loop
-cast-turn-requires c κs = search needs
-
-mul-stations-2 : tie.Need-mul-stations-2 Inv-loop2 μ-loop2 Inv-loop μ-loop
-mul-stations-2 c = omega (arith, c .before .before .before .before .before .before .seat .ensures .0)
-
-array-set-from-stations-2 : tie.Need-array-set-from-stations-2 Inv-loop2 μ-loop2 Inv-loop μ-loop
-array-set-from-stations-2 c = omega (arith, c .before .before .before .before .before .before .seat .ensures .0)
-
-loop-less-7 : tie.Need-loop-less-7 Inv-loop2 μ-loop2 Inv-loop μ-loop
-loop-less-7 c = omega (arith, c .before .before .before .before .before .before .before .before .before .before .before .before .before .before .loop-test .taken)
-
-loop-again-7 : tie.Need-loop-again-7 Inv-loop2 μ-loop2 Inv-loop μ-loop
+loop-again-7 : tie.Need-loop-again-7 Inv-loop2 μ-loop2 Inv-loop3 μ-loop3 Inv-loop μ-loop
 unfolding freshStation fresh unsentAll
 loop-again-7 c =
-    cast-accepted _ _ _ _ _ _ _ _ _ _ (c .before .before .before .before .before .before .seat .ensures) _ (c .before .before .before .before .condition-of .ensures) _ _
-    (record { upto = c .before .before .before .before .before .before .before .before .before .before .before .before .before .before .before .loop .inv; more = c .before .before .before .before .before .before .before .before .before .before .before .before .before .before .loop-test .taken; record-read = c .before .before .before .before .before .before .before .before .before .before .before .before .before .record-at .result; piece-read = read-from _ _ _ _ (c .before .before .before .before .before .before .before .before .before .before .before .before .before .record-at .ensures); event = c .before .before .before .before .before .before .before .before .before .before .before .r .given .1 ∙ ap Read (c .before .before .before .before .before .before .before .before .e3 .given .1) }) (c .before .before .before .cast-question .ensures true)
-    (c .before .before .if4 .left) _ (c .cast-turn .ensures)
-
-enum-known-e-4 : tie.Need-enum-known-e-4 Inv-loop2 μ-loop2 Inv-loop μ-loop
-enum-known-e-4 c = search needs
-
-seat-requires-2 : tie.Need-seat-requires-2 Inv-loop2 μ-loop2 Inv-loop μ-loop
-seat-requires-2 c κs = search needs
-
-seat-requires-3 : tie.Need-seat-requires-3 Inv-loop2 μ-loop2 Inv-loop μ-loop
-seat-requires-3 c κs = search needs
-
-mul-outgoing : tie.Need-mul-outgoing Inv-loop2 μ-loop2 Inv-loop μ-loop
-mul-outgoing c = search needs
-
-array-copy-out-outgoing : tie.Need-array-copy-out-outgoing Inv-loop2 μ-loop2 Inv-loop μ-loop
-array-copy-out-outgoing c = search needs
-
-outgoing-requires : tie.Need-outgoing-requires Inv-loop2 μ-loop2 Inv-loop μ-loop
-outgoing-requires c κs = search needs
-
-mul-condition-of-2 : tie.Need-mul-condition-of-2 Inv-loop2 μ-loop2 Inv-loop μ-loop
-mul-condition-of-2 c = search needs
-
-array-copy-out-condition-of-2 :
-    tie.Need-array-copy-out-condition-of-2 Inv-loop2 μ-loop2 Inv-loop μ-loop
-array-copy-out-condition-of-2 c = search needs
-
-condition-of-requires-2 : tie.Need-condition-of-requires-2 Inv-loop2 μ-loop2 Inv-loop μ-loop
-condition-of-requires-2 c κs = search needs
-
-deliver-question-requires : tie.Need-deliver-question-requires Inv-loop2 μ-loop2 Inv-loop μ-loop
-deliver-question-requires c κs = search needs
-
-slice-write-answers-5 : tie.Need-slice-write-answers-5 Inv-loop2 μ-loop2 Inv-loop μ-loop
-slice-write-answers-5 c = search needs
-
-add-k-5 : tie.Need-add-k-5 Inv-loop2 μ-loop2 Inv-loop μ-loop
-add-k-5 c = search needs
-
-loop-less-8 : tie.Need-loop-less-8 Inv-loop2 μ-loop2 Inv-loop μ-loop
-loop-less-8 c = omega (arith, c .before .before .before .before .before .before .before .before .before .before .before .before .before .before .before .loop-test .taken)
-
-loop-again-8 : tie.Need-loop-again-8 Inv-loop2 μ-loop2 Inv-loop μ-loop
-unfolding freshStation fresh unsentAll
-loop-again-8 c =
-    delivery-refused _ _ _ _ _ _ _ _ _ _ (c .before .before .before .before .before .before .before .seat2 .ensures) _ (c .before .before .condition-of2 .ensures) _ _ (c .before .before .before .before .before .before .seat3 .ensures) _ _ (c .before .before .before .before .outgoing .ensures)
-    (record { upto = c .before .before .before .before .before .before .before .before .before .before .before .before .before .before .before .before .loop .inv; more = c .before .before .before .before .before .before .before .before .before .before .before .before .before .before .before .loop-test .taken; record-read = c .before .before .before .before .before .before .before .before .before .before .before .before .before .before .record-at .result; piece-read = read-from _ _ _ _ (c .before .before .before .before .before .before .before .before .before .before .before .before .before .before .record-at .ensures); event = c .before .before .before .before .before .before .before .before .before .before .before .before .r .given .1 ∙ ap Read (c .before .before .before .before .before .before .before .before .before .e4 .given .1) }) (c .before .deliver-question .ensures)
+    cast-refused _ _ _ _ _ _ _ _ _ _ _ (c .before .before .before .before .seat .ensures) _ (c .before .before .condition-of .ensures) _ _
+    (record { upto = c .before .before .before .before .before .before .before .before .before .before .before .before .before .loop .inv; more = c .before .before .before .before .before .before .before .before .before .before .before .before .loop-test .taken; record-read = c .before .before .before .before .before .before .before .before .before .before .before .record-at .result; piece-read = read-from _ _ _ _ (c .before .before .before .before .before .before .before .before .before .before .before .record-at .ensures); event = c .before .before .before .before .before .before .before .before .before .r .given .1 ∙ ap Read (c .before .before .before .before .before .before .e3 .given .1) }) (c .before .cast-question .ensures true)
     (c .if5 .taken)
 
-enum-told-2 : tie.Need-enum-told-2 Inv-loop2 μ-loop2 Inv-loop μ-loop
-enum-told-2 c = search needs
+mul-cast-turn : tie.Need-mul-cast-turn Inv-loop2 μ-loop2 Inv-loop3 μ-loop3 Inv-loop μ-loop
+mul-cast-turn c = search needs
 
-mul-t124 : tie.Need-mul-t124 Inv-loop2 μ-loop2 Inv-loop μ-loop
-mul-t124 c = search needs
+array-copy-out-cast-turn : tie.Need-array-copy-out-cast-turn Inv-loop2 μ-loop2 Inv-loop3 μ-loop3 Inv-loop μ-loop
+array-copy-out-cast-turn c = search needs
 
-element-copy-out-t127 : tie.Need-element-copy-out-t127 Inv-loop2 μ-loop2 Inv-loop μ-loop
-element-copy-out-t127 c = search needs
+cast-turn-requires : tie.Need-cast-turn-requires Inv-loop2 μ-loop2 Inv-loop3 μ-loop3 Inv-loop μ-loop
+cast-turn-requires c κs = search needs
 
-mul-t128 : tie.Need-mul-t128 Inv-loop2 μ-loop2 Inv-loop μ-loop
-mul-t128 c = search needs
+mul-stations-2 : tie.Need-mul-stations-2 Inv-loop2 μ-loop2 Inv-loop3 μ-loop3 Inv-loop μ-loop
+mul-stations-2 c = omega (arith, c .before .before .before .before .before .before .seat .ensures .0)
 
-element-copy-out-t131 : tie.Need-element-copy-out-t131 Inv-loop2 μ-loop2 Inv-loop μ-loop
-element-copy-out-t131 c = search needs
+array-set-from-stations-2 : tie.Need-array-set-from-stations-2 Inv-loop2 μ-loop2 Inv-loop3 μ-loop3 Inv-loop μ-loop
+array-set-from-stations-2 c = omega (arith, c .before .before .before .before .before .before .seat .ensures .0)
 
-mul-vote-turn : tie.Need-mul-vote-turn Inv-loop2 μ-loop2 Inv-loop μ-loop
-mul-vote-turn c = search needs
+loop-less-8 : tie.Need-loop-less-8 Inv-loop2 μ-loop2 Inv-loop3 μ-loop3 Inv-loop μ-loop
+loop-less-8 c = omega (arith, c .before .before .before .before .before .before .before .before .before .before .before .before .before .before .loop-test .taken)
 
-array-copy-out-vote-turn : tie.Need-array-copy-out-vote-turn Inv-loop2 μ-loop2 Inv-loop μ-loop
-array-copy-out-vote-turn c = search needs
+loop-again-8 : tie.Need-loop-again-8 Inv-loop2 μ-loop2 Inv-loop3 μ-loop3 Inv-loop μ-loop
+unfolding freshStation fresh unsentAll
+loop-again-8 c =
+    cast-accepted _ _ _ _ _ _ _ _ _ _ _ (c .before .before .before .before .before .before .seat .ensures) _ (c .before .before .before .before .condition-of .ensures) _ _
+    (record { upto = c .before .before .before .before .before .before .before .before .before .before .before .before .before .before .before .loop .inv; more = c .before .before .before .before .before .before .before .before .before .before .before .before .before .before .loop-test .taken; record-read = c .before .before .before .before .before .before .before .before .before .before .before .before .before .record-at .result; piece-read = read-from _ _ _ _ (c .before .before .before .before .before .before .before .before .before .before .before .before .before .record-at .ensures); event = c .before .before .before .before .before .before .before .before .before .before .before .r .given .1 ∙ ap Read (c .before .before .before .before .before .before .before .before .e3 .given .1) }) (c .before .before .before .cast-question .ensures true)
+    (c .before .before .if5 .left) _ (c .cast-turn .ensures)
 
-vote-turn-requires : tie.Need-vote-turn-requires Inv-loop2 μ-loop2 Inv-loop μ-loop
-vote-turn-requires c κs = search needs
+enum-known-e-4 : tie.Need-enum-known-e-4 Inv-loop2 μ-loop2 Inv-loop3 μ-loop3 Inv-loop μ-loop
+enum-known-e-4 c = search needs
 
-mul-stations-3 : tie.Need-mul-stations-3 Inv-loop2 μ-loop2 Inv-loop μ-loop
-mul-stations-3 c = omega (arith, c .before .before .before .before .before .before .before .before .before .before .before .seat2 .ensures .0)
+seat-requires-2 : tie.Need-seat-requires-2 Inv-loop2 μ-loop2 Inv-loop3 μ-loop3 Inv-loop μ-loop
+seat-requires-2 c κs = search needs
 
-array-set-from-stations-3 : tie.Need-array-set-from-stations-3 Inv-loop2 μ-loop2 Inv-loop μ-loop
-array-set-from-stations-3 c = omega (arith, c .before .before .before .before .before .before .before .before .before .before .before .seat2 .ensures .0)
+seat-requires-3 : tie.Need-seat-requires-3 Inv-loop2 μ-loop2 Inv-loop3 μ-loop3 Inv-loop μ-loop
+seat-requires-3 c κs = search needs
 
-loop-less-9 : tie.Need-loop-less-9 Inv-loop2 μ-loop2 Inv-loop μ-loop
-loop-less-9 c = omega (arith, c .before .before .before .before .before .before .before .before .before .before .before .before .before .before .before .before .before .before .before .loop-test .taken)
+mul-outgoing : tie.Need-mul-outgoing Inv-loop2 μ-loop2 Inv-loop3 μ-loop3 Inv-loop μ-loop
+mul-outgoing c = search needs
 
-loop-again-9 : tie.Need-loop-again-9 Inv-loop2 μ-loop2 Inv-loop μ-loop
+array-copy-out-outgoing : tie.Need-array-copy-out-outgoing Inv-loop2 μ-loop2 Inv-loop3 μ-loop3 Inv-loop μ-loop
+array-copy-out-outgoing c = search needs
+
+outgoing-requires : tie.Need-outgoing-requires Inv-loop2 μ-loop2 Inv-loop3 μ-loop3 Inv-loop μ-loop
+outgoing-requires c κs = search needs
+
+mul-condition-of-2 : tie.Need-mul-condition-of-2 Inv-loop2 μ-loop2 Inv-loop3 μ-loop3 Inv-loop μ-loop
+mul-condition-of-2 c = search needs
+
+array-copy-out-condition-of-2 : tie.Need-array-copy-out-condition-of-2 Inv-loop2 μ-loop2 Inv-loop3 μ-loop3 Inv-loop μ-loop
+array-copy-out-condition-of-2 c = search needs
+
+condition-of-requires-2 : tie.Need-condition-of-requires-2 Inv-loop2 μ-loop2 Inv-loop3 μ-loop3 Inv-loop μ-loop
+condition-of-requires-2 c κs = search needs
+
+deliver-question-requires : tie.Need-deliver-question-requires Inv-loop2 μ-loop2 Inv-loop3 μ-loop3 Inv-loop μ-loop
+deliver-question-requires c κs = search needs
+
+slice-write-answers-5 : tie.Need-slice-write-answers-5 Inv-loop2 μ-loop2 Inv-loop3 μ-loop3 Inv-loop μ-loop
+slice-write-answers-5 c = search needs
+
+add-k-5 : tie.Need-add-k-5 Inv-loop2 μ-loop2 Inv-loop3 μ-loop3 Inv-loop μ-loop
+add-k-5 c =
+    let a = c .before .before .before .before .before .before .before .before .before .before .before .before .before .before .before .before .before .before .before .before .before .before .before .before in
+    let p = place-within (a .args .s .now) (a .args .from) (c .before .before .before .before .before .before .before .before .before .before .before .before .before .before .before .before .before .before .before .before .before .count-from .result) (c .before .before .before .before .before .before .before .before .before .before .before .before .before .before .before .loop .k) (c .before .before .before .before .before .before .before .before .before .before .before .before .before .before .before .loop .inv .whole) (c .before .before .before .before .before .before .before .before .before .before .before .before .before .before .loop-test .taken) in
+    omega (arith, p, a .good .0 .0)
+
+loop-less-9 : tie.Need-loop-less-9 Inv-loop2 μ-loop2 Inv-loop3 μ-loop3 Inv-loop μ-loop
+loop-less-9 c = omega (arith, c .before .before .before .before .before .before .before .before .before .before .before .before .before .before .before .loop-test .taken)
+
+loop-again-9 : tie.Need-loop-again-9 Inv-loop2 μ-loop2 Inv-loop3 μ-loop3 Inv-loop μ-loop
 unfolding freshStation fresh unsentAll
 loop-again-9 c =
-    vote-accepted _ _ _ _ _ _ _ _ _ _ (c .before .before .before .before .before .before .before .before .before .before .before .seat2 .ensures) _ (c .before .before .before .before .before .before .condition-of2 .ensures) _ _ (c .before .before .before .before .before .before .before .before .before .before .seat3 .ensures) _ _ (c .before .before .before .before .before .before .before .before .outgoing .ensures)
-    (record { upto = c .before .before .before .before .before .before .before .before .before .before .before .before .before .before .before .before .before .before .before .before .loop .inv; more = c .before .before .before .before .before .before .before .before .before .before .before .before .before .before .before .before .before .before .before .loop-test .taken; record-read = c .before .before .before .before .before .before .before .before .before .before .before .before .before .before .before .before .before .before .record-at .result; piece-read = read-from _ _ _ _ (c .before .before .before .before .before .before .before .before .before .before .before .before .before .before .before .before .before .before .record-at .ensures); event = c .before .before .before .before .before .before .before .before .before .before .before .before .before .before .before .before .r .given .1 ∙ ap Read (c .before .before .before .before .before .before .before .before .before .before .before .before .before .e4 .given .1) }) (c .before .before .before .before .before .deliver-question .ensures)
-    (c .before .before .enum-told2 .given .1) (c .before .before .before .before .if5 .left) _ (c .vote-turn .ensures)
+    delivery-refused _ _ _ _ _ _ _ _ _ _ _ (c .before .before .before .before .before .before .before .seat2 .ensures) _ (c .before .before .condition-of2 .ensures) _ _ (c .before .before .before .before .before .before .seat3 .ensures) _ _ (c .before .before .before .before .outgoing .ensures)
+    (record { upto = c .before .before .before .before .before .before .before .before .before .before .before .before .before .before .before .before .loop .inv; more = c .before .before .before .before .before .before .before .before .before .before .before .before .before .before .before .loop-test .taken; record-read = c .before .before .before .before .before .before .before .before .before .before .before .before .before .before .record-at .result; piece-read = read-from _ _ _ _ (c .before .before .before .before .before .before .before .before .before .before .before .before .before .before .record-at .ensures); event = c .before .before .before .before .before .before .before .before .before .before .before .before .r .given .1 ∙ ap Read (c .before .before .before .before .before .before .before .before .before .e4 .given .1) }) (c .before .deliver-question .ensures)
+    (c .if6 .taken)
 
-enum-told-3 : tie.Need-enum-told-3 Inv-loop2 μ-loop2 Inv-loop μ-loop
-enum-told-3 c = search needs
+enum-told-2 : tie.Need-enum-told-2 Inv-loop2 μ-loop2 Inv-loop3 μ-loop3 Inv-loop μ-loop
+enum-told-2 c = search needs
 
-mul-condition-of-3 : tie.Need-mul-condition-of-3 Inv-loop2 μ-loop2 Inv-loop μ-loop
-mul-condition-of-3 c = search needs
+mul-t147 : tie.Need-mul-t147 Inv-loop2 μ-loop2 Inv-loop3 μ-loop3 Inv-loop μ-loop
+mul-t147 c = search needs
 
-array-copy-out-condition-of-3 :
-    tie.Need-array-copy-out-condition-of-3 Inv-loop2 μ-loop2 Inv-loop μ-loop
-array-copy-out-condition-of-3 c = search needs
+element-copy-out-t150 : tie.Need-element-copy-out-t150 Inv-loop2 μ-loop2 Inv-loop3 μ-loop3 Inv-loop μ-loop
+element-copy-out-t150 c = search needs
 
-condition-of-requires-3 : tie.Need-condition-of-requires-3 Inv-loop2 μ-loop2 Inv-loop μ-loop
-condition-of-requires-3 c κs = search needs
+mul-t151 : tie.Need-mul-t151 Inv-loop2 μ-loop2 Inv-loop3 μ-loop3 Inv-loop μ-loop
+mul-t151 c = search needs
 
-mul-from : tie.Need-mul-from Inv-loop2 μ-loop2 Inv-loop μ-loop
-mul-from c = search needs
+element-copy-out-t154 : tie.Need-element-copy-out-t154 Inv-loop2 μ-loop2 Inv-loop3 μ-loop3 Inv-loop μ-loop
+element-copy-out-t154 c = search needs
 
-element-copy-out-from : tie.Need-element-copy-out-from Inv-loop2 μ-loop2 Inv-loop μ-loop
-element-copy-out-from c = search needs
+mul-vote-turn : tie.Need-mul-vote-turn Inv-loop2 μ-loop2 Inv-loop3 μ-loop3 Inv-loop μ-loop
+mul-vote-turn c = search needs
 
-mul-waiting : tie.Need-mul-waiting Inv-loop2 μ-loop2 Inv-loop μ-loop
-mul-waiting c = search needs
+array-copy-out-vote-turn : tie.Need-array-copy-out-vote-turn Inv-loop2 μ-loop2 Inv-loop3 μ-loop3 Inv-loop μ-loop
+array-copy-out-vote-turn c = search needs
 
-element-copy-out-waiting : tie.Need-element-copy-out-waiting Inv-loop2 μ-loop2 Inv-loop μ-loop
-element-copy-out-waiting c = search needs
+vote-turn-requires : tie.Need-vote-turn-requires Inv-loop2 μ-loop2 Inv-loop3 μ-loop3 Inv-loop μ-loop
+vote-turn-requires c κs = search needs
 
-takes-ack-requires : tie.Need-takes-ack-requires Inv-loop2 μ-loop2 Inv-loop μ-loop
-takes-ack-requires c κs = search needs
+mul-stations-3 : tie.Need-mul-stations-3 Inv-loop2 μ-loop2 Inv-loop3 μ-loop3 Inv-loop μ-loop
+mul-stations-3 c = omega (arith, c .before .before .before .before .before .before .before .before .before .before .before .seat2 .ensures .0)
 
-loop-less-10 : tie.Need-loop-less-10 Inv-loop2 μ-loop2 Inv-loop μ-loop
-loop-less-10 c = omega (arith, c .before .before .before .before .before .before .before .before .before .before .before .before .before .before .before .before .before .before .before .before .before .loop-test .taken)
+array-set-from-stations-3 : tie.Need-array-set-from-stations-3 Inv-loop2 μ-loop2 Inv-loop3 μ-loop3 Inv-loop μ-loop
+array-set-from-stations-3 c = omega (arith, c .before .before .before .before .before .before .before .before .before .before .before .seat2 .ensures .0)
 
-loop-again-10 : tie.Need-loop-again-10 Inv-loop2 μ-loop2 Inv-loop μ-loop
+loop-less-10 : tie.Need-loop-less-10 Inv-loop2 μ-loop2 Inv-loop3 μ-loop3 Inv-loop μ-loop
+loop-less-10 c = omega (arith, c .before .before .before .before .before .before .before .before .before .before .before .before .before .before .before .before .before .before .before .loop-test .taken)
+
+loop-again-10 : tie.Need-loop-again-10 Inv-loop2 μ-loop2 Inv-loop3 μ-loop3 Inv-loop μ-loop
 unfolding freshStation fresh unsentAll
 loop-again-10 c =
-    ack-passed-over _ _ _ _ _ _ _ _ _ _ (c .before .before .before .before .before .before .before .before .before .before .before .before .before .seat2 .ensures) _ (c .before .before .before .before .before .before .before .before .condition-of2 .ensures) _ _ (c .before .before .before .before .before .before .before .before .before .before .before .before .seat3 .ensures) _ _ (c .before .before .before .before .before .before .before .before .before .before .outgoing .ensures)
-    (record { upto = c .before .before .before .before .before .before .before .before .before .before .before .before .before .before .before .before .before .before .before .before .before .before .loop .inv; more = c .before .before .before .before .before .before .before .before .before .before .before .before .before .before .before .before .before .before .before .before .before .loop-test .taken; record-read = c .before .before .before .before .before .before .before .before .before .before .before .before .before .before .before .before .before .before .before .before .record-at .result; piece-read = read-from _ _ _ _ (c .before .before .before .before .before .before .before .before .before .before .before .before .before .before .before .before .before .before .before .before .record-at .ensures); event = c .before .before .before .before .before .before .before .before .before .before .before .before .before .before .before .before .before .before .r .given .1 ∙ ap Read (c .before .before .before .before .before .before .before .before .before .before .before .before .before .before .before .e4 .given .1) }) (c .before .before .before .before .before .before .before .deliver-question .ensures)
-    (c .before .before .before .before .enum-told3 .given .1) (c .before .before .before .before .before .before .if5 .left) _ (c .before .before .condition-of3 .ensures) _ (c .before .takes-ack .ensures) (not-true (c .before .takes-ack .result) (c .if6 .taken))
+    vote-accepted _ _ _ _ _ _ _ _ _ _ _ (c .before .before .before .before .before .before .before .before .before .before .before .seat2 .ensures) _ (c .before .before .before .before .before .before .condition-of2 .ensures) _ _ (c .before .before .before .before .before .before .before .before .before .before .seat3 .ensures) _ _ (c .before .before .before .before .before .before .before .before .outgoing .ensures)
+    (record { upto = c .before .before .before .before .before .before .before .before .before .before .before .before .before .before .before .before .before .before .before .before .loop .inv; more = c .before .before .before .before .before .before .before .before .before .before .before .before .before .before .before .before .before .before .before .loop-test .taken; record-read = c .before .before .before .before .before .before .before .before .before .before .before .before .before .before .before .before .before .before .record-at .result; piece-read = read-from _ _ _ _ (c .before .before .before .before .before .before .before .before .before .before .before .before .before .before .before .before .before .before .record-at .ensures); event = c .before .before .before .before .before .before .before .before .before .before .before .before .before .before .before .before .r .given .1 ∙ ap Read (c .before .before .before .before .before .before .before .before .before .before .before .before .before .e4 .given .1) }) (c .before .before .before .before .before .deliver-question .ensures)
+    (c .before .before .enum-told2 .given .1) (c .before .before .before .before .if6 .left) _ (c .vote-turn .ensures)
 
-mul-own : tie.Need-mul-own Inv-loop2 μ-loop2 Inv-loop μ-loop
-mul-own c = search needs
+enum-told-3 : tie.Need-enum-told-3 Inv-loop2 μ-loop2 Inv-loop3 μ-loop3 Inv-loop μ-loop
+enum-told-3 c = search needs
 
-array-copy-out-own : tie.Need-array-copy-out-own Inv-loop2 μ-loop2 Inv-loop μ-loop
-array-copy-out-own c = search needs
+mul-condition-of-3 : tie.Need-mul-condition-of-3 Inv-loop2 μ-loop2 Inv-loop3 μ-loop3 Inv-loop μ-loop
+mul-condition-of-3 c = search needs
 
-mul-t138 : tie.Need-mul-t138 Inv-loop2 μ-loop2 Inv-loop μ-loop
-mul-t138 c = search needs
+array-copy-out-condition-of-3 : tie.Need-array-copy-out-condition-of-3 Inv-loop2 μ-loop2 Inv-loop3 μ-loop3 Inv-loop μ-loop
+array-copy-out-condition-of-3 c = search needs
 
-element-copy-out-t152 : tie.Need-element-copy-out-t152 Inv-loop2 μ-loop2 Inv-loop μ-loop
-element-copy-out-t152 c = search needs
+condition-of-requires-3 : tie.Need-condition-of-requires-3 Inv-loop2 μ-loop2 Inv-loop3 μ-loop3 Inv-loop μ-loop
+condition-of-requires-3 c κs = search needs
 
-mul-t153 : tie.Need-mul-t153 Inv-loop2 μ-loop2 Inv-loop μ-loop
-mul-t153 c = search needs
+mul-from : tie.Need-mul-from Inv-loop2 μ-loop2 Inv-loop3 μ-loop3 Inv-loop μ-loop
+mul-from c = search needs
 
-element-copy-out-t156 : tie.Need-element-copy-out-t156 Inv-loop2 μ-loop2 Inv-loop μ-loop
-element-copy-out-t156 c = search needs
+element-copy-out-from : tie.Need-element-copy-out-from Inv-loop2 μ-loop2 Inv-loop3 μ-loop3 Inv-loop μ-loop
+element-copy-out-from c = search needs
 
-mul-sets : tie.Need-mul-sets Inv-loop2 μ-loop2 Inv-loop μ-loop
-mul-sets c = search needs
+mul-waiting : tie.Need-mul-waiting Inv-loop2 μ-loop2 Inv-loop3 μ-loop3 Inv-loop μ-loop
+mul-waiting c = search needs
 
-array-set-from-sets : tie.Need-array-set-from-sets Inv-loop2 μ-loop2 Inv-loop μ-loop
-array-set-from-sets c = search needs
+element-copy-out-waiting : tie.Need-element-copy-out-waiting Inv-loop2 μ-loop2 Inv-loop3 μ-loop3 Inv-loop μ-loop
+element-copy-out-waiting c = search needs
 
-insert-requires : tie.Need-insert-requires Inv-loop2 μ-loop2 Inv-loop μ-loop
-insert-requires c κs = search needs
+takes-ack-requires : tie.Need-takes-ack-requires Inv-loop2 μ-loop2 Inv-loop3 μ-loop3 Inv-loop μ-loop
+takes-ack-requires c κs = search needs
 
-bump-requires : tie.Need-bump-requires Inv-loop2 μ-loop2 Inv-loop μ-loop
-bump-requires c κs = search needs
+loop-less-11 : tie.Need-loop-less-11 Inv-loop2 μ-loop2 Inv-loop3 μ-loop3 Inv-loop μ-loop
+loop-less-11 c = omega (arith, c .before .before .before .before .before .before .before .before .before .before .before .before .before .before .before .before .before .before .before .before .before .loop-test .taken)
 
-mul-stations-4 : tie.Need-mul-stations-4 Inv-loop2 μ-loop2 Inv-loop μ-loop
-mul-stations-4 c = omega (arith, c .before .before .before .before .before .before .before .before .before .before .before .before .before .before .before .before .before .before .before .before .before .before .before .seat2 .ensures .0)
-
-array-set-from-stations-4 : tie.Need-array-set-from-stations-4 Inv-loop2 μ-loop2 Inv-loop μ-loop
-array-set-from-stations-4 c = omega (arith, c .before .before .before .before .before .before .before .before .before .before .before .before .before .before .before .before .before .before .before .before .before .before .before .seat2 .ensures .0)
-
-loop-less-11 : tie.Need-loop-less-11 Inv-loop2 μ-loop2 Inv-loop μ-loop
-loop-less-11 c = omega (arith, c .before .before .before .before .before .before .before .before .before .before .before .before .before .before .before .before .before .before .before .before .before .before .before .before .before .before .before .before .before .before .before .before .loop-test .taken)
-
-loop-again-11 : tie.Need-loop-again-11 Inv-loop2 μ-loop2 Inv-loop μ-loop
+loop-again-11 : tie.Need-loop-again-11 Inv-loop2 μ-loop2 Inv-loop3 μ-loop3 Inv-loop μ-loop
 unfolding freshStation fresh unsentAll
 loop-again-11 c =
-    ack-held _ _ _ _ _ _ _ _ _ _ (c .before .before .before .before .before .before .before .before .before .before .before .before .before .before .before .before .before .before .before .before .before .before .before .before .seat2 .ensures) _ (c .before .before .before .before .before .before .before .before .before .before .before .before .before .before .before .before .before .before .before .condition-of2 .ensures) _ _ (c .before .before .before .before .before .before .before .before .before .before .before .before .before .before .before .before .before .before .before .before .before .before .before .seat3 .ensures) _ _ (c .before .before .before .before .before .before .before .before .before .before .before .before .before .before .before .before .before .before .before .before .before .outgoing .ensures)
-    (record { upto = c .before .before .before .before .before .before .before .before .before .before .before .before .before .before .before .before .before .before .before .before .before .before .before .before .before .before .before .before .before .before .before .before .before .loop .inv; more = c .before .before .before .before .before .before .before .before .before .before .before .before .before .before .before .before .before .before .before .before .before .before .before .before .before .before .before .before .before .before .before .before .loop-test .taken; record-read = c .before .before .before .before .before .before .before .before .before .before .before .before .before .before .before .before .before .before .before .before .before .before .before .before .before .before .before .before .before .before .before .record-at .result; piece-read = read-from _ _ _ _ (c .before .before .before .before .before .before .before .before .before .before .before .before .before .before .before .before .before .before .before .before .before .before .before .before .before .before .before .before .before .before .before .record-at .ensures); event = c .before .before .before .before .before .before .before .before .before .before .before .before .before .before .before .before .before .before .before .before .before .before .before .before .before .before .before .before .before .r .given .1 ∙ ap Read (c .before .before .before .before .before .before .before .before .before .before .before .before .before .before .before .before .before .before .before .before .before .before .before .before .before .before .e4 .given .1) }) (c .before .before .before .before .before .before .before .before .before .before .before .before .before .before .before .before .before .before .deliver-question .ensures)
-    (c .before .before .before .before .before .before .before .before .before .before .before .before .before .before .before .enum-told3 .given .1) (c .before .before .before .before .before .before .before .before .before .before .before .before .before .before .before .before .before .if5 .left) _ (c .before .before .before .before .before .before .before .before .before .before .before .before .before .condition-of3 .ensures) _ (c .before .before .before .before .before .before .before .before .before .before .before .before .takes-ack .ensures) (not-false (c .before .before .before .before .before .before .before .before .before .before .before .before .takes-ack .result) (c .before .before .before .before .before .before .before .before .before .before .before .if6 .left)) (not-true _ (c .if7 .taken)) _ _ _ (c .before .before .before .before .before .before .before .insert .ensures) (c .before .before .before .before .before .before .bump .ensures) refl
+    ack-passed-over _ _ _ _ _ _ _ _ _ _ _ (c .before .before .before .before .before .before .before .before .before .before .before .before .before .seat2 .ensures) _ (c .before .before .before .before .before .before .before .before .condition-of2 .ensures) _ _ (c .before .before .before .before .before .before .before .before .before .before .before .before .seat3 .ensures) _ _ (c .before .before .before .before .before .before .before .before .before .before .outgoing .ensures)
+    (record { upto = c .before .before .before .before .before .before .before .before .before .before .before .before .before .before .before .before .before .before .before .before .before .before .loop .inv; more = c .before .before .before .before .before .before .before .before .before .before .before .before .before .before .before .before .before .before .before .before .before .loop-test .taken; record-read = c .before .before .before .before .before .before .before .before .before .before .before .before .before .before .before .before .before .before .before .before .record-at .result; piece-read = read-from _ _ _ _ (c .before .before .before .before .before .before .before .before .before .before .before .before .before .before .before .before .before .before .before .before .record-at .ensures); event = c .before .before .before .before .before .before .before .before .before .before .before .before .before .before .before .before .before .before .r .given .1 ∙ ap Read (c .before .before .before .before .before .before .before .before .before .before .before .before .before .before .before .e4 .given .1) }) (c .before .before .before .before .before .before .before .deliver-question .ensures)
+    (c .before .before .before .before .enum-told3 .given .1) (c .before .before .before .before .before .before .if6 .left) _ (c .before .before .condition-of3 .ensures) _ (c .before .takes-ack .ensures) (not-true (c .before .takes-ack .result) (c .if7 .taken))
 
-mul-settled-turn : tie.Need-mul-settled-turn Inv-loop2 μ-loop2 Inv-loop μ-loop
-mul-settled-turn c = search needs
+mul-own : tie.Need-mul-own Inv-loop2 μ-loop2 Inv-loop3 μ-loop3 Inv-loop μ-loop
+mul-own c = search needs
 
-array-copy-out-settled-turn :
-    tie.Need-array-copy-out-settled-turn Inv-loop2 μ-loop2 Inv-loop μ-loop
-array-copy-out-settled-turn c = search needs
+array-copy-out-own : tie.Need-array-copy-out-own Inv-loop2 μ-loop2 Inv-loop3 μ-loop3 Inv-loop μ-loop
+array-copy-out-own c = search needs
 
-settled-turn-requires : tie.Need-settled-turn-requires Inv-loop2 μ-loop2 Inv-loop μ-loop
-settled-turn-requires c κs = search needs
+mul-t161 : tie.Need-mul-t161 Inv-loop2 μ-loop2 Inv-loop3 μ-loop3 Inv-loop μ-loop
+mul-t161 c = search needs
 
-mul-stations-5 : tie.Need-mul-stations-5 Inv-loop2 μ-loop2 Inv-loop μ-loop
-mul-stations-5 c = omega (arith, c .before .before .before .before .before .before .before .before .before .before .before .before .before .before .before .before .before .before .before .before .before .before .before .before .before .before .before .before .seat2 .ensures .0)
+element-copy-out-t175 : tie.Need-element-copy-out-t175 Inv-loop2 μ-loop2 Inv-loop3 μ-loop3 Inv-loop μ-loop
+element-copy-out-t175 c = search needs
 
-array-set-from-stations-5 : tie.Need-array-set-from-stations-5 Inv-loop2 μ-loop2 Inv-loop μ-loop
-array-set-from-stations-5 c = omega (arith, c .before .before .before .before .before .before .before .before .before .before .before .before .before .before .before .before .before .before .before .before .before .before .before .before .before .before .before .before .seat2 .ensures .0)
+mul-t176 : tie.Need-mul-t176 Inv-loop2 μ-loop2 Inv-loop3 μ-loop3 Inv-loop μ-loop
+mul-t176 c = search needs
 
-loop-less-12 : tie.Need-loop-less-12 Inv-loop2 μ-loop2 Inv-loop μ-loop
-loop-less-12 c = omega (arith, c .before .before .before .before .before .before .before .before .before .before .before .before .before .before .before .before .before .before .before .before .before .before .before .before .before .before .before .before .before .before .before .before .before .before .before .before .loop-test .taken)
+element-copy-out-t179 : tie.Need-element-copy-out-t179 Inv-loop2 μ-loop2 Inv-loop3 μ-loop3 Inv-loop μ-loop
+element-copy-out-t179 c = search needs
 
-loop-again-12 : tie.Need-loop-again-12 Inv-loop2 μ-loop2 Inv-loop μ-loop
+mul-sets : tie.Need-mul-sets Inv-loop2 μ-loop2 Inv-loop3 μ-loop3 Inv-loop μ-loop
+mul-sets c = search needs
+
+array-set-from-sets : tie.Need-array-set-from-sets Inv-loop2 μ-loop2 Inv-loop3 μ-loop3 Inv-loop μ-loop
+array-set-from-sets c = search needs
+
+insert-requires : tie.Need-insert-requires Inv-loop2 μ-loop2 Inv-loop3 μ-loop3 Inv-loop μ-loop
+insert-requires c κs = search needs
+
+bump-requires : tie.Need-bump-requires Inv-loop2 μ-loop2 Inv-loop3 μ-loop3 Inv-loop μ-loop
+bump-requires c κs = search needs
+
+mul-stations-4 : tie.Need-mul-stations-4 Inv-loop2 μ-loop2 Inv-loop3 μ-loop3 Inv-loop μ-loop
+mul-stations-4 c = omega (arith, c .before .before .before .before .before .before .before .before .before .before .before .before .before .before .before .before .before .before .before .before .before .before .before .seat2 .ensures .0)
+
+array-set-from-stations-4 : tie.Need-array-set-from-stations-4 Inv-loop2 μ-loop2 Inv-loop3 μ-loop3 Inv-loop μ-loop
+array-set-from-stations-4 c = omega (arith, c .before .before .before .before .before .before .before .before .before .before .before .before .before .before .before .before .before .before .before .before .before .before .before .seat2 .ensures .0)
+
+loop-less-12 : tie.Need-loop-less-12 Inv-loop2 μ-loop2 Inv-loop3 μ-loop3 Inv-loop μ-loop
+loop-less-12 c = omega (arith, c .before .before .before .before .before .before .before .before .before .before .before .before .before .before .before .before .before .before .before .before .before .before .before .before .before .before .before .before .before .before .before .before .loop-test .taken)
+
+loop-again-12 : tie.Need-loop-again-12 Inv-loop2 μ-loop2 Inv-loop3 μ-loop3 Inv-loop μ-loop
 unfolding freshStation fresh unsentAll
 loop-again-12 c =
-    ack-put _ _ _ _ _ _ _ _ _ _ (c .before .before .before .before .before .before .before .before .before .before .before .before .before .before .before .before .before .before .before .before .before .before .before .before .before .before .before .before .seat2 .ensures) _ (c .before .before .before .before .before .before .before .before .before .before .before .before .before .before .before .before .before .before .before .before .before .before .before .condition-of2 .ensures) _ _ (c .before .before .before .before .before .before .before .before .before .before .before .before .before .before .before .before .before .before .before .before .before .before .before .before .before .before .before .seat3 .ensures) _ _ (c .before .before .before .before .before .before .before .before .before .before .before .before .before .before .before .before .before .before .before .before .before .before .before .before .before .outgoing .ensures)
-    (record { upto = c .before .before .before .before .before .before .before .before .before .before .before .before .before .before .before .before .before .before .before .before .before .before .before .before .before .before .before .before .before .before .before .before .before .before .before .before .before .loop .inv; more = c .before .before .before .before .before .before .before .before .before .before .before .before .before .before .before .before .before .before .before .before .before .before .before .before .before .before .before .before .before .before .before .before .before .before .before .before .loop-test .taken; record-read = c .before .before .before .before .before .before .before .before .before .before .before .before .before .before .before .before .before .before .before .before .before .before .before .before .before .before .before .before .before .before .before .before .before .before .before .record-at .result; piece-read = read-from _ _ _ _ (c .before .before .before .before .before .before .before .before .before .before .before .before .before .before .before .before .before .before .before .before .before .before .before .before .before .before .before .before .before .before .before .before .before .before .before .record-at .ensures); event = c .before .before .before .before .before .before .before .before .before .before .before .before .before .before .before .before .before .before .before .before .before .before .before .before .before .before .before .before .before .before .before .before .before .r .given .1 ∙ ap Read (c .before .before .before .before .before .before .before .before .before .before .before .before .before .before .before .before .before .before .before .before .before .before .before .before .before .before .before .before .before .before .e4 .given .1) }) (c .before .before .before .before .before .before .before .before .before .before .before .before .before .before .before .before .before .before .before .before .before .before .deliver-question .ensures)
-    (c .before .before .before .before .before .before .before .before .before .before .before .before .before .before .before .before .before .before .before .enum-told3 .given .1) (c .before .before .before .before .before .before .before .before .before .before .before .before .before .before .before .before .before .before .before .before .before .if5 .left) _ (c .before .before .before .before .before .before .before .before .before .before .before .before .before .before .before .before .before .condition-of3 .ensures) _ (c .before .before .before .before .before .before .before .before .before .before .before .before .before .before .before .before .takes-ack .ensures) (not-false (c .before .before .before .before .before .before .before .before .before .before .before .before .before .before .before .before .takes-ack .result) (c .before .before .before .before .before .before .before .before .before .before .before .before .before .before .before .if6 .left)) _ _ _ (c .before .before .before .before .before .before .before .before .before .before .before .insert .ensures) (c .before .before .before .before .before .before .before .before .before .before .bump .ensures) refl _ (c .before .before .settled-turn .ensures)
+    ack-held _ _ _ _ _ _ _ _ _ _ _ (c .before .before .before .before .before .before .before .before .before .before .before .before .before .before .before .before .before .before .before .before .before .before .before .before .seat2 .ensures) _ (c .before .before .before .before .before .before .before .before .before .before .before .before .before .before .before .before .before .before .before .condition-of2 .ensures) _ _ (c .before .before .before .before .before .before .before .before .before .before .before .before .before .before .before .before .before .before .before .before .before .before .before .seat3 .ensures) _ _ (c .before .before .before .before .before .before .before .before .before .before .before .before .before .before .before .before .before .before .before .before .before .outgoing .ensures)
+    (record { upto = c .before .before .before .before .before .before .before .before .before .before .before .before .before .before .before .before .before .before .before .before .before .before .before .before .before .before .before .before .before .before .before .before .before .loop .inv; more = c .before .before .before .before .before .before .before .before .before .before .before .before .before .before .before .before .before .before .before .before .before .before .before .before .before .before .before .before .before .before .before .before .loop-test .taken; record-read = c .before .before .before .before .before .before .before .before .before .before .before .before .before .before .before .before .before .before .before .before .before .before .before .before .before .before .before .before .before .before .before .record-at .result; piece-read = read-from _ _ _ _ (c .before .before .before .before .before .before .before .before .before .before .before .before .before .before .before .before .before .before .before .before .before .before .before .before .before .before .before .before .before .before .before .record-at .ensures); event = c .before .before .before .before .before .before .before .before .before .before .before .before .before .before .before .before .before .before .before .before .before .before .before .before .before .before .before .before .before .r .given .1 ∙ ap Read (c .before .before .before .before .before .before .before .before .before .before .before .before .before .before .before .before .before .before .before .before .before .before .before .before .before .before .e4 .given .1) }) (c .before .before .before .before .before .before .before .before .before .before .before .before .before .before .before .before .before .before .deliver-question .ensures)
+    (c .before .before .before .before .before .before .before .before .before .before .before .before .before .before .before .enum-told3 .given .1) (c .before .before .before .before .before .before .before .before .before .before .before .before .before .before .before .before .before .if6 .left) _ (c .before .before .before .before .before .before .before .before .before .before .before .before .before .condition-of3 .ensures) _ (c .before .before .before .before .before .before .before .before .before .before .before .before .takes-ack .ensures) (not-false (c .before .before .before .before .before .before .before .before .before .before .before .before .takes-ack .result) (c .before .before .before .before .before .before .before .before .before .before .before .if7 .left)) (not-true _ (c .if8 .taken)) _ _ _ (c .before .before .before .before .before .before .before .insert .ensures) (c .before .before .before .before .before .before .bump .ensures) refl
 
-enum-told-4 : tie.Need-enum-told-4 Inv-loop2 μ-loop2 Inv-loop μ-loop
-enum-told-4 c = search needs
+mul-settled-turn : tie.Need-mul-settled-turn Inv-loop2 μ-loop2 Inv-loop3 μ-loop3 Inv-loop μ-loop
+mul-settled-turn c = search needs
 
-mul-help-turn : tie.Need-mul-help-turn Inv-loop2 μ-loop2 Inv-loop μ-loop
-mul-help-turn c = search needs
+array-copy-out-settled-turn : tie.Need-array-copy-out-settled-turn Inv-loop2 μ-loop2 Inv-loop3 μ-loop3 Inv-loop μ-loop
+array-copy-out-settled-turn c = search needs
 
-array-copy-out-help-turn : tie.Need-array-copy-out-help-turn Inv-loop2 μ-loop2 Inv-loop μ-loop
-array-copy-out-help-turn c = search needs
+settled-turn-requires : tie.Need-settled-turn-requires Inv-loop2 μ-loop2 Inv-loop3 μ-loop3 Inv-loop μ-loop
+settled-turn-requires c κs = search needs
 
-help-turn-requires : tie.Need-help-turn-requires Inv-loop2 μ-loop2 Inv-loop μ-loop
-help-turn-requires c κs = search needs
+mul-stations-5 : tie.Need-mul-stations-5 Inv-loop2 μ-loop2 Inv-loop3 μ-loop3 Inv-loop μ-loop
+mul-stations-5 c = omega (arith, c .before .before .before .before .before .before .before .before .before .before .before .before .before .before .before .before .before .before .before .before .before .before .before .before .before .before .before .before .seat2 .ensures .0)
 
-mul-stations-6 : tie.Need-mul-stations-6 Inv-loop2 μ-loop2 Inv-loop μ-loop
-mul-stations-6 c = omega (arith, c .before .before .before .before .before .before .before .before .before .before .before .seat2 .ensures .0)
+array-set-from-stations-5 : tie.Need-array-set-from-stations-5 Inv-loop2 μ-loop2 Inv-loop3 μ-loop3 Inv-loop μ-loop
+array-set-from-stations-5 c = omega (arith, c .before .before .before .before .before .before .before .before .before .before .before .before .before .before .before .before .before .before .before .before .before .before .before .before .before .before .before .before .seat2 .ensures .0)
 
-array-set-from-stations-6 : tie.Need-array-set-from-stations-6 Inv-loop2 μ-loop2 Inv-loop μ-loop
-array-set-from-stations-6 c = omega (arith, c .before .before .before .before .before .before .before .before .before .before .before .seat2 .ensures .0)
+loop-less-13 : tie.Need-loop-less-13 Inv-loop2 μ-loop2 Inv-loop3 μ-loop3 Inv-loop μ-loop
+loop-less-13 c = omega (arith, c .before .before .before .before .before .before .before .before .before .before .before .before .before .before .before .before .before .before .before .before .before .before .before .before .before .before .before .before .before .before .before .before .before .before .before .before .loop-test .taken)
 
-loop-less-13 : tie.Need-loop-less-13 Inv-loop2 μ-loop2 Inv-loop μ-loop
-loop-less-13 c = omega (arith, c .before .before .before .before .before .before .before .before .before .before .before .before .before .before .before .before .before .before .before .loop-test .taken)
-
-loop-again-13 : tie.Need-loop-again-13 Inv-loop2 μ-loop2 Inv-loop μ-loop
+loop-again-13 : tie.Need-loop-again-13 Inv-loop2 μ-loop2 Inv-loop3 μ-loop3 Inv-loop μ-loop
 unfolding freshStation fresh unsentAll
 loop-again-13 c =
-    help-accepted _ _ _ _ _ _ _ _ _ _ (c .before .before .before .before .before .before .before .before .before .before .before .seat2 .ensures) _ (c .before .before .before .before .before .before .condition-of2 .ensures) _ _ (c .before .before .before .before .before .before .before .before .before .before .seat3 .ensures) _ _ (c .before .before .before .before .before .before .before .before .outgoing .ensures)
-    (record { upto = c .before .before .before .before .before .before .before .before .before .before .before .before .before .before .before .before .before .before .before .before .loop .inv; more = c .before .before .before .before .before .before .before .before .before .before .before .before .before .before .before .before .before .before .before .loop-test .taken; record-read = c .before .before .before .before .before .before .before .before .before .before .before .before .before .before .before .before .before .before .record-at .result; piece-read = read-from _ _ _ _ (c .before .before .before .before .before .before .before .before .before .before .before .before .before .before .before .before .before .before .record-at .ensures); event = c .before .before .before .before .before .before .before .before .before .before .before .before .before .before .before .before .r .given .1 ∙ ap Read (c .before .before .before .before .before .before .before .before .before .before .before .before .before .e4 .given .1) }) (c .before .before .before .before .before .deliver-question .ensures)
-    (c .before .before .enum-told4 .given .1) (c .before .before .before .before .if5 .left) _ (c .help-turn .ensures)
+    ack-put _ _ _ _ _ _ _ _ _ _ _ (c .before .before .before .before .before .before .before .before .before .before .before .before .before .before .before .before .before .before .before .before .before .before .before .before .before .before .before .before .seat2 .ensures) _ (c .before .before .before .before .before .before .before .before .before .before .before .before .before .before .before .before .before .before .before .before .before .before .before .condition-of2 .ensures) _ _ (c .before .before .before .before .before .before .before .before .before .before .before .before .before .before .before .before .before .before .before .before .before .before .before .before .before .before .before .seat3 .ensures) _ _ (c .before .before .before .before .before .before .before .before .before .before .before .before .before .before .before .before .before .before .before .before .before .before .before .before .before .outgoing .ensures)
+    (record { upto = c .before .before .before .before .before .before .before .before .before .before .before .before .before .before .before .before .before .before .before .before .before .before .before .before .before .before .before .before .before .before .before .before .before .before .before .before .before .loop .inv; more = c .before .before .before .before .before .before .before .before .before .before .before .before .before .before .before .before .before .before .before .before .before .before .before .before .before .before .before .before .before .before .before .before .before .before .before .before .loop-test .taken; record-read = c .before .before .before .before .before .before .before .before .before .before .before .before .before .before .before .before .before .before .before .before .before .before .before .before .before .before .before .before .before .before .before .before .before .before .before .record-at .result; piece-read = read-from _ _ _ _ (c .before .before .before .before .before .before .before .before .before .before .before .before .before .before .before .before .before .before .before .before .before .before .before .before .before .before .before .before .before .before .before .before .before .before .before .record-at .ensures); event = c .before .before .before .before .before .before .before .before .before .before .before .before .before .before .before .before .before .before .before .before .before .before .before .before .before .before .before .before .before .before .before .before .before .r .given .1 ∙ ap Read (c .before .before .before .before .before .before .before .before .before .before .before .before .before .before .before .before .before .before .before .before .before .before .before .before .before .before .before .before .before .before .e4 .given .1) }) (c .before .before .before .before .before .before .before .before .before .before .before .before .before .before .before .before .before .before .before .before .before .before .deliver-question .ensures)
+    (c .before .before .before .before .before .before .before .before .before .before .before .before .before .before .before .before .before .before .before .enum-told3 .given .1) (c .before .before .before .before .before .before .before .before .before .before .before .before .before .before .before .before .before .before .before .before .before .if6 .left) _ (c .before .before .before .before .before .before .before .before .before .before .before .before .before .before .before .before .before .condition-of3 .ensures) _ (c .before .before .before .before .before .before .before .before .before .before .before .before .before .before .before .before .takes-ack .ensures) (not-false (c .before .before .before .before .before .before .before .before .before .before .before .before .before .before .before .before .takes-ack .result) (c .before .before .before .before .before .before .before .before .before .before .before .before .before .before .before .if7 .left)) _ _ _ (c .before .before .before .before .before .before .before .before .before .before .before .insert .ensures) (c .before .before .before .before .before .before .before .before .before .before .bump .ensures) refl _ (c .before .before .settled-turn .ensures)
 
-enum-told-5 : tie.Need-enum-told-5 Inv-loop2 μ-loop2 Inv-loop μ-loop
-enum-told-5 c = search needs
+enum-told-4 : tie.Need-enum-told-4 Inv-loop2 μ-loop2 Inv-loop3 μ-loop3 Inv-loop μ-loop
+enum-told-4 c = search needs
 
-mul-outgoing-2 : tie.Need-mul-outgoing-2 Inv-loop2 μ-loop2 Inv-loop μ-loop
-mul-outgoing-2 c = search needs
+mul-help-turn : tie.Need-mul-help-turn Inv-loop2 μ-loop2 Inv-loop3 μ-loop3 Inv-loop μ-loop
+mul-help-turn c = search needs
 
-array-copy-out-outgoing-2 : tie.Need-array-copy-out-outgoing-2 Inv-loop2 μ-loop2 Inv-loop μ-loop
-array-copy-out-outgoing-2 c = search needs
+array-copy-out-help-turn : tie.Need-array-copy-out-help-turn Inv-loop2 μ-loop2 Inv-loop3 μ-loop3 Inv-loop μ-loop
+array-copy-out-help-turn c = search needs
 
-outgoing-requires-2 : tie.Need-outgoing-requires-2 Inv-loop2 μ-loop2 Inv-loop μ-loop
-outgoing-requires-2 c κs = search needs
+help-turn-requires : tie.Need-help-turn-requires Inv-loop2 μ-loop2 Inv-loop3 μ-loop3 Inv-loop μ-loop
+help-turn-requires c κs = search needs
 
-mul-helped-turn : tie.Need-mul-helped-turn Inv-loop2 μ-loop2 Inv-loop μ-loop
-mul-helped-turn c = search needs
+mul-stations-6 : tie.Need-mul-stations-6 Inv-loop2 μ-loop2 Inv-loop3 μ-loop3 Inv-loop μ-loop
+mul-stations-6 c = omega (arith, c .before .before .before .before .before .before .before .before .before .before .before .seat2 .ensures .0)
 
-array-copy-out-helped-turn : tie.Need-array-copy-out-helped-turn Inv-loop2 μ-loop2 Inv-loop μ-loop
-array-copy-out-helped-turn c = search needs
+array-set-from-stations-6 : tie.Need-array-set-from-stations-6 Inv-loop2 μ-loop2 Inv-loop3 μ-loop3 Inv-loop μ-loop
+array-set-from-stations-6 c = omega (arith, c .before .before .before .before .before .before .before .before .before .before .before .seat2 .ensures .0)
 
-helped-turn-requires : tie.Need-helped-turn-requires Inv-loop2 μ-loop2 Inv-loop μ-loop
-helped-turn-requires c κs = search needs
+loop-less-14 : tie.Need-loop-less-14 Inv-loop2 μ-loop2 Inv-loop3 μ-loop3 Inv-loop μ-loop
+loop-less-14 c = omega (arith, c .before .before .before .before .before .before .before .before .before .before .before .before .before .before .before .before .before .before .before .loop-test .taken)
 
-mul-stations-7 : tie.Need-mul-stations-7 Inv-loop2 μ-loop2 Inv-loop μ-loop
-mul-stations-7 c = omega (arith, c .before .before .before .before .before .before .before .before .before .before .before .before .before .before .before .seat2 .ensures .0)
-
-array-set-from-stations-7 : tie.Need-array-set-from-stations-7 Inv-loop2 μ-loop2 Inv-loop μ-loop
-array-set-from-stations-7 c = omega (arith, c .before .before .before .before .before .before .before .before .before .before .before .before .before .before .before .seat2 .ensures .0)
-
-loop-less-14 : tie.Need-loop-less-14 Inv-loop2 μ-loop2 Inv-loop μ-loop
-loop-less-14 c = omega (arith, c .before .before .before .before .before .before .before .before .before .before .before .before .before .before .before .before .before .before .before .before .before .before .before .loop-test .taken)
-
-loop-again-14 : tie.Need-loop-again-14 Inv-loop2 μ-loop2 Inv-loop μ-loop
+loop-again-14 : tie.Need-loop-again-14 Inv-loop2 μ-loop2 Inv-loop3 μ-loop3 Inv-loop μ-loop
 unfolding freshStation fresh unsentAll
 loop-again-14 c =
-    helped-accepted _ _ _ _ _ _ _ _ _ _ (c .before .before .before .before .before .before .before .before .before .before .before .before .before .before .before .seat2 .ensures) _ (c .before .before .before .before .before .before .before .before .before .before .condition-of2 .ensures) _ _ (c .before .before .before .before .before .before .before .before .before .before .before .before .before .before .seat3 .ensures) _ _ (c .before .before .before .before .before .before .before .before .before .before .before .before .outgoing .ensures)
-    (record { upto = c .before .before .before .before .before .before .before .before .before .before .before .before .before .before .before .before .before .before .before .before .before .before .before .before .loop .inv; more = c .before .before .before .before .before .before .before .before .before .before .before .before .before .before .before .before .before .before .before .before .before .before .before .loop-test .taken; record-read = c .before .before .before .before .before .before .before .before .before .before .before .before .before .before .before .before .before .before .before .before .before .before .record-at .result; piece-read = read-from _ _ _ _ (c .before .before .before .before .before .before .before .before .before .before .before .before .before .before .before .before .before .before .before .before .before .before .record-at .ensures); event = c .before .before .before .before .before .before .before .before .before .before .before .before .before .before .before .before .before .before .before .before .r .given .1 ∙ ap Read (c .before .before .before .before .before .before .before .before .before .before .before .before .before .before .before .before .before .e4 .given .1) }) (c .before .before .before .before .before .before .before .before .before .deliver-question .ensures)
-    (c .before .before .before .before .before .before .enum-told5 .given .1) (c .before .before .before .before .before .before .before .before .if5 .left) _ (c .before .before .before .before .outgoing2 .ensures) _ (c .before .before .helped-turn .ensures)
+    help-accepted _ _ _ _ _ _ _ _ _ _ _ (c .before .before .before .before .before .before .before .before .before .before .before .seat2 .ensures) _ (c .before .before .before .before .before .before .condition-of2 .ensures) _ _ (c .before .before .before .before .before .before .before .before .before .before .seat3 .ensures) _ _ (c .before .before .before .before .before .before .before .before .outgoing .ensures)
+    (record { upto = c .before .before .before .before .before .before .before .before .before .before .before .before .before .before .before .before .before .before .before .before .loop .inv; more = c .before .before .before .before .before .before .before .before .before .before .before .before .before .before .before .before .before .before .before .loop-test .taken; record-read = c .before .before .before .before .before .before .before .before .before .before .before .before .before .before .before .before .before .before .record-at .result; piece-read = read-from _ _ _ _ (c .before .before .before .before .before .before .before .before .before .before .before .before .before .before .before .before .before .before .record-at .ensures); event = c .before .before .before .before .before .before .before .before .before .before .before .before .before .before .before .before .r .given .1 ∙ ap Read (c .before .before .before .before .before .before .before .before .before .before .before .before .before .e4 .given .1) }) (c .before .before .before .before .before .deliver-question .ensures)
+    (c .before .before .enum-told4 .given .1) (c .before .before .before .before .if6 .left) _ (c .help-turn .ensures)
 
-enum-known-e-5 : tie.Need-enum-known-e-5 Inv-loop2 μ-loop2 Inv-loop μ-loop
-enum-known-e-5 c = search needs
+enum-told-5 : tie.Need-enum-told-5 Inv-loop2 μ-loop2 Inv-loop3 μ-loop3 Inv-loop μ-loop
+enum-told-5 c = search needs
 
-seat-requires-4 : tie.Need-seat-requires-4 Inv-loop2 μ-loop2 Inv-loop μ-loop
-seat-requires-4 c κs = search needs
+mul-outgoing-2 : tie.Need-mul-outgoing-2 Inv-loop2 μ-loop2 Inv-loop3 μ-loop3 Inv-loop μ-loop
+mul-outgoing-2 c = search needs
 
-mul-condition-of-4 : tie.Need-mul-condition-of-4 Inv-loop2 μ-loop2 Inv-loop μ-loop
-mul-condition-of-4 c = search needs
+array-copy-out-outgoing-2 : tie.Need-array-copy-out-outgoing-2 Inv-loop2 μ-loop2 Inv-loop3 μ-loop3 Inv-loop μ-loop
+array-copy-out-outgoing-2 c = search needs
 
-array-copy-out-condition-of-4 :
-    tie.Need-array-copy-out-condition-of-4 Inv-loop2 μ-loop2 Inv-loop μ-loop
-array-copy-out-condition-of-4 c = search needs
+outgoing-requires-2 : tie.Need-outgoing-requires-2 Inv-loop2 μ-loop2 Inv-loop3 μ-loop3 Inv-loop μ-loop
+outgoing-requires-2 c κs = search needs
 
-condition-of-requires-4 : tie.Need-condition-of-requires-4 Inv-loop2 μ-loop2 Inv-loop μ-loop
-condition-of-requires-4 c κs = search needs
+mul-helped-turn : tie.Need-mul-helped-turn Inv-loop2 μ-loop2 Inv-loop3 μ-loop3 Inv-loop μ-loop
+mul-helped-turn c = search needs
 
-timeout-question-requires : tie.Need-timeout-question-requires Inv-loop2 μ-loop2 Inv-loop μ-loop
-timeout-question-requires c κs = search needs
+array-copy-out-helped-turn : tie.Need-array-copy-out-helped-turn Inv-loop2 μ-loop2 Inv-loop3 μ-loop3 Inv-loop μ-loop
+array-copy-out-helped-turn c = search needs
 
-slice-write-answers-6 : tie.Need-slice-write-answers-6 Inv-loop2 μ-loop2 Inv-loop μ-loop
-slice-write-answers-6 c = search needs
+helped-turn-requires : tie.Need-helped-turn-requires Inv-loop2 μ-loop2 Inv-loop3 μ-loop3 Inv-loop μ-loop
+helped-turn-requires c κs = search needs
 
-add-k-6 : tie.Need-add-k-6 Inv-loop2 μ-loop2 Inv-loop μ-loop
-add-k-6 c = search needs
+mul-stations-7 : tie.Need-mul-stations-7 Inv-loop2 μ-loop2 Inv-loop3 μ-loop3 Inv-loop μ-loop
+mul-stations-7 c = omega (arith, c .before .before .before .before .before .before .before .before .before .before .before .before .before .before .before .seat2 .ensures .0)
 
-loop-less-15 : tie.Need-loop-less-15 Inv-loop2 μ-loop2 Inv-loop μ-loop
-loop-less-15 c = omega (arith, c .before .before .before .before .before .before .before .before .before .before .before .before .loop-test .taken)
+array-set-from-stations-7 : tie.Need-array-set-from-stations-7 Inv-loop2 μ-loop2 Inv-loop3 μ-loop3 Inv-loop μ-loop
+array-set-from-stations-7 c = omega (arith, c .before .before .before .before .before .before .before .before .before .before .before .before .before .before .before .seat2 .ensures .0)
 
-loop-again-15 : tie.Need-loop-again-15 Inv-loop2 μ-loop2 Inv-loop μ-loop
+loop-less-15 : tie.Need-loop-less-15 Inv-loop2 μ-loop2 Inv-loop3 μ-loop3 Inv-loop μ-loop
+loop-less-15 c = omega (arith, c .before .before .before .before .before .before .before .before .before .before .before .before .before .before .before .before .before .before .before .before .before .before .before .loop-test .taken)
+
+loop-again-15 : tie.Need-loop-again-15 Inv-loop2 μ-loop2 Inv-loop3 μ-loop3 Inv-loop μ-loop
 unfolding freshStation fresh unsentAll
 loop-again-15 c =
-    timeout-refused _ _ _ _ _ _ _ _ _ _ (c .before .before .before .before .seat4 .ensures) _ (c .before .before .condition-of4 .ensures)
-    (record { upto = c .before .before .before .before .before .before .before .before .before .before .before .before .before .loop .inv; more = c .before .before .before .before .before .before .before .before .before .before .before .before .loop-test .taken; record-read = c .before .before .before .before .before .before .before .before .before .before .before .record-at .result; piece-read = read-from _ _ _ _ (c .before .before .before .before .before .before .before .before .before .before .before .record-at .ensures); event = c .before .before .before .before .before .before .before .before .before .r .given .1 ∙ ap Read (c .before .before .before .before .before .before .e5 .given .1) }) (c .before .timeout-question .ensures)
-    (c .if8 .taken)
+    helped-accepted _ _ _ _ _ _ _ _ _ _ _ (c .before .before .before .before .before .before .before .before .before .before .before .before .before .before .before .seat2 .ensures) _ (c .before .before .before .before .before .before .before .before .before .before .condition-of2 .ensures) _ _ (c .before .before .before .before .before .before .before .before .before .before .before .before .before .before .seat3 .ensures) _ _ (c .before .before .before .before .before .before .before .before .before .before .before .before .outgoing .ensures)
+    (record { upto = c .before .before .before .before .before .before .before .before .before .before .before .before .before .before .before .before .before .before .before .before .before .before .before .before .loop .inv; more = c .before .before .before .before .before .before .before .before .before .before .before .before .before .before .before .before .before .before .before .before .before .before .before .loop-test .taken; record-read = c .before .before .before .before .before .before .before .before .before .before .before .before .before .before .before .before .before .before .before .before .before .before .record-at .result; piece-read = read-from _ _ _ _ (c .before .before .before .before .before .before .before .before .before .before .before .before .before .before .before .before .before .before .before .before .before .before .record-at .ensures); event = c .before .before .before .before .before .before .before .before .before .before .before .before .before .before .before .before .before .before .before .before .r .given .1 ∙ ap Read (c .before .before .before .before .before .before .before .before .before .before .before .before .before .before .before .before .before .e4 .given .1) }) (c .before .before .before .before .before .before .before .before .before .deliver-question .ensures)
+    (c .before .before .before .before .before .before .enum-told5 .given .1) (c .before .before .before .before .before .before .before .before .if6 .left) _ (c .before .before .before .before .outgoing2 .ensures) _ (c .before .before .helped-turn .ensures)
 
-phase-in-requires : tie.Need-phase-in-requires Inv-loop2 μ-loop2 Inv-loop μ-loop
-phase-in-requires c κs = search needs
+enum-known-e-5 : tie.Need-enum-known-e-5 Inv-loop2 μ-loop2 Inv-loop3 μ-loop3 Inv-loop μ-loop
+enum-known-e-5 c = search needs
 
-mul-own-2 : tie.Need-mul-own-2 Inv-loop2 μ-loop2 Inv-loop μ-loop
-mul-own-2 c = search needs
+seat-requires-4 : tie.Need-seat-requires-4 Inv-loop2 μ-loop2 Inv-loop3 μ-loop3 Inv-loop μ-loop
+seat-requires-4 c κs = search needs
 
-array-copy-out-own-2 : tie.Need-array-copy-out-own-2 Inv-loop2 μ-loop2 Inv-loop μ-loop
-array-copy-out-own-2 c = search needs
+mul-condition-of-4 : tie.Need-mul-condition-of-4 Inv-loop2 μ-loop2 Inv-loop3 μ-loop3 Inv-loop μ-loop
+mul-condition-of-4 c = search needs
 
-counts-own-requires : tie.Need-counts-own-requires Inv-loop2 μ-loop2 Inv-loop μ-loop
-counts-own-requires c κs = search needs
+array-copy-out-condition-of-4 : tie.Need-array-copy-out-condition-of-4 Inv-loop2 μ-loop2 Inv-loop3 μ-loop3 Inv-loop μ-loop
+array-copy-out-condition-of-4 c = search needs
 
-mul-held : tie.Need-mul-held Inv-loop2 μ-loop2 Inv-loop μ-loop
-mul-held c = search needs
+condition-of-requires-4 : tie.Need-condition-of-requires-4 Inv-loop2 μ-loop2 Inv-loop3 μ-loop3 Inv-loop μ-loop
+condition-of-requires-4 c κs = search needs
 
-array-copy-out-held : tie.Need-array-copy-out-held Inv-loop2 μ-loop2 Inv-loop μ-loop
-array-copy-out-held c = search needs
+timeout-question-requires : tie.Need-timeout-question-requires Inv-loop2 μ-loop2 Inv-loop3 μ-loop3 Inv-loop μ-loop
+timeout-question-requires c κs = search needs
 
-set-if-requires : tie.Need-set-if-requires Inv-loop2 μ-loop2 Inv-loop μ-loop
-set-if-requires c κs = search needs
+slice-write-answers-6 : tie.Need-slice-write-answers-6 Inv-loop2 μ-loop2 Inv-loop3 μ-loop3 Inv-loop μ-loop
+slice-write-answers-6 c = search needs
 
-mul-sets-2 : tie.Need-mul-sets-2 Inv-loop2 μ-loop2 Inv-loop μ-loop
-mul-sets-2 c = search needs
+add-k-6 : tie.Need-add-k-6 Inv-loop2 μ-loop2 Inv-loop3 μ-loop3 Inv-loop μ-loop
+add-k-6 c = search needs
 
-array-set-from-sets-2 : tie.Need-array-set-from-sets-2 Inv-loop2 μ-loop2 Inv-loop μ-loop
-array-set-from-sets-2 c = search needs
+loop-less-16 : tie.Need-loop-less-16 Inv-loop2 μ-loop2 Inv-loop3 μ-loop3 Inv-loop μ-loop
+loop-less-16 c = omega (arith, c .before .before .before .before .before .before .before .before .before .before .before .before .loop-test .taken)
 
-from-if-requires : tie.Need-from-if-requires Inv-loop2 μ-loop2 Inv-loop μ-loop
-from-if-requires c κs = search needs
-
-cnt-if-requires : tie.Need-cnt-if-requires Inv-loop2 μ-loop2 Inv-loop μ-loop
-cnt-if-requires c κs = search needs
-
-first-turn-requires : tie.Need-first-turn-requires Inv-loop2 μ-loop2 Inv-loop μ-loop
-first-turn-requires c κs = search needs
-
-mul-stations-8 : tie.Need-mul-stations-8 Inv-loop2 μ-loop2 Inv-loop μ-loop
-mul-stations-8 c = omega (arith, c .before .before .before .before .before .before .before .before .before .before .before .before .before .before .before .before .before .before .before .before .before .seat4 .ensures .0)
-
-array-set-from-stations-8 : tie.Need-array-set-from-stations-8 Inv-loop2 μ-loop2 Inv-loop μ-loop
-array-set-from-stations-8 c = omega (arith, c .before .before .before .before .before .before .before .before .before .before .before .before .before .before .before .before .before .before .before .before .before .seat4 .ensures .0)
-
-loop-less-16 : tie.Need-loop-less-16 Inv-loop2 μ-loop2 Inv-loop μ-loop
-loop-less-16 c = omega (arith, c .before .before .before .before .before .before .before .before .before .before .before .before .before .before .before .before .before .before .before .before .before .before .before .before .before .before .before .before .before .loop-test .taken)
-
-loop-again-16 : tie.Need-loop-again-16 Inv-loop2 μ-loop2 Inv-loop μ-loop
+loop-again-16 : tie.Need-loop-again-16 Inv-loop2 μ-loop2 Inv-loop3 μ-loop3 Inv-loop μ-loop
 unfolding freshStation fresh unsentAll
 loop-again-16 c =
-    first-laid _ _ _ _ _ _ _ _ _ _ (c .before .before .before .before .before .before .before .before .before .before .before .before .before .before .before .before .before .before .before .before .before .seat4 .ensures) _ (c .before .before .before .before .before .before .before .before .before .before .before .before .before .before .before .before .before .before .before .condition-of4 .ensures)
-    (record { upto = c .before .before .before .before .before .before .before .before .before .before .before .before .before .before .before .before .before .before .before .before .before .before .before .before .before .before .before .before .before .before .loop .inv; more = c .before .before .before .before .before .before .before .before .before .before .before .before .before .before .before .before .before .before .before .before .before .before .before .before .before .before .before .before .before .loop-test .taken; record-read = c .before .before .before .before .before .before .before .before .before .before .before .before .before .before .before .before .before .before .before .before .before .before .before .before .before .before .before .before .record-at .result; piece-read = read-from _ _ _ _ (c .before .before .before .before .before .before .before .before .before .before .before .before .before .before .before .before .before .before .before .before .before .before .before .before .before .before .before .before .record-at .ensures); event = c .before .before .before .before .before .before .before .before .before .before .before .before .before .before .before .before .before .before .before .before .before .before .before .before .before .before .r .given .1 ∙ ap Read (c .before .before .before .before .before .before .before .before .before .before .before .before .before .before .before .before .before .before .before .before .before .before .before .e5 .given .1) }) (c .before .before .before .before .before .before .before .before .before .before .before .before .before .before .before .before .before .before .timeout-question .ensures)
-    (c .before .before .before .before .before .before .before .before .before .before .before .before .before .before .before .before .before .if8 .left) _ (c .before .before .before .before .before .before .before .before .before .before .before .before .before .before .before .before .phase-in .ensures ∙ ap phaseIn (c .before .before .before .before .before .before .before .before .before .before .before .before .before .before .before .before .before .before .before .condition-of4 .ensures)) (c .before .before .before .before .before .before .before .before .before .before .before .before .before .before .before .if9 .taken) _ (c .before .before .before .before .before .before .before .before .before .before .before .before .counts-own .ensures) _ (c .before .before .before .before .before .before .before .before .set-if .ensures) _ (c .before .before .before .before .before .before .before .from-if .ensures) _ (c .before .before .before .before .before .before .cnt-if .ensures) _ refl _ (c .first-turn .ensures)
+    timeout-refused _ _ _ _ _ _ _ _ _ _ _ (c .before .before .before .before .seat4 .ensures) _ (c .before .before .condition-of4 .ensures)
+    (record { upto = c .before .before .before .before .before .before .before .before .before .before .before .before .before .loop .inv; more = c .before .before .before .before .before .before .before .before .before .before .before .before .loop-test .taken; record-read = c .before .before .before .before .before .before .before .before .before .before .before .record-at .result; piece-read = read-from _ _ _ _ (c .before .before .before .before .before .before .before .before .before .before .before .record-at .ensures); event = c .before .before .before .before .before .before .before .before .before .r .given .1 ∙ ap Read (c .before .before .before .before .before .before .e5 .given .1) }) (c .before .timeout-question .ensures)
+    (c .if9 .taken)
 
-mul-second-turn : tie.Need-mul-second-turn Inv-loop2 μ-loop2 Inv-loop μ-loop
-mul-second-turn c = search needs
+phase-in-requires : tie.Need-phase-in-requires Inv-loop2 μ-loop2 Inv-loop3 μ-loop3 Inv-loop μ-loop
+phase-in-requires c κs = search needs
 
-array-copy-out-second-turn : tie.Need-array-copy-out-second-turn Inv-loop2 μ-loop2 Inv-loop μ-loop
-array-copy-out-second-turn c = search needs
+mul-own-2 : tie.Need-mul-own-2 Inv-loop2 μ-loop2 Inv-loop3 μ-loop3 Inv-loop μ-loop
+mul-own-2 c = search needs
 
-second-turn-requires : tie.Need-second-turn-requires Inv-loop2 μ-loop2 Inv-loop μ-loop
-second-turn-requires c κs = search needs
+array-copy-out-own-2 : tie.Need-array-copy-out-own-2 Inv-loop2 μ-loop2 Inv-loop3 μ-loop3 Inv-loop μ-loop
+array-copy-out-own-2 c = search needs
 
-mul-stations-9 : tie.Need-mul-stations-9 Inv-loop2 μ-loop2 Inv-loop μ-loop
-mul-stations-9 c = omega (arith, c .before .before .before .before .before .before .before .before .before .before .seat4 .ensures .0)
+counts-own-requires : tie.Need-counts-own-requires Inv-loop2 μ-loop2 Inv-loop3 μ-loop3 Inv-loop μ-loop
+counts-own-requires c κs = search needs
 
-array-set-from-stations-9 : tie.Need-array-set-from-stations-9 Inv-loop2 μ-loop2 Inv-loop μ-loop
-array-set-from-stations-9 c = omega (arith, c .before .before .before .before .before .before .before .before .before .before .seat4 .ensures .0)
+mul-held : tie.Need-mul-held Inv-loop2 μ-loop2 Inv-loop3 μ-loop3 Inv-loop μ-loop
+mul-held c = search needs
 
-loop-less-17 : tie.Need-loop-less-17 Inv-loop2 μ-loop2 Inv-loop μ-loop
-loop-less-17 c = omega (arith, c .before .before .before .before .before .before .before .before .before .before .before .before .before .before .before .before .before .before .loop-test .taken)
+array-copy-out-held : tie.Need-array-copy-out-held Inv-loop2 μ-loop2 Inv-loop3 μ-loop3 Inv-loop μ-loop
+array-copy-out-held c = search needs
 
-loop-again-17 : tie.Need-loop-again-17 Inv-loop2 μ-loop2 Inv-loop μ-loop
+set-if-requires : tie.Need-set-if-requires Inv-loop2 μ-loop2 Inv-loop3 μ-loop3 Inv-loop μ-loop
+set-if-requires c κs = search needs
+
+mul-sets-2 : tie.Need-mul-sets-2 Inv-loop2 μ-loop2 Inv-loop3 μ-loop3 Inv-loop μ-loop
+mul-sets-2 c = search needs
+
+array-set-from-sets-2 : tie.Need-array-set-from-sets-2 Inv-loop2 μ-loop2 Inv-loop3 μ-loop3 Inv-loop μ-loop
+array-set-from-sets-2 c = search needs
+
+from-if-requires : tie.Need-from-if-requires Inv-loop2 μ-loop2 Inv-loop3 μ-loop3 Inv-loop μ-loop
+from-if-requires c κs = search needs
+
+cnt-if-requires : tie.Need-cnt-if-requires Inv-loop2 μ-loop2 Inv-loop3 μ-loop3 Inv-loop μ-loop
+cnt-if-requires c κs = search needs
+
+first-turn-requires : tie.Need-first-turn-requires Inv-loop2 μ-loop2 Inv-loop3 μ-loop3 Inv-loop μ-loop
+first-turn-requires c κs = search needs
+
+mul-stations-8 : tie.Need-mul-stations-8 Inv-loop2 μ-loop2 Inv-loop3 μ-loop3 Inv-loop μ-loop
+mul-stations-8 c = omega (arith, c .before .before .before .before .before .before .before .before .before .before .before .before .before .before .before .before .before .before .before .before .before .seat4 .ensures .0)
+
+array-set-from-stations-8 : tie.Need-array-set-from-stations-8 Inv-loop2 μ-loop2 Inv-loop3 μ-loop3 Inv-loop μ-loop
+array-set-from-stations-8 c = omega (arith, c .before .before .before .before .before .before .before .before .before .before .before .before .before .before .before .before .before .before .before .before .before .seat4 .ensures .0)
+
+loop-less-17 : tie.Need-loop-less-17 Inv-loop2 μ-loop2 Inv-loop3 μ-loop3 Inv-loop μ-loop
+loop-less-17 c = omega (arith, c .before .before .before .before .before .before .before .before .before .before .before .before .before .before .before .before .before .before .before .before .before .before .before .before .before .before .before .before .before .loop-test .taken)
+
+loop-again-17 : tie.Need-loop-again-17 Inv-loop2 μ-loop2 Inv-loop3 μ-loop3 Inv-loop μ-loop
 unfolding freshStation fresh unsentAll
 loop-again-17 c =
-    second-accepted _ _ _ _ _ _ _ _ _ _ (c .before .before .before .before .before .before .before .before .before .before .seat4 .ensures) _ (c .before .before .before .before .before .before .before .before .condition-of4 .ensures)
-    (record { upto = c .before .before .before .before .before .before .before .before .before .before .before .before .before .before .before .before .before .before .before .loop .inv; more = c .before .before .before .before .before .before .before .before .before .before .before .before .before .before .before .before .before .before .loop-test .taken; record-read = c .before .before .before .before .before .before .before .before .before .before .before .before .before .before .before .before .before .record-at .result; piece-read = read-from _ _ _ _ (c .before .before .before .before .before .before .before .before .before .before .before .before .before .before .before .before .before .record-at .ensures); event = c .before .before .before .before .before .before .before .before .before .before .before .before .before .before .before .r .given .1 ∙ ap Read (c .before .before .before .before .before .before .before .before .before .before .before .before .e5 .given .1) }) (c .before .before .before .before .before .before .before .timeout-question .ensures)
-    (c .before .before .before .before .before .before .if8 .left) (λ z. c .before .before .before .before .if9 .left (c .before .before .before .before .before .phase-in .ensures ∙ ap phaseIn (c .before .before .before .before .before .before .before .before .condition-of4 .ensures) ∙ z)) _ (c .before .before .second-turn .ensures)
+    first-laid _ _ _ _ _ _ _ _ _ _ _ (c .before .before .before .before .before .before .before .before .before .before .before .before .before .before .before .before .before .before .before .before .before .seat4 .ensures) _ (c .before .before .before .before .before .before .before .before .before .before .before .before .before .before .before .before .before .before .before .condition-of4 .ensures)
+    (record { upto = c .before .before .before .before .before .before .before .before .before .before .before .before .before .before .before .before .before .before .before .before .before .before .before .before .before .before .before .before .before .before .loop .inv; more = c .before .before .before .before .before .before .before .before .before .before .before .before .before .before .before .before .before .before .before .before .before .before .before .before .before .before .before .before .before .loop-test .taken; record-read = c .before .before .before .before .before .before .before .before .before .before .before .before .before .before .before .before .before .before .before .before .before .before .before .before .before .before .before .before .record-at .result; piece-read = read-from _ _ _ _ (c .before .before .before .before .before .before .before .before .before .before .before .before .before .before .before .before .before .before .before .before .before .before .before .before .before .before .before .before .record-at .ensures); event = c .before .before .before .before .before .before .before .before .before .before .before .before .before .before .before .before .before .before .before .before .before .before .before .before .before .before .r .given .1 ∙ ap Read (c .before .before .before .before .before .before .before .before .before .before .before .before .before .before .before .before .before .before .before .before .before .before .before .e5 .given .1) }) (c .before .before .before .before .before .before .before .before .before .before .before .before .before .before .before .before .before .before .timeout-question .ensures)
+    (c .before .before .before .before .before .before .before .before .before .before .before .before .before .before .before .before .before .if9 .left) _ (c .before .before .before .before .before .before .before .before .before .before .before .before .before .before .before .before .phase-in .ensures ∙ ap phaseIn (c .before .before .before .before .before .before .before .before .before .before .before .before .before .before .before .before .before .before .before .condition-of4 .ensures)) (c .before .before .before .before .before .before .before .before .before .before .before .before .before .before .before .if10 .taken) _ (c .before .before .before .before .before .before .before .before .before .before .before .before .counts-own .ensures) _ (c .before .before .before .before .before .before .before .before .set-if .ensures) _ (c .before .before .before .before .before .before .before .from-if .ensures) _ (c .before .before .before .before .before .before .cnt-if .ensures) _ refl _ (c .first-turn .ensures)
 
-enum-known-e-6 : tie.Need-enum-known-e-6 Inv-loop2 μ-loop2 Inv-loop μ-loop
-enum-known-e-6 c = search needs
+mul-second-turn : tie.Need-mul-second-turn Inv-loop2 μ-loop2 Inv-loop3 μ-loop3 Inv-loop μ-loop
+mul-second-turn c = search needs
 
-seat-requires-5 : tie.Need-seat-requires-5 Inv-loop2 μ-loop2 Inv-loop μ-loop
-seat-requires-5 c κs = search needs
+array-copy-out-second-turn : tie.Need-array-copy-out-second-turn Inv-loop2 μ-loop2 Inv-loop3 μ-loop3 Inv-loop μ-loop
+array-copy-out-second-turn c = search needs
 
-mul-condition-of-5 : tie.Need-mul-condition-of-5 Inv-loop2 μ-loop2 Inv-loop μ-loop
-mul-condition-of-5 c = search needs
+second-turn-requires : tie.Need-second-turn-requires Inv-loop2 μ-loop2 Inv-loop3 μ-loop3 Inv-loop μ-loop
+second-turn-requires c κs = search needs
 
-array-copy-out-condition-of-5 :
-    tie.Need-array-copy-out-condition-of-5 Inv-loop2 μ-loop2 Inv-loop μ-loop
-array-copy-out-condition-of-5 c = search needs
+mul-stations-9 : tie.Need-mul-stations-9 Inv-loop2 μ-loop2 Inv-loop3 μ-loop3 Inv-loop μ-loop
+mul-stations-9 c = omega (arith, c .before .before .before .before .before .before .before .before .before .before .seat4 .ensures .0)
 
-condition-of-requires-5 : tie.Need-condition-of-requires-5 Inv-loop2 μ-loop2 Inv-loop μ-loop
-condition-of-requires-5 c κs = search needs
+array-set-from-stations-9 : tie.Need-array-set-from-stations-9 Inv-loop2 μ-loop2 Inv-loop3 μ-loop3 Inv-loop μ-loop
+array-set-from-stations-9 c = omega (arith, c .before .before .before .before .before .before .before .before .before .before .seat4 .ensures .0)
 
-decide-question-requires : tie.Need-decide-question-requires Inv-loop2 μ-loop2 Inv-loop μ-loop
-decide-question-requires c κs = search needs
+loop-less-18 : tie.Need-loop-less-18 Inv-loop2 μ-loop2 Inv-loop3 μ-loop3 Inv-loop μ-loop
+loop-less-18 c = omega (arith, c .before .before .before .before .before .before .before .before .before .before .before .before .before .before .before .before .before .before .loop-test .taken)
 
-slice-write-answers-7 : tie.Need-slice-write-answers-7 Inv-loop2 μ-loop2 Inv-loop μ-loop
-slice-write-answers-7 c = search needs
-
-add-k-7 : tie.Need-add-k-7 Inv-loop2 μ-loop2 Inv-loop μ-loop
-add-k-7 c = search needs
-
-loop-less-18 : tie.Need-loop-less-18 Inv-loop2 μ-loop2 Inv-loop μ-loop
-loop-less-18 c = omega (arith, c .before .before .before .before .before .before .before .before .before .before .before .before .loop-test .taken)
-
-loop-again-18 : tie.Need-loop-again-18 Inv-loop2 μ-loop2 Inv-loop μ-loop
+loop-again-18 : tie.Need-loop-again-18 Inv-loop2 μ-loop2 Inv-loop3 μ-loop3 Inv-loop μ-loop
 unfolding freshStation fresh unsentAll
 loop-again-18 c =
-    decide-refused _ _ _ _ _ _ _ _ _ _ (c .before .before .before .before .seat5 .ensures) _ (c .before .before .condition-of5 .ensures) _
-    (record { upto = c .before .before .before .before .before .before .before .before .before .before .before .before .before .loop .inv; more = c .before .before .before .before .before .before .before .before .before .before .before .before .loop-test .taken; record-read = c .before .before .before .before .before .before .before .before .before .before .before .record-at .result; piece-read = read-from _ _ _ _ (c .before .before .before .before .before .before .before .before .before .before .before .record-at .ensures); event = c .before .before .before .before .before .before .before .before .before .r .given .1 ∙ ap Read (c .before .before .before .before .before .before .e6 .given .1) }) (c .before .decide-question .ensures)
-    (c .if10 .taken)
+    second-accepted _ _ _ _ _ _ _ _ _ _ _ (c .before .before .before .before .before .before .before .before .before .before .seat4 .ensures) _ (c .before .before .before .before .before .before .before .before .condition-of4 .ensures)
+    (record { upto = c .before .before .before .before .before .before .before .before .before .before .before .before .before .before .before .before .before .before .before .loop .inv; more = c .before .before .before .before .before .before .before .before .before .before .before .before .before .before .before .before .before .before .loop-test .taken; record-read = c .before .before .before .before .before .before .before .before .before .before .before .before .before .before .before .before .before .record-at .result; piece-read = read-from _ _ _ _ (c .before .before .before .before .before .before .before .before .before .before .before .before .before .before .before .before .before .record-at .ensures); event = c .before .before .before .before .before .before .before .before .before .before .before .before .before .before .before .r .given .1 ∙ ap Read (c .before .before .before .before .before .before .before .before .before .before .before .before .e5 .given .1) }) (c .before .before .before .before .before .before .before .timeout-question .ensures)
+    (c .before .before .before .before .before .before .if9 .left) (λ z. c .before .before .before .before .if10 .left (c .before .before .before .before .before .phase-in .ensures ∙ ap phaseIn (c .before .before .before .before .before .before .before .before .condition-of4 .ensures) ∙ z)) _ (c .before .before .second-turn .ensures)
 
-mul-decide-turn : tie.Need-mul-decide-turn Inv-loop2 μ-loop2 Inv-loop μ-loop
-mul-decide-turn c = search needs
+enum-known-e-6 : tie.Need-enum-known-e-6 Inv-loop2 μ-loop2 Inv-loop3 μ-loop3 Inv-loop μ-loop
+enum-known-e-6 c = search needs
 
-array-copy-out-decide-turn : tie.Need-array-copy-out-decide-turn Inv-loop2 μ-loop2 Inv-loop μ-loop
-array-copy-out-decide-turn c = search needs
+seat-requires-5 : tie.Need-seat-requires-5 Inv-loop2 μ-loop2 Inv-loop3 μ-loop3 Inv-loop μ-loop
+seat-requires-5 c κs = search needs
 
-decide-turn-requires : tie.Need-decide-turn-requires Inv-loop2 μ-loop2 Inv-loop μ-loop
-decide-turn-requires c κs = search needs
+ballots-asked-requires : tie.Need-ballots-asked-requires Inv-loop2 μ-loop2 Inv-loop3 μ-loop3 Inv-loop μ-loop
+ballots-asked-requires c κs = search needs
 
-mul-stations-10 : tie.Need-mul-stations-10 Inv-loop2 μ-loop2 Inv-loop μ-loop
-mul-stations-10 c = omega (arith, c .before .before .before .before .before .before .before .before .seat5 .ensures .0)
+loop3-holds : tie.Need-loop3-holds Inv-loop2 μ-loop2 Inv-loop3 μ-loop3 Inv-loop μ-loop
+loop3-holds c = (omega arith, none-chosen _ _ _)
 
-array-set-from-stations-10 : tie.Need-array-set-from-stations-10 Inv-loop2 μ-loop2 Inv-loop μ-loop
-array-set-from-stations-10 c = omega (arith, c .before .before .before .before .before .before .before .before .seat5 .ensures .0)
+mul-chosen-at : tie.Need-mul-chosen-at Inv-loop2 μ-loop2 Inv-loop3 μ-loop3 Inv-loop μ-loop
+mul-chosen-at c = omega (arith, c .loop3-test .taken, c .before .before .ballots-asked .ensures .1)
 
-loop-less-19 : tie.Need-loop-less-19 Inv-loop2 μ-loop2 Inv-loop μ-loop
+array-copy-out-chosen-at : tie.Need-array-copy-out-chosen-at Inv-loop2 μ-loop2 Inv-loop3 μ-loop3 Inv-loop μ-loop
+array-copy-out-chosen-at c = omega (arith, c .loop3-test .taken, c .before .before .ballots-asked .ensures .1)
+
+chosen-at-requires : tie.Need-chosen-at-requires Inv-loop2 μ-loop2 Inv-loop3 μ-loop3 Inv-loop μ-loop
+chosen-at-requires c κs = search needs
+
+add-i-2 : tie.Need-add-i-2 Inv-loop2 μ-loop2 Inv-loop3 μ-loop3 Inv-loop μ-loop
+add-i-2 c = omega (arith, c .before .before .loop3-test .taken, c .before .before .before .before .ballots-asked .ensures .1)
+
+loop3-less : tie.Need-loop3-less Inv-loop2 μ-loop2 Inv-loop3 μ-loop3 Inv-loop μ-loop
+loop3-less c = omega (arith, c .before .before .loop3-test .taken, c .before .before .before .before .ballots-asked .ensures .1)
+
+loop3-again : tie.Need-loop3-again Inv-loop2 μ-loop2 Inv-loop3 μ-loop3 Inv-loop μ-loop
+unfolding freshStation fresh unsentAll newRow
+loop3-again c = (omega arith, more-chosen _ _ _ _ _ _ (c .before .before .before .loop3 .inv .1) (c .chosen-at .ensures))
+
+may-give-requires : tie.Need-may-give-requires Inv-loop2 μ-loop2 Inv-loop3 μ-loop3 Inv-loop μ-loop
+may-give-requires c κs = search needs
+
+mul-condition-of-5 : tie.Need-mul-condition-of-5 Inv-loop2 μ-loop2 Inv-loop3 μ-loop3 Inv-loop μ-loop
+mul-condition-of-5 c = search needs
+
+array-copy-out-condition-of-5 : tie.Need-array-copy-out-condition-of-5 Inv-loop2 μ-loop2 Inv-loop3 μ-loop3 Inv-loop μ-loop
+array-copy-out-condition-of-5 c = search needs
+
+condition-of-requires-5 : tie.Need-condition-of-requires-5 Inv-loop2 μ-loop2 Inv-loop3 μ-loop3 Inv-loop μ-loop
+condition-of-requires-5 c κs = search needs
+
+decide-question-requires : tie.Need-decide-question-requires Inv-loop2 μ-loop2 Inv-loop3 μ-loop3 Inv-loop μ-loop
+decide-question-requires c κs = search needs
+
+slice-write-answers-7 : tie.Need-slice-write-answers-7 Inv-loop2 μ-loop2 Inv-loop3 μ-loop3 Inv-loop μ-loop
+slice-write-answers-7 c = search needs
+
+add-k-7 : tie.Need-add-k-7 Inv-loop2 μ-loop2 Inv-loop3 μ-loop3 Inv-loop μ-loop
+add-k-7 c = search needs
+
+loop-less-19 : tie.Need-loop-less-19 Inv-loop2 μ-loop2 Inv-loop3 μ-loop3 Inv-loop μ-loop
 loop-less-19 c = omega (arith, c .before .before .before .before .before .before .before .before .before .before .before .before .before .before .before .before .loop-test .taken)
 
-loop-again-19 : tie.Need-loop-again-19 Inv-loop2 μ-loop2 Inv-loop μ-loop
-unfolding freshStation fresh unsentAll
+loop-again-19 : tie.Need-loop-again-19 Inv-loop2 μ-loop2 Inv-loop3 μ-loop3 Inv-loop μ-loop
+unfolding freshStation fresh unsentAll newRow
 loop-again-19 c =
-    decide-accepted _ _ _ _ _ _ _ _ _ _ (c .before .before .before .before .before .before .before .before .seat5 .ensures) _ (c .before .before .before .before .before .before .condition-of5 .ensures) _
-    (record { upto = c .before .before .before .before .before .before .before .before .before .before .before .before .before .before .before .before .before .loop .inv; more = c .before .before .before .before .before .before .before .before .before .before .before .before .before .before .before .before .loop-test .taken; record-read = c .before .before .before .before .before .before .before .before .before .before .before .before .before .before .before .record-at .result; piece-read = read-from _ _ _ _ (c .before .before .before .before .before .before .before .before .before .before .before .before .before .before .before .record-at .ensures); event = c .before .before .before .before .before .before .before .before .before .before .before .before .before .r .given .1 ∙ ap Read (c .before .before .before .before .before .before .before .before .before .before .e6 .given .1) }) (c .before .before .before .before .before .decide-question .ensures)
-    (c .before .before .before .before .if10 .left) _ (c .before .before .decide-turn .ensures)
+    let end : c .before .before .before .before .before .before .loop3 .i ≡ c .before .before .before .before .before .before .before .ballots-asked .result = omega (arith, c .before .before .before .before .before .before .loop3 .inv .0, c .before .before .before .before .before .loop3-test .left) in
+    decide-refused _ _ _ _ _ _ _ _ _ _ _ (c .before .before .before .before .before .before .before .before .seat5 .ensures) _ (c .before .before .condition-of5 .ensures) _ _ (may-give (c .before .before .before .before .before .before .before .before .before .before .before .before .before .before .before .before .before .loop .m) _ _ _ _ _ _ (c .before .before .before .before .before .before .before .ballots-asked .ensures .0) end (c .before .before .before .before .before .before .loop3 .inv .1) (c .before .before .before .before .may-give .ensures))
+    (record { upto = c .before .before .before .before .before .before .before .before .before .before .before .before .before .before .before .before .before .loop .inv; more = c .before .before .before .before .before .before .before .before .before .before .before .before .before .before .before .before .loop-test .taken; record-read = c .before .before .before .before .before .before .before .before .before .before .before .before .before .before .before .record-at .result; piece-read = read-from _ _ _ _ (c .before .before .before .before .before .before .before .before .before .before .before .before .before .before .before .record-at .ensures); event = c .before .before .before .before .before .before .before .before .before .before .before .before .before .r .given .1 ∙ ap Read (c .before .before .before .before .before .before .before .before .before .before .e6 .given .1) }) (c .before .decide-question .ensures false) (c .if11 .taken)
 
-enum-known-e-7 : tie.Need-enum-known-e-7 Inv-loop2 μ-loop2 Inv-loop μ-loop
+mul-decide-turn : tie.Need-mul-decide-turn Inv-loop2 μ-loop2 Inv-loop3 μ-loop3 Inv-loop μ-loop
+mul-decide-turn c = search needs
+
+array-copy-out-decide-turn : tie.Need-array-copy-out-decide-turn Inv-loop2 μ-loop2 Inv-loop3 μ-loop3 Inv-loop μ-loop
+array-copy-out-decide-turn c = search needs
+
+decide-turn-requires : tie.Need-decide-turn-requires Inv-loop2 μ-loop2 Inv-loop3 μ-loop3 Inv-loop μ-loop
+decide-turn-requires c κs = search needs
+
+mul-stations-10 : tie.Need-mul-stations-10 Inv-loop2 μ-loop2 Inv-loop3 μ-loop3 Inv-loop μ-loop
+mul-stations-10 c = omega (arith, c .before .before .before .before .before .before .before .before .before .before .before .before .seat5 .ensures .0)
+
+array-set-from-stations-10 : tie.Need-array-set-from-stations-10 Inv-loop2 μ-loop2 Inv-loop3 μ-loop3 Inv-loop μ-loop
+array-set-from-stations-10 c = omega (arith, c .before .before .before .before .before .before .before .before .before .before .before .before .seat5 .ensures .0)
+
+loop-less-20 : tie.Need-loop-less-20 Inv-loop2 μ-loop2 Inv-loop3 μ-loop3 Inv-loop μ-loop
+loop-less-20 c = omega (arith, c .before .before .before .before .before .before .before .before .before .before .before .before .before .before .before .before .before .before .before .before .loop-test .taken)
+
+loop-again-20 : tie.Need-loop-again-20 Inv-loop2 μ-loop2 Inv-loop3 μ-loop3 Inv-loop μ-loop
+unfolding freshStation fresh unsentAll newRow
+loop-again-20 c =
+    let end : c .before .before .before .before .before .before .before .before .before .before .loop3 .i ≡ c .before .before .before .before .before .before .before .before .before .before .before .ballots-asked .result = omega (arith, c .before .before .before .before .before .before .before .before .before .before .loop3 .inv .0, c .before .before .before .before .before .before .before .before .before .loop3-test .left) in
+    decide-accepted _ _ _ _ _ _ _ _ _ _ _ (c .before .before .before .before .before .before .before .before .before .before .before .before .seat5 .ensures) _ (c .before .before .before .before .before .before .condition-of5 .ensures) _ _ (may-give (c .before .before .before .before .before .before .before .before .before .before .before .before .before .before .before .before .before .before .before .before .before .loop .m) _ _ _ _ _ _ (c .before .before .before .before .before .before .before .before .before .before .before .ballots-asked .ensures .0) end (c .before .before .before .before .before .before .before .before .before .before .loop3 .inv .1) (c .before .before .before .before .before .before .before .before .may-give .ensures))
+    (record { upto = c .before .before .before .before .before .before .before .before .before .before .before .before .before .before .before .before .before .before .before .before .before .loop .inv; more = c .before .before .before .before .before .before .before .before .before .before .before .before .before .before .before .before .before .before .before .before .loop-test .taken; record-read = c .before .before .before .before .before .before .before .before .before .before .before .before .before .before .before .before .before .before .before .record-at .result; piece-read = read-from _ _ _ _ (c .before .before .before .before .before .before .before .before .before .before .before .before .before .before .before .before .before .before .before .record-at .ensures); event = c .before .before .before .before .before .before .before .before .before .before .before .before .before .before .before .before .before .r .given .1 ∙ ap Read (c .before .before .before .before .before .before .before .before .before .before .before .before .before .before .e6 .given .1) }) (c .before .before .before .before .before .decide-question .ensures false) (c .before .before .before .before .if11 .left) _ (c .before .before .decide-turn .ensures)
+
+enum-known-e-7 : tie.Need-enum-known-e-7 Inv-loop2 μ-loop2 Inv-loop3 μ-loop3 Inv-loop μ-loop
 enum-known-e-7 c = search needs
 
-seat-requires-6 : tie.Need-seat-requires-6 Inv-loop2 μ-loop2 Inv-loop μ-loop
+seat-requires-6 : tie.Need-seat-requires-6 Inv-loop2 μ-loop2 Inv-loop3 μ-loop3 Inv-loop μ-loop
 seat-requires-6 c κs = search needs
 
-mul-condition-of-6 : tie.Need-mul-condition-of-6 Inv-loop2 μ-loop2 Inv-loop μ-loop
+mul-condition-of-6 : tie.Need-mul-condition-of-6 Inv-loop2 μ-loop2 Inv-loop3 μ-loop3 Inv-loop μ-loop
 mul-condition-of-6 c = search needs
 
-array-copy-out-condition-of-6 :
-    tie.Need-array-copy-out-condition-of-6 Inv-loop2 μ-loop2 Inv-loop μ-loop
+array-copy-out-condition-of-6 : tie.Need-array-copy-out-condition-of-6 Inv-loop2 μ-loop2 Inv-loop3 μ-loop3 Inv-loop μ-loop
 array-copy-out-condition-of-6 c = search needs
 
-condition-of-requires-6 : tie.Need-condition-of-requires-6 Inv-loop2 μ-loop2 Inv-loop μ-loop
+condition-of-requires-6 : tie.Need-condition-of-requires-6 Inv-loop2 μ-loop2 Inv-loop3 μ-loop3 Inv-loop μ-loop
 condition-of-requires-6 c κs = search needs
 
-present-question-requires : tie.Need-present-question-requires Inv-loop2 μ-loop2 Inv-loop μ-loop
+present-question-requires : tie.Need-present-question-requires Inv-loop2 μ-loop2 Inv-loop3 μ-loop3 Inv-loop μ-loop
 present-question-requires c κs = search needs
 
-slice-write-answers-8 : tie.Need-slice-write-answers-8 Inv-loop2 μ-loop2 Inv-loop μ-loop
+slice-write-answers-8 : tie.Need-slice-write-answers-8 Inv-loop2 μ-loop2 Inv-loop3 μ-loop3 Inv-loop μ-loop
 slice-write-answers-8 c = search needs
 
-add-k-8 : tie.Need-add-k-8 Inv-loop2 μ-loop2 Inv-loop μ-loop
+add-k-8 : tie.Need-add-k-8 Inv-loop2 μ-loop2 Inv-loop3 μ-loop3 Inv-loop μ-loop
 add-k-8 c = search needs
 
-loop-less-20 : tie.Need-loop-less-20 Inv-loop2 μ-loop2 Inv-loop μ-loop
-loop-less-20 c = omega (arith, c .before .before .before .before .before .before .before .before .before .before .before .before .loop-test .taken)
+loop-less-21 : tie.Need-loop-less-21 Inv-loop2 μ-loop2 Inv-loop3 μ-loop3 Inv-loop μ-loop
+loop-less-21 c = omega (arith, c .before .before .before .before .before .before .before .before .before .before .before .before .loop-test .taken)
 
-loop-again-20 : tie.Need-loop-again-20 Inv-loop2 μ-loop2 Inv-loop μ-loop
-unfolding freshStation fresh unsentAll
-loop-again-20 c =
-    stop-refused _ _ _ _ _ _ _ _ _ _ (c .before .before .before .before .seat6 .ensures) _ (c .before .before .condition-of6 .ensures)
-    (record { upto = c .before .before .before .before .before .before .before .before .before .before .before .before .before .loop .inv; more = c .before .before .before .before .before .before .before .before .before .before .before .before .loop-test .taken; record-read = c .before .before .before .before .before .before .before .before .before .before .before .record-at .result; piece-read = read-from _ _ _ _ (c .before .before .before .before .before .before .before .before .before .before .before .record-at .ensures); event = c .before .before .before .before .before .before .before .before .before .r .given .1 ∙ ap Read (c .before .before .before .before .before .before .e7 .given .1) }) (c .before .present-question .ensures .0)
-    (c .if11 .taken)
-
-mul-stop-turn : tie.Need-mul-stop-turn Inv-loop2 μ-loop2 Inv-loop μ-loop
-mul-stop-turn c = search needs
-
-array-copy-out-stop-turn : tie.Need-array-copy-out-stop-turn Inv-loop2 μ-loop2 Inv-loop μ-loop
-array-copy-out-stop-turn c = search needs
-
-stop-turn-requires : tie.Need-stop-turn-requires Inv-loop2 μ-loop2 Inv-loop μ-loop
-stop-turn-requires c κs = search needs
-
-mul-stations-11 : tie.Need-mul-stations-11 Inv-loop2 μ-loop2 Inv-loop μ-loop
-mul-stations-11 c = omega (arith, c .before .before .before .before .before .before .before .before .seat6 .ensures .0)
-
-array-set-from-stations-11 : tie.Need-array-set-from-stations-11 Inv-loop2 μ-loop2 Inv-loop μ-loop
-array-set-from-stations-11 c = omega (arith, c .before .before .before .before .before .before .before .before .seat6 .ensures .0)
-
-loop-less-21 : tie.Need-loop-less-21 Inv-loop2 μ-loop2 Inv-loop μ-loop
-loop-less-21 c = omega (arith, c .before .before .before .before .before .before .before .before .before .before .before .before .before .before .before .before .loop-test .taken)
-
-loop-again-21 : tie.Need-loop-again-21 Inv-loop2 μ-loop2 Inv-loop μ-loop
+loop-again-21 : tie.Need-loop-again-21 Inv-loop2 μ-loop2 Inv-loop3 μ-loop3 Inv-loop μ-loop
 unfolding freshStation fresh unsentAll
 loop-again-21 c =
-    stop-accepted _ _ _ _ _ _ _ _ _ _ (c .before .before .before .before .before .before .before .before .seat6 .ensures) _ (c .before .before .before .before .before .before .condition-of6 .ensures)
-    (record { upto = c .before .before .before .before .before .before .before .before .before .before .before .before .before .before .before .before .before .loop .inv; more = c .before .before .before .before .before .before .before .before .before .before .before .before .before .before .before .before .loop-test .taken; record-read = c .before .before .before .before .before .before .before .before .before .before .before .before .before .before .before .record-at .result; piece-read = read-from _ _ _ _ (c .before .before .before .before .before .before .before .before .before .before .before .before .before .before .before .record-at .ensures); event = c .before .before .before .before .before .before .before .before .before .before .before .before .before .r .given .1 ∙ ap Read (c .before .before .before .before .before .before .before .before .before .before .e7 .given .1) }) (c .before .before .before .before .before .present-question .ensures .0)
-    (c .before .before .before .before .if11 .left) _ (c .before .before .stop-turn .ensures)
-
-enum-known-e-8 : tie.Need-enum-known-e-8 Inv-loop2 μ-loop2 Inv-loop μ-loop
-enum-known-e-8 c = search needs
-
-seat-requires-7 : tie.Need-seat-requires-7 Inv-loop2 μ-loop2 Inv-loop μ-loop
-seat-requires-7 c κs = search needs
-
-mul-condition-of-7 : tie.Need-mul-condition-of-7 Inv-loop2 μ-loop2 Inv-loop μ-loop
-mul-condition-of-7 c = search needs
-
-array-copy-out-condition-of-7 :
-    tie.Need-array-copy-out-condition-of-7 Inv-loop2 μ-loop2 Inv-loop μ-loop
-array-copy-out-condition-of-7 c = search needs
-
-condition-of-requires-7 : tie.Need-condition-of-requires-7 Inv-loop2 μ-loop2 Inv-loop μ-loop
-condition-of-requires-7 c κs = search needs
-
-present-question-requires-2 :
-    tie.Need-present-question-requires-2 Inv-loop2 μ-loop2 Inv-loop μ-loop
-present-question-requires-2 c κs = search needs
-
-slice-write-answers-9 : tie.Need-slice-write-answers-9 Inv-loop2 μ-loop2 Inv-loop μ-loop
-slice-write-answers-9 c = search needs
-
-add-k-9 : tie.Need-add-k-9 Inv-loop2 μ-loop2 Inv-loop μ-loop
-add-k-9 c = search needs
-
-loop-less-22 : tie.Need-loop-less-22 Inv-loop2 μ-loop2 Inv-loop μ-loop
-loop-less-22 c = omega (arith, c .before .before .before .before .before .before .before .before .before .before .before .before .loop-test .taken)
-
-loop-again-22 : tie.Need-loop-again-22 Inv-loop2 μ-loop2 Inv-loop μ-loop
-unfolding freshStation fresh unsentAll
-loop-again-22 c =
-    save-refused _ _ _ _ _ _ _ _ _ _ (c .before .before .before .before .seat7 .ensures) _ (c .before .before .condition-of7 .ensures)
-    (record { upto = c .before .before .before .before .before .before .before .before .before .before .before .before .before .loop .inv; more = c .before .before .before .before .before .before .before .before .before .before .before .before .loop-test .taken; record-read = c .before .before .before .before .before .before .before .before .before .before .before .record-at .result; piece-read = read-from _ _ _ _ (c .before .before .before .before .before .before .before .before .before .before .before .record-at .ensures); event = c .before .before .before .before .before .before .before .before .before .r .given .1 ∙ ap Read (c .before .before .before .before .before .before .e8 .given .1) }) (c .before .present-question2 .ensures .1)
+    stop-refused _ _ _ _ _ _ _ _ _ _ _ (c .before .before .before .before .seat6 .ensures) _ (c .before .before .condition-of6 .ensures)
+    (record { upto = c .before .before .before .before .before .before .before .before .before .before .before .before .before .loop .inv; more = c .before .before .before .before .before .before .before .before .before .before .before .before .loop-test .taken; record-read = c .before .before .before .before .before .before .before .before .before .before .before .record-at .result; piece-read = read-from _ _ _ _ (c .before .before .before .before .before .before .before .before .before .before .before .record-at .ensures); event = c .before .before .before .before .before .before .before .before .before .r .given .1 ∙ ap Read (c .before .before .before .before .before .before .e7 .given .1) }) (c .before .present-question .ensures .0)
     (c .if12 .taken)
 
-mul-save-turn : tie.Need-mul-save-turn Inv-loop2 μ-loop2 Inv-loop μ-loop
-mul-save-turn c = search needs
+mul-stop-turn : tie.Need-mul-stop-turn Inv-loop2 μ-loop2 Inv-loop3 μ-loop3 Inv-loop μ-loop
+mul-stop-turn c = search needs
 
-array-copy-out-save-turn : tie.Need-array-copy-out-save-turn Inv-loop2 μ-loop2 Inv-loop μ-loop
-array-copy-out-save-turn c = search needs
+array-copy-out-stop-turn : tie.Need-array-copy-out-stop-turn Inv-loop2 μ-loop2 Inv-loop3 μ-loop3 Inv-loop μ-loop
+array-copy-out-stop-turn c = search needs
 
-save-turn-requires : tie.Need-save-turn-requires Inv-loop2 μ-loop2 Inv-loop μ-loop
-save-turn-requires c κs = search needs
+stop-turn-requires : tie.Need-stop-turn-requires Inv-loop2 μ-loop2 Inv-loop3 μ-loop3 Inv-loop μ-loop
+stop-turn-requires c κs = search needs
 
-mul-stations-12 : tie.Need-mul-stations-12 Inv-loop2 μ-loop2 Inv-loop μ-loop
-mul-stations-12 c = omega (arith, c .before .before .before .before .before .before .seat7 .ensures .0)
+mul-stations-11 : tie.Need-mul-stations-11 Inv-loop2 μ-loop2 Inv-loop3 μ-loop3 Inv-loop μ-loop
+mul-stations-11 c = omega (arith, c .before .before .before .before .before .before .before .before .seat6 .ensures .0)
 
-array-set-from-stations-12 : tie.Need-array-set-from-stations-12 Inv-loop2 μ-loop2 Inv-loop μ-loop
-array-set-from-stations-12 c = omega (arith, c .before .before .before .before .before .before .seat7 .ensures .0)
+array-set-from-stations-11 : tie.Need-array-set-from-stations-11 Inv-loop2 μ-loop2 Inv-loop3 μ-loop3 Inv-loop μ-loop
+array-set-from-stations-11 c = omega (arith, c .before .before .before .before .before .before .before .before .seat6 .ensures .0)
 
-loop-less-23 : tie.Need-loop-less-23 Inv-loop2 μ-loop2 Inv-loop μ-loop
-loop-less-23 c = omega (arith, c .before .before .before .before .before .before .before .before .before .before .before .before .before .before .loop-test .taken)
+loop-less-22 : tie.Need-loop-less-22 Inv-loop2 μ-loop2 Inv-loop3 μ-loop3 Inv-loop μ-loop
+loop-less-22 c = omega (arith, c .before .before .before .before .before .before .before .before .before .before .before .before .before .before .before .before .loop-test .taken)
 
-loop-again-23 : tie.Need-loop-again-23 Inv-loop2 μ-loop2 Inv-loop μ-loop
+loop-again-22 : tie.Need-loop-again-22 Inv-loop2 μ-loop2 Inv-loop3 μ-loop3 Inv-loop μ-loop
+unfolding freshStation fresh unsentAll
+loop-again-22 c =
+    stop-accepted _ _ _ _ _ _ _ _ _ _ _ (c .before .before .before .before .before .before .before .before .seat6 .ensures) _ (c .before .before .before .before .before .before .condition-of6 .ensures)
+    (record { upto = c .before .before .before .before .before .before .before .before .before .before .before .before .before .before .before .before .before .loop .inv; more = c .before .before .before .before .before .before .before .before .before .before .before .before .before .before .before .before .loop-test .taken; record-read = c .before .before .before .before .before .before .before .before .before .before .before .before .before .before .before .record-at .result; piece-read = read-from _ _ _ _ (c .before .before .before .before .before .before .before .before .before .before .before .before .before .before .before .record-at .ensures); event = c .before .before .before .before .before .before .before .before .before .before .before .before .before .r .given .1 ∙ ap Read (c .before .before .before .before .before .before .before .before .before .before .e7 .given .1) }) (c .before .before .before .before .before .present-question .ensures .0)
+    (c .before .before .before .before .if12 .left) _ (c .before .before .stop-turn .ensures)
+
+enum-known-e-8 : tie.Need-enum-known-e-8 Inv-loop2 μ-loop2 Inv-loop3 μ-loop3 Inv-loop μ-loop
+enum-known-e-8 c = search needs
+
+seat-requires-7 : tie.Need-seat-requires-7 Inv-loop2 μ-loop2 Inv-loop3 μ-loop3 Inv-loop μ-loop
+seat-requires-7 c κs = search needs
+
+mul-condition-of-7 : tie.Need-mul-condition-of-7 Inv-loop2 μ-loop2 Inv-loop3 μ-loop3 Inv-loop μ-loop
+mul-condition-of-7 c = search needs
+
+array-copy-out-condition-of-7 : tie.Need-array-copy-out-condition-of-7 Inv-loop2 μ-loop2 Inv-loop3 μ-loop3 Inv-loop μ-loop
+array-copy-out-condition-of-7 c = search needs
+
+condition-of-requires-7 : tie.Need-condition-of-requires-7 Inv-loop2 μ-loop2 Inv-loop3 μ-loop3 Inv-loop μ-loop
+condition-of-requires-7 c κs = search needs
+
+present-question-requires-2 : tie.Need-present-question-requires-2 Inv-loop2 μ-loop2 Inv-loop3 μ-loop3 Inv-loop μ-loop
+present-question-requires-2 c κs = search needs
+
+slice-write-answers-9 : tie.Need-slice-write-answers-9 Inv-loop2 μ-loop2 Inv-loop3 μ-loop3 Inv-loop μ-loop
+slice-write-answers-9 c = search needs
+
+add-k-9 : tie.Need-add-k-9 Inv-loop2 μ-loop2 Inv-loop3 μ-loop3 Inv-loop μ-loop
+add-k-9 c = search needs
+
+loop-less-23 : tie.Need-loop-less-23 Inv-loop2 μ-loop2 Inv-loop3 μ-loop3 Inv-loop μ-loop
+loop-less-23 c = omega (arith, c .before .before .before .before .before .before .before .before .before .before .before .before .loop-test .taken)
+
+loop-again-23 : tie.Need-loop-again-23 Inv-loop2 μ-loop2 Inv-loop3 μ-loop3 Inv-loop μ-loop
 unfolding freshStation fresh unsentAll
 loop-again-23 c =
-    save-accepted _ _ _ _ _ _ _ _ _ _ (c .before .before .before .before .before .before .seat7 .ensures) _ (c .before .before .before .before .condition-of7 .ensures)
-    (record { upto = c .before .before .before .before .before .before .before .before .before .before .before .before .before .before .before .loop .inv; more = c .before .before .before .before .before .before .before .before .before .before .before .before .before .before .loop-test .taken; record-read = c .before .before .before .before .before .before .before .before .before .before .before .before .before .record-at .result; piece-read = read-from _ _ _ _ (c .before .before .before .before .before .before .before .before .before .before .before .before .before .record-at .ensures); event = c .before .before .before .before .before .before .before .before .before .before .before .r .given .1 ∙ ap Read (c .before .before .before .before .before .before .before .before .e8 .given .1) }) (c .before .before .before .present-question2 .ensures .1)
-    (c .before .before .if12 .left) _ (c .save-turn .ensures)
-
-enum-known-e-9 : tie.Need-enum-known-e-9 Inv-loop2 μ-loop2 Inv-loop μ-loop
-enum-known-e-9 c = search needs
-
-seat-requires-8 : tie.Need-seat-requires-8 Inv-loop2 μ-loop2 Inv-loop μ-loop
-seat-requires-8 c κs = search needs
-
-mul-own-3 : tie.Need-mul-own-3 Inv-loop2 μ-loop2 Inv-loop μ-loop
-mul-own-3 c = search needs
-
-array-copy-out-own-3 : tie.Need-array-copy-out-own-3 Inv-loop2 μ-loop2 Inv-loop μ-loop
-array-copy-out-own-3 c = search needs
-
-condition-of-requires-8 : tie.Need-condition-of-requires-8 Inv-loop2 μ-loop2 Inv-loop μ-loop
-condition-of-requires-8 c κs = search needs
-
-is-saved-requires : tie.Need-is-saved-requires Inv-loop2 μ-loop2 Inv-loop μ-loop
-is-saved-requires c κs = search needs
-
-restore-question-requires : tie.Need-restore-question-requires Inv-loop2 μ-loop2 Inv-loop μ-loop
-restore-question-requires c κs = search needs
-
-slice-write-answers-10 : tie.Need-slice-write-answers-10 Inv-loop2 μ-loop2 Inv-loop μ-loop
-slice-write-answers-10 c = search needs
-
-add-k-10 : tie.Need-add-k-10 Inv-loop2 μ-loop2 Inv-loop μ-loop
-add-k-10 c = search needs
-
-loop-less-24 : tie.Need-loop-less-24 Inv-loop2 μ-loop2 Inv-loop μ-loop
-loop-less-24 c = omega (arith, c .before .before .before .before .before .before .before .before .before .before .before .before .before .loop-test .taken)
-
-loop-again-24 : tie.Need-loop-again-24 Inv-loop2 μ-loop2 Inv-loop μ-loop
-unfolding freshStation fresh unsentAll
-loop-again-24 c =
-    restore-refused _ _ _ _ _ _ _ _ _ _ (c .before .before .before .before .before .seat8 .ensures) _ (c .before .before .before .condition-of8 .ensures) _ (c .before .before .is-saved .ensures)
-    (record { upto = c .before .before .before .before .before .before .before .before .before .before .before .before .before .before .loop .inv; more = c .before .before .before .before .before .before .before .before .before .before .before .before .before .loop-test .taken; record-read = c .before .before .before .before .before .before .before .before .before .before .before .before .record-at .result; piece-read = read-from _ _ _ _ (c .before .before .before .before .before .before .before .before .before .before .before .before .record-at .ensures); event = c .before .before .before .before .before .before .before .before .before .before .r .given .1 ∙ ap Read (c .before .before .before .before .before .before .before .e9 .given .1) }) (c .before .restore-question .ensures)
+    save-refused _ _ _ _ _ _ _ _ _ _ _ (c .before .before .before .before .seat7 .ensures) _ (c .before .before .condition-of7 .ensures)
+    (record { upto = c .before .before .before .before .before .before .before .before .before .before .before .before .before .loop .inv; more = c .before .before .before .before .before .before .before .before .before .before .before .before .loop-test .taken; record-read = c .before .before .before .before .before .before .before .before .before .before .before .record-at .result; piece-read = read-from _ _ _ _ (c .before .before .before .before .before .before .before .before .before .before .before .record-at .ensures); event = c .before .before .before .before .before .before .before .before .before .r .given .1 ∙ ap Read (c .before .before .before .before .before .before .e8 .given .1) }) (c .before .present-question2 .ensures .1)
     (c .if13 .taken)
 
-mul-restore-turn : tie.Need-mul-restore-turn Inv-loop2 μ-loop2 Inv-loop μ-loop
-mul-restore-turn c = search needs
+mul-save-turn : tie.Need-mul-save-turn Inv-loop2 μ-loop2 Inv-loop3 μ-loop3 Inv-loop μ-loop
+mul-save-turn c = search needs
 
-array-copy-out-restore-turn :
-    tie.Need-array-copy-out-restore-turn Inv-loop2 μ-loop2 Inv-loop μ-loop
-array-copy-out-restore-turn c = search needs
+array-copy-out-save-turn : tie.Need-array-copy-out-save-turn Inv-loop2 μ-loop2 Inv-loop3 μ-loop3 Inv-loop μ-loop
+array-copy-out-save-turn c = search needs
 
-restore-turn-requires : tie.Need-restore-turn-requires Inv-loop2 μ-loop2 Inv-loop μ-loop
-restore-turn-requires c κs = search needs
+save-turn-requires : tie.Need-save-turn-requires Inv-loop2 μ-loop2 Inv-loop3 μ-loop3 Inv-loop μ-loop
+save-turn-requires c κs = search needs
 
-mul-stations-13 : tie.Need-mul-stations-13 Inv-loop2 μ-loop2 Inv-loop μ-loop
-mul-stations-13 c = omega (arith, c .before .before .before .before .before .before .before .before .before .seat8 .ensures .0)
+mul-stations-12 : tie.Need-mul-stations-12 Inv-loop2 μ-loop2 Inv-loop3 μ-loop3 Inv-loop μ-loop
+mul-stations-12 c = omega (arith, c .before .before .before .before .before .before .seat7 .ensures .0)
 
-array-set-from-stations-13 : tie.Need-array-set-from-stations-13 Inv-loop2 μ-loop2 Inv-loop μ-loop
-array-set-from-stations-13 c = omega (arith, c .before .before .before .before .before .before .before .before .before .seat8 .ensures .0)
+array-set-from-stations-12 : tie.Need-array-set-from-stations-12 Inv-loop2 μ-loop2 Inv-loop3 μ-loop3 Inv-loop μ-loop
+array-set-from-stations-12 c = omega (arith, c .before .before .before .before .before .before .seat7 .ensures .0)
 
-loop-less-25 : tie.Need-loop-less-25 Inv-loop2 μ-loop2 Inv-loop μ-loop
-loop-less-25 c = omega (arith, c .before .before .before .before .before .before .before .before .before .before .before .before .before .before .before .before .before .loop-test .taken)
+loop-less-24 : tie.Need-loop-less-24 Inv-loop2 μ-loop2 Inv-loop3 μ-loop3 Inv-loop μ-loop
+loop-less-24 c = omega (arith, c .before .before .before .before .before .before .before .before .before .before .before .before .before .before .loop-test .taken)
 
-loop-again-25 : tie.Need-loop-again-25 Inv-loop2 μ-loop2 Inv-loop μ-loop
+loop-again-24 : tie.Need-loop-again-24 Inv-loop2 μ-loop2 Inv-loop3 μ-loop3 Inv-loop μ-loop
+unfolding freshStation fresh unsentAll
+loop-again-24 c =
+    save-accepted _ _ _ _ _ _ _ _ _ _ _ (c .before .before .before .before .before .before .seat7 .ensures) _ (c .before .before .before .before .condition-of7 .ensures)
+    (record { upto = c .before .before .before .before .before .before .before .before .before .before .before .before .before .before .before .loop .inv; more = c .before .before .before .before .before .before .before .before .before .before .before .before .before .before .loop-test .taken; record-read = c .before .before .before .before .before .before .before .before .before .before .before .before .before .record-at .result; piece-read = read-from _ _ _ _ (c .before .before .before .before .before .before .before .before .before .before .before .before .before .record-at .ensures); event = c .before .before .before .before .before .before .before .before .before .before .before .r .given .1 ∙ ap Read (c .before .before .before .before .before .before .before .before .e8 .given .1) }) (c .before .before .before .present-question2 .ensures .1)
+    (c .before .before .if13 .left) _ (c .save-turn .ensures)
+
+enum-known-e-9 : tie.Need-enum-known-e-9 Inv-loop2 μ-loop2 Inv-loop3 μ-loop3 Inv-loop μ-loop
+enum-known-e-9 c = search needs
+
+seat-requires-8 : tie.Need-seat-requires-8 Inv-loop2 μ-loop2 Inv-loop3 μ-loop3 Inv-loop μ-loop
+seat-requires-8 c κs = search needs
+
+mul-own-3 : tie.Need-mul-own-3 Inv-loop2 μ-loop2 Inv-loop3 μ-loop3 Inv-loop μ-loop
+mul-own-3 c = search needs
+
+array-copy-out-own-3 : tie.Need-array-copy-out-own-3 Inv-loop2 μ-loop2 Inv-loop3 μ-loop3 Inv-loop μ-loop
+array-copy-out-own-3 c = search needs
+
+condition-of-requires-8 : tie.Need-condition-of-requires-8 Inv-loop2 μ-loop2 Inv-loop3 μ-loop3 Inv-loop μ-loop
+condition-of-requires-8 c κs = search needs
+
+is-saved-requires : tie.Need-is-saved-requires Inv-loop2 μ-loop2 Inv-loop3 μ-loop3 Inv-loop μ-loop
+is-saved-requires c κs = search needs
+
+restore-question-requires : tie.Need-restore-question-requires Inv-loop2 μ-loop2 Inv-loop3 μ-loop3 Inv-loop μ-loop
+restore-question-requires c κs = search needs
+
+slice-write-answers-10 : tie.Need-slice-write-answers-10 Inv-loop2 μ-loop2 Inv-loop3 μ-loop3 Inv-loop μ-loop
+slice-write-answers-10 c = search needs
+
+add-k-10 : tie.Need-add-k-10 Inv-loop2 μ-loop2 Inv-loop3 μ-loop3 Inv-loop μ-loop
+add-k-10 c = search needs
+
+loop-less-25 : tie.Need-loop-less-25 Inv-loop2 μ-loop2 Inv-loop3 μ-loop3 Inv-loop μ-loop
+loop-less-25 c = omega (arith, c .before .before .before .before .before .before .before .before .before .before .before .before .before .loop-test .taken)
+
+loop-again-25 : tie.Need-loop-again-25 Inv-loop2 μ-loop2 Inv-loop3 μ-loop3 Inv-loop μ-loop
 unfolding freshStation fresh unsentAll
 loop-again-25 c =
-    restore-accepted _ _ _ _ _ _ _ _ _ _ (c .before .before .before .before .before .before .before .before .before .seat8 .ensures) _ (c .before .before .before .before .before .before .before .condition-of8 .ensures) _ (c .before .before .before .before .before .before .is-saved .ensures)
-    (record { upto = c .before .before .before .before .before .before .before .before .before .before .before .before .before .before .before .before .before .before .loop .inv; more = c .before .before .before .before .before .before .before .before .before .before .before .before .before .before .before .before .before .loop-test .taken; record-read = c .before .before .before .before .before .before .before .before .before .before .before .before .before .before .before .before .record-at .result; piece-read = read-from _ _ _ _ (c .before .before .before .before .before .before .before .before .before .before .before .before .before .before .before .before .record-at .ensures); event = c .before .before .before .before .before .before .before .before .before .before .before .before .before .before .r .given .1 ∙ ap Read (c .before .before .before .before .before .before .before .before .before .before .before .e9 .given .1) }) (c .before .before .before .before .before .restore-question .ensures)
-    (c .before .before .before .before .if13 .left) _ (c .before .before .restore-turn .ensures)
+    restore-refused _ _ _ _ _ _ _ _ _ _ _ (c .before .before .before .before .before .seat8 .ensures) _ (c .before .before .before .condition-of8 .ensures) _ (c .before .before .is-saved .ensures)
+    (record { upto = c .before .before .before .before .before .before .before .before .before .before .before .before .before .before .loop .inv; more = c .before .before .before .before .before .before .before .before .before .before .before .before .before .loop-test .taken; record-read = c .before .before .before .before .before .before .before .before .before .before .before .before .record-at .result; piece-read = read-from _ _ _ _ (c .before .before .before .before .before .before .before .before .before .before .before .before .record-at .ensures); event = c .before .before .before .before .before .before .before .before .before .before .r .given .1 ∙ ap Read (c .before .before .before .before .before .before .before .e9 .given .1) }) (c .before .restore-question .ensures)
+    (c .if14 .taken)
 
-ended-requires-2 : tie.Need-ended-requires-2 Inv-loop2 μ-loop2 Inv-loop μ-loop
+mul-restore-turn : tie.Need-mul-restore-turn Inv-loop2 μ-loop2 Inv-loop3 μ-loop3 Inv-loop μ-loop
+mul-restore-turn c = search needs
+
+array-copy-out-restore-turn : tie.Need-array-copy-out-restore-turn Inv-loop2 μ-loop2 Inv-loop3 μ-loop3 Inv-loop μ-loop
+array-copy-out-restore-turn c = search needs
+
+restore-turn-requires : tie.Need-restore-turn-requires Inv-loop2 μ-loop2 Inv-loop3 μ-loop3 Inv-loop μ-loop
+restore-turn-requires c κs = search needs
+
+mul-stations-13 : tie.Need-mul-stations-13 Inv-loop2 μ-loop2 Inv-loop3 μ-loop3 Inv-loop μ-loop
+mul-stations-13 c = omega (arith, c .before .before .before .before .before .before .before .before .before .seat8 .ensures .0)
+
+array-set-from-stations-13 : tie.Need-array-set-from-stations-13 Inv-loop2 μ-loop2 Inv-loop3 μ-loop3 Inv-loop μ-loop
+array-set-from-stations-13 c = omega (arith, c .before .before .before .before .before .before .before .before .before .seat8 .ensures .0)
+
+loop-less-26 : tie.Need-loop-less-26 Inv-loop2 μ-loop2 Inv-loop3 μ-loop3 Inv-loop μ-loop
+loop-less-26 c = omega (arith, c .before .before .before .before .before .before .before .before .before .before .before .before .before .before .before .before .before .loop-test .taken)
+
+loop-again-26 : tie.Need-loop-again-26 Inv-loop2 μ-loop2 Inv-loop3 μ-loop3 Inv-loop μ-loop
+unfolding freshStation fresh unsentAll
+loop-again-26 c =
+    restore-accepted _ _ _ _ _ _ _ _ _ _ _ (c .before .before .before .before .before .before .before .before .before .seat8 .ensures) _ (c .before .before .before .before .before .before .before .condition-of8 .ensures) _ (c .before .before .before .before .before .before .is-saved .ensures)
+    (record { upto = c .before .before .before .before .before .before .before .before .before .before .before .before .before .before .before .before .before .before .loop .inv; more = c .before .before .before .before .before .before .before .before .before .before .before .before .before .before .before .before .before .loop-test .taken; record-read = c .before .before .before .before .before .before .before .before .before .before .before .before .before .before .before .before .record-at .result; piece-read = read-from _ _ _ _ (c .before .before .before .before .before .before .before .before .before .before .before .before .before .before .before .before .record-at .ensures); event = c .before .before .before .before .before .before .before .before .before .before .before .before .before .before .r .given .1 ∙ ap Read (c .before .before .before .before .before .before .before .before .before .before .before .e9 .given .1) }) (c .before .before .before .before .before .restore-question .ensures)
+    (c .before .before .before .before .if14 .left) _ (c .before .before .restore-turn .ensures)
+
+enum-known-e-10 : tie.Need-enum-known-e-10 Inv-loop2 μ-loop2 Inv-loop3 μ-loop3 Inv-loop μ-loop
+enum-known-e-10 c = search needs
+
+subject-of-requires : tie.Need-subject-of-requires Inv-loop2 μ-loop2 Inv-loop3 μ-loop3 Inv-loop μ-loop
+subject-of-requires c κs = search needs
+
+seat-requires-9 : tie.Need-seat-requires-9 Inv-loop2 μ-loop2 Inv-loop3 μ-loop3 Inv-loop μ-loop
+seat-requires-9 c κs = search needs
+
+ballot-of-requires : tie.Need-ballot-of-requires Inv-loop2 μ-loop2 Inv-loop3 μ-loop3 Inv-loop μ-loop
+ballot-of-requires c κs = search needs
+
+slot-requires : tie.Need-slot-requires Inv-loop2 μ-loop2 Inv-loop3 μ-loop3 Inv-loop μ-loop
+slot-requires c κs = search needs
+
+mul-proposal-of : tie.Need-mul-proposal-of Inv-loop2 μ-loop2 Inv-loop3 μ-loop3 Inv-loop μ-loop
+mul-proposal-of c = omega (arith, c .before .before .seat9 .ensures .0)
+
+array-copy-out-proposal-of : tie.Need-array-copy-out-proposal-of Inv-loop2 μ-loop2 Inv-loop3 μ-loop3 Inv-loop μ-loop
+array-copy-out-proposal-of c = omega (arith, c .before .before .seat9 .ensures .0)
+
+proposal-of-requires : tie.Need-proposal-of-requires Inv-loop2 μ-loop2 Inv-loop3 μ-loop3 Inv-loop μ-loop
+proposal-of-requires c κs = search needs
+
+mul-a : tie.Need-mul-a Inv-loop2 μ-loop2 Inv-loop3 μ-loop3 Inv-loop μ-loop
+mul-a c = omega (arith, c .before .before .before .before .seat9 .ensures .0)
+
+array-copy-out-a : tie.Need-array-copy-out-a Inv-loop2 μ-loop2 Inv-loop3 μ-loop3 Inv-loop μ-loop
+array-copy-out-a c = omega (arith, c .before .before .before .before .seat9 .ensures .0)
+
+mul-row : tie.Need-mul-row Inv-loop2 μ-loop2 Inv-loop3 μ-loop3 Inv-loop μ-loop
+mul-row c = omega (arith, c .before .before .before .slot .ensures .0)
+
+array-copy-out-row : tie.Need-array-copy-out-row Inv-loop2 μ-loop2 Inv-loop3 μ-loop3 Inv-loop μ-loop
+array-copy-out-row c = omega (arith, c .before .before .before .slot .ensures .0)
+
+mul-condition-of-8 : tie.Need-mul-condition-of-8 Inv-loop2 μ-loop2 Inv-loop3 μ-loop3 Inv-loop μ-loop
+mul-condition-of-8 c = omega (arith, c .before .before .before .before .before .before .seat9 .ensures .0)
+
+array-copy-out-condition-of-8 : tie.Need-array-copy-out-condition-of-8 Inv-loop2 μ-loop2 Inv-loop3 μ-loop3 Inv-loop μ-loop
+array-copy-out-condition-of-8 c = omega (arith, c .before .before .before .before .before .before .seat9 .ensures .0)
+
+condition-of-requires-9 : tie.Need-condition-of-requires-9 Inv-loop2 μ-loop2 Inv-loop3 μ-loop3 Inv-loop μ-loop
+condition-of-requires-9 c κs = search needs
+
+ballot-question-requires : tie.Need-ballot-question-requires Inv-loop2 μ-loop2 Inv-loop3 μ-loop3 Inv-loop μ-loop
+ballot-question-requires c κs = search needs
+
+slice-write-answers-11 : tie.Need-slice-write-answers-11 Inv-loop2 μ-loop2 Inv-loop3 μ-loop3 Inv-loop μ-loop
+slice-write-answers-11 c = search needs
+
+add-k-11 : tie.Need-add-k-11 Inv-loop2 μ-loop2 Inv-loop3 μ-loop3 Inv-loop μ-loop
+add-k-11 c = search needs
+
+loop-less-27 : tie.Need-loop-less-27 Inv-loop2 μ-loop2 Inv-loop3 μ-loop3 Inv-loop μ-loop
+loop-less-27 c = omega (arith, c .before .before .before .before .before .before .before .before .before .before .before .before .before .before .before .before .before .before .before .loop-test .taken)
+
+loop-again-27 : tie.Need-loop-again-27 Inv-loop2 μ-loop2 Inv-loop3 μ-loop3 Inv-loop μ-loop
+unfolding freshStation fresh unsentAll newRow
+loop-again-27 c =
+    ballot-refused _ _ _ _ _ _ _ _ _ (record { upto = c .before .before .before .before .before .before .before .before .before .before .before .before .before .before .before .before .before .before .before .before .loop .inv; more = c .before .before .before .before .before .before .before .before .before .before .before .before .before .before .before .before .before .before .before .loop-test .taken; record-read = c .before .before .before .before .before .before .before .before .before .before .before .before .before .before .before .before .before .before .record-at .result; piece-read = read-from _ _ _ _ (c .before .before .before .before .before .before .before .before .before .before .before .before .before .before .before .before .before .before .record-at .ensures); event = c .before .before .before .before .before .before .before .before .before .before .before .before .before .before .before .before .r .given .1 ∙ ap Read (c .before .before .before .before .before .before .before .before .before .before .before .before .before .e10 .given .1) })
+    _ (c .before .before .before .before .before .before .before .before .before .before .before .subject-of .ensures) _ (c .before .before .before .before .before .before .before .before .before .before .seat9 .ensures) _ (c .before .before .before .before .before .before .before .before .before .ballot-of .ensures) _ (c .before .before .before .before .before .before .before .before .slot .ensures) _ (c .before .before .before .before .before .before .proposal-of .ensures) _ (c .before .before .condition-of9 .ensures) _ (c .before .ballot-question .ensures) (c .if15 .taken)
+
+report-in-requires : tie.Need-report-in-requires Inv-loop2 μ-loop2 Inv-loop3 μ-loop3 Inv-loop μ-loop
+report-in-requires c κs = search needs
+
+slot-reported-requires : tie.Need-slot-reported-requires Inv-loop2 μ-loop2 Inv-loop3 μ-loop3 Inv-loop μ-loop
+slot-reported-requires c κs = search needs
+
+mul-word-in : tie.Need-mul-word-in Inv-loop2 μ-loop2 Inv-loop3 μ-loop3 Inv-loop μ-loop
+mul-word-in c = omega (arith, c .slot-reported .ensures .0)
+
+array-copy-out-word-in : tie.Need-array-copy-out-word-in Inv-loop2 μ-loop2 Inv-loop3 μ-loop3 Inv-loop μ-loop
+array-copy-out-word-in c = omega (arith, c .slot-reported .ensures .0)
+
+word-in-requires : tie.Need-word-in-requires Inv-loop2 μ-loop2 Inv-loop3 μ-loop3 Inv-loop μ-loop
+word-in-requires c κs = search needs
+
+ballot-answer-requires : tie.Need-ballot-answer-requires Inv-loop2 μ-loop2 Inv-loop3 μ-loop3 Inv-loop μ-loop
+ballot-answer-requires c κs = search needs
+
+mul-acceptors : tie.Need-mul-acceptors Inv-loop2 μ-loop2 Inv-loop3 μ-loop3 Inv-loop μ-loop
+mul-acceptors c = omega (arith, c .before .before .before .before .before .before .before .before .before .before .before .before .before .before .before .before .seat9 .ensures .0)
+
+array-set-from-acceptors : tie.Need-array-set-from-acceptors Inv-loop2 μ-loop2 Inv-loop3 μ-loop3 Inv-loop μ-loop
+array-set-from-acceptors c = omega (arith, c .before .before .before .before .before .before .before .before .before .before .before .before .before .before .before .before .seat9 .ensures .0)
+
+row-after-requires : tie.Need-row-after-requires Inv-loop2 μ-loop2 Inv-loop3 μ-loop3 Inv-loop μ-loop
+row-after-requires c κs = search needs
+
+mul-rows : tie.Need-mul-rows Inv-loop2 μ-loop2 Inv-loop3 μ-loop3 Inv-loop μ-loop
+mul-rows c = omega (arith, c .before .before .before .before .before .before .before .before .before .before .before .before .before .before .before .slot .ensures .0)
+
+array-set-from-rows : tie.Need-array-set-from-rows Inv-loop2 μ-loop2 Inv-loop3 μ-loop3 Inv-loop μ-loop
+array-set-from-rows c = omega (arith, c .before .before .before .before .before .before .before .before .before .before .before .before .before .before .before .slot .ensures .0)
+
+loop-less-28 : tie.Need-loop-less-28 Inv-loop2 μ-loop2 Inv-loop3 μ-loop3 Inv-loop μ-loop
+loop-less-28 c = omega (arith, c .before .before .before .before .before .before .before .before .before .before .before .before .before .before .before .before .before .before .before .before .before .before .before .before .before .before .loop-test .taken)
+
+loop-again-28 : tie.Need-loop-again-28 Inv-loop2 μ-loop2 Inv-loop3 μ-loop3 Inv-loop μ-loop
+unfolding freshStation fresh unsentAll newRow
+loop-again-28 c =
+    ballot-accepted _ _ _ _ _ _ _ _ _ (record { upto = c .before .before .before .before .before .before .before .before .before .before .before .before .before .before .before .before .before .before .before .before .before .before .before .before .before .before .before .loop .inv; more = c .before .before .before .before .before .before .before .before .before .before .before .before .before .before .before .before .before .before .before .before .before .before .before .before .before .before .loop-test .taken; record-read = c .before .before .before .before .before .before .before .before .before .before .before .before .before .before .before .before .before .before .before .before .before .before .before .before .before .record-at .result; piece-read = read-from _ _ _ _ (c .before .before .before .before .before .before .before .before .before .before .before .before .before .before .before .before .before .before .before .before .before .before .before .before .before .record-at .ensures); event = c .before .before .before .before .before .before .before .before .before .before .before .before .before .before .before .before .before .before .before .before .before .before .before .r .given .1 ∙ ap Read (c .before .before .before .before .before .before .before .before .before .before .before .before .before .before .before .before .before .before .before .before .e10 .given .1) })
+    _ (c .before .before .before .before .before .before .before .before .before .before .before .before .before .before .before .before .before .before .subject-of .ensures) _ (c .before .before .before .before .before .before .before .before .before .before .before .before .before .before .before .before .before .seat9 .ensures) _ (c .before .before .before .before .before .before .before .before .before .before .before .before .before .before .before .before .ballot-of .ensures) _ (c .before .before .before .before .before .before .before .before .before .before .before .before .before .before .before .slot .ensures) _ (c .before .before .before .before .before .before .before .before .before .before .before .before .before .proposal-of .ensures) _ (c .before .before .before .before .before .before .before .before .before .condition-of9 .ensures) _ (c .before .before .before .before .before .before .before .before .ballot-question .ensures) (c .before .before .before .before .before .before .before .if15 .left) _ (c .before .before .before .before .before .before .report-in .ensures) _ (c .before .before .before .before .before .slot-reported .ensures) _ (c .before .before .before .word-in .ensures) _ (c .before .before .ballot-answer .ensures) _ (c .row-after .ensures)
+
+ended-requires-2 : tie.Need-ended-requires-2 Inv-loop2 μ-loop2 Inv-loop3 μ-loop3 Inv-loop μ-loop
 ended-requires-2 c κs = search needs
 
-same-length : tie.Need-same-length Inv-loop2 μ-loop2 Inv-loop μ-loop
+same-length : tie.Need-same-length Inv-loop2 μ-loop2 Inv-loop3 μ-loop3 Inv-loop μ-loop
 same-length c = search needs
 
-returns-2 : tie.Need-returns-2 Inv-loop2 μ-loop2 Inv-loop μ-loop
+returns-2 : tie.Need-returns-2 Inv-loop2 μ-loop2 Inv-loop3 μ-loop3 Inv-loop μ-loop
 returns-2 c =
     let n = ended _ _ _ _ _ _ (c .before .before .loop .inv) (c .before .loop-test .left) in
-    record { result = c .ended2 .ensures ∙ n .result; buffer = n .buffer }
+    record { result = c .ended2 .ensures (record { acceptors = c .before .before .loop .acceptors; rows = c .before .before .loop .rows }) ∙ n .result; buffer = n .buffer }
 
 pub run-from-spec : {M : Type 1} → statement M
 run-from-spec =
@@ -891,14 +1045,17 @@ run-from-spec =
     (tie.spec
     Inv-loop2
     μ-loop2
+    Inv-loop3
+    μ-loop3
     Inv-loop
     μ-loop
     count-from-requires
-    new-bench-requires
-    ended-requires
-    returns
     new-shared-requires
     fresh-station-requires
+    ended-requires
+    returns
+    new-acceptor-requires
+    new-row-requires
     loop-holds
     mul-record-at
     add-record-at
@@ -930,8 +1087,6 @@ run-from-spec =
     up-to-limit-requires
     cast-end
     loop2-holds
-    loop-less-5
-    loop-again-5
     mul-renewed
     array-copy-out-renewed
     renewed-requires
@@ -940,6 +1095,12 @@ run-from-spec =
     add-i
     loop2-less
     loop2-again
+    loop-less-5
+    loop-again-5
+    new-acceptor-requires-2
+    new-row-requires-2
+    loop-less-6
+    loop-again-6
     enum-known-e-3
     seat-requires
     mul-condition-of
@@ -948,15 +1109,15 @@ run-from-spec =
     cast-question-requires
     slice-write-answers-4
     add-k-4
-    loop-less-6
-    loop-again-6
+    loop-less-7
+    loop-again-7
     mul-cast-turn
     array-copy-out-cast-turn
     cast-turn-requires
     mul-stations-2
     array-set-from-stations-2
-    loop-less-7
-    loop-again-7
+    loop-less-8
+    loop-again-8
     enum-known-e-4
     seat-requires-2
     seat-requires-3
@@ -969,20 +1130,20 @@ run-from-spec =
     deliver-question-requires
     slice-write-answers-5
     add-k-5
-    loop-less-8
-    loop-again-8
+    loop-less-9
+    loop-again-9
     enum-told-2
-    mul-t124
-    element-copy-out-t127
-    mul-t128
-    element-copy-out-t131
+    mul-t147
+    element-copy-out-t150
+    mul-t151
+    element-copy-out-t154
     mul-vote-turn
     array-copy-out-vote-turn
     vote-turn-requires
     mul-stations-3
     array-set-from-stations-3
-    loop-less-9
-    loop-again-9
+    loop-less-10
+    loop-again-10
     enum-told-3
     mul-condition-of-3
     array-copy-out-condition-of-3
@@ -992,37 +1153,37 @@ run-from-spec =
     mul-waiting
     element-copy-out-waiting
     takes-ack-requires
-    loop-less-10
-    loop-again-10
+    loop-less-11
+    loop-again-11
     mul-own
     array-copy-out-own
-    mul-t138
-    element-copy-out-t152
-    mul-t153
-    element-copy-out-t156
+    mul-t161
+    element-copy-out-t175
+    mul-t176
+    element-copy-out-t179
     mul-sets
     array-set-from-sets
     insert-requires
     bump-requires
     mul-stations-4
     array-set-from-stations-4
-    loop-less-11
-    loop-again-11
+    loop-less-12
+    loop-again-12
     mul-settled-turn
     array-copy-out-settled-turn
     settled-turn-requires
     mul-stations-5
     array-set-from-stations-5
-    loop-less-12
-    loop-again-12
+    loop-less-13
+    loop-again-13
     enum-told-4
     mul-help-turn
     array-copy-out-help-turn
     help-turn-requires
     mul-stations-6
     array-set-from-stations-6
-    loop-less-13
-    loop-again-13
+    loop-less-14
+    loop-again-14
     enum-told-5
     mul-outgoing-2
     array-copy-out-outgoing-2
@@ -1032,8 +1193,8 @@ run-from-spec =
     helped-turn-requires
     mul-stations-7
     array-set-from-stations-7
-    loop-less-14
-    loop-again-14
+    loop-less-15
+    loop-again-15
     enum-known-e-5
     seat-requires-4
     mul-condition-of-4
@@ -1042,8 +1203,8 @@ run-from-spec =
     timeout-question-requires
     slice-write-answers-6
     add-k-6
-    loop-less-15
-    loop-again-15
+    loop-less-16
+    loop-again-16
     phase-in-requires
     mul-own-2
     array-copy-out-own-2
@@ -1058,32 +1219,41 @@ run-from-spec =
     first-turn-requires
     mul-stations-8
     array-set-from-stations-8
-    loop-less-16
-    loop-again-16
+    loop-less-17
+    loop-again-17
     mul-second-turn
     array-copy-out-second-turn
     second-turn-requires
     mul-stations-9
     array-set-from-stations-9
-    loop-less-17
-    loop-again-17
+    loop-less-18
+    loop-again-18
     enum-known-e-6
     seat-requires-5
+    ballots-asked-requires
+    loop3-holds
+    mul-chosen-at
+    array-copy-out-chosen-at
+    chosen-at-requires
+    add-i-2
+    loop3-less
+    loop3-again
+    may-give-requires
     mul-condition-of-5
     array-copy-out-condition-of-5
     condition-of-requires-5
     decide-question-requires
     slice-write-answers-7
     add-k-7
-    loop-less-18
-    loop-again-18
+    loop-less-19
+    loop-again-19
     mul-decide-turn
     array-copy-out-decide-turn
     decide-turn-requires
     mul-stations-10
     array-set-from-stations-10
-    loop-less-19
-    loop-again-19
+    loop-less-20
+    loop-again-20
     enum-known-e-7
     seat-requires-6
     mul-condition-of-6
@@ -1092,15 +1262,15 @@ run-from-spec =
     present-question-requires
     slice-write-answers-8
     add-k-8
-    loop-less-20
-    loop-again-20
+    loop-less-21
+    loop-again-21
     mul-stop-turn
     array-copy-out-stop-turn
     stop-turn-requires
     mul-stations-11
     array-set-from-stations-11
-    loop-less-21
-    loop-again-21
+    loop-less-22
+    loop-again-22
     enum-known-e-8
     seat-requires-7
     mul-condition-of-7
@@ -1109,15 +1279,15 @@ run-from-spec =
     present-question-requires-2
     slice-write-answers-9
     add-k-9
-    loop-less-22
-    loop-again-22
+    loop-less-23
+    loop-again-23
     mul-save-turn
     array-copy-out-save-turn
     save-turn-requires
     mul-stations-12
     array-set-from-stations-12
-    loop-less-23
-    loop-again-23
+    loop-less-24
+    loop-again-24
     enum-known-e-9
     seat-requires-8
     mul-own-3
@@ -1127,15 +1297,48 @@ run-from-spec =
     restore-question-requires
     slice-write-answers-10
     add-k-10
-    loop-less-24
-    loop-again-24
+    loop-less-25
+    loop-again-25
     mul-restore-turn
     array-copy-out-restore-turn
     restore-turn-requires
     mul-stations-13
     array-set-from-stations-13
-    loop-less-25
-    loop-again-25
+    loop-less-26
+    loop-again-26
+    enum-known-e-10
+    subject-of-requires
+    seat-requires-9
+    ballot-of-requires
+    slot-requires
+    mul-proposal-of
+    array-copy-out-proposal-of
+    proposal-of-requires
+    mul-a
+    array-copy-out-a
+    mul-row
+    array-copy-out-row
+    mul-condition-of-8
+    array-copy-out-condition-of-8
+    condition-of-requires-9
+    ballot-question-requires
+    slice-write-answers-11
+    add-k-11
+    loop-less-27
+    loop-again-27
+    report-in-requires
+    slot-reported-requires
+    mul-word-in
+    array-copy-out-word-in
+    word-in-requires
+    ballot-answer-requires
+    mul-acceptors
+    array-set-from-acceptors
+    row-after-requires
+    mul-rows
+    array-set-from-rows
+    loop-less-28
+    loop-again-28
     ended-requires-2
     same-length
     returns-2)

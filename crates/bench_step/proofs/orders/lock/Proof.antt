@@ -7,9 +7,9 @@ use borrow.Author.Needs.{needs}
 use Rattle.bench_step.proofs.orders.lock.Statement.{statement}
 use Rattle.bench_step.proofs.orders.lock.Tie as tie
 
-asked : (c : tie.After-lock-question) → c .lock-question .result ≡ number (reply (c .before .args .b) (Lock (c .before .args .n) (c .before .args .f)))
+asked : (c : tie.After-lock-question) → c .lock-question .result ≡ number (reply (c .before .args .b) (Lock (c .before .args .n) (c .before .args .f) (c .before .args .own)))
 unfolding reply
-asked c = c .lock-question .ensures
+asked c = c .lock-question .ensures (c .before .args .own)
 
 lock-question-requires : tie.Need-lock-question-requires
 lock-question-requires c κs = search needs

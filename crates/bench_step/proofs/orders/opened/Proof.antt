@@ -9,9 +9,12 @@ order-opened-requires c κs = search needs
 renew-all-requires : tie.Need-renew-all-requires
 renew-all-requires c κs = search needs
 
+new-ballots-requires : tie.Need-new-ballots-requires
+new-ballots-requires c κs = search needs
+
 returns : tie.Need-returns
 unfolding perform
-returns c = simp (c .before .before .order-opened .ensures, c .renew-all .ensures)
+returns c = simp (c .before .before .before .order-opened .ensures, c .before .renew-all .ensures, c .new-ballots .ensures)
 
 pub opened-spec : {M : Type 1} → statement M
-opened-spec = tie.close (tie.spec order-opened-requires renew-all-requires returns)
+opened-spec = tie.close (tie.spec order-opened-requires renew-all-requires new-ballots-requires returns)

@@ -11,13 +11,13 @@ use Rattle.bench_step.proofs.stations.finish.Statement.{statement}
 use Rattle.bench_step.proofs.stations.finish.Tie as tie
 
 all-stations : (s : tie.Start) → length (s .args .b .stations) ≡ limit
-all-stations s = simp length-map at (s .good .0 .1 .1 .1 .0 .1 .0 .1)
+all-stations s = simp length-map at (s .good .0 .1 .1 .1 .1 .0 .1 .0 .1)
 
 returns : tie.Need-returns
 returns c = rw (ne-eqb (c .before .args .answer) 0 (c .if1 .taken))
 
 sub-at : tie.Need-sub-at
-sub-at c = c .before .before .before .pre (c .before .before .if1 .left)
+sub-at c = c .before .before .before .before .pre (c .before .before .before .if1 .left)
 
 cast-at : tie.Need-cast-at
 cast-at c = search needs
@@ -25,8 +25,8 @@ cast-at c = search needs
 returns-2 : tie.Need-returns-2
 unfolding put
 returns-2 c =
-    let s = c .before .before .before .before in
-    rw (c .before .before .before .if1 .left, set-out (s .args .b .stations) (s .args .id - 1) (s .args .t .station) (rw (all-stations s) (c .if2 .taken)))
+    let s = c .before .before .before .before .before in
+    rw (c .before .before .before .before .if1 .left, set-out (s .args .b .stations) (s .args .id - 1) (s .args .t .station) (rw (all-stations s) (c .if2 .taken)))
 
 mul-stations : tie.Need-mul-stations
 mul-stations c = search needs
@@ -36,7 +36,7 @@ array-set-from-stations c = search needs
 
 returns-3 : tie.Need-returns-3
 unfolding put
-returns-3 c = rw (c .before .before .before .before .if1 .left)
+returns-3 c = rw (c .before .before .before .before .before .if1 .left)
 
 pub finish-spec : {M : Type 1} → statement M
 finish-spec =

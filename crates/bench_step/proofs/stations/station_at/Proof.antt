@@ -11,7 +11,7 @@ use Rattle.bench_step.proofs.stations.station_at.Statement.{statement}
 use Rattle.bench_step.proofs.stations.station_at.Tie as tie
 
 all-stations : (s : tie.Start) → length (s .args .t1 .stations) ≡ limit
-all-stations s = simp length-map at (s .good .0 .1 .1 .1 .0 .1 .0 .1)
+all-stations s = simp length-map at (s .good .0 .1 .1 .1 .1 .0 .1 .0 .1)
 
 fresh-station-requires : tie.Need-fresh-station-requires
 fresh-station-requires c κs = search needs

@@ -7,16 +7,17 @@ use borrow.Author.Needs.{needs}
 use Rattle.ground.specs.Limit.{limit}
 use Rattle.protocol.specs.Benches.{station, freshStation, fresh, unsentAll}
 use Rattle.protocol.specs.Display.{messageCount, sentCount, sumTo}
+use Rattle.bench_summary.specs.Summary.{shownOf}
 use Rattle.bench_summary.proofs.Stations.{sent-at}
 use Rattle.bench_summary.proofs.Sums.{no-sum, more-sum}
 use Rattle.bench_summary.proofs.message_count.message_count.Statement.{statement}
 use Rattle.bench_summary.proofs.message_count.message_count.Tie as tie
 
 abbrev Inv-loop : tie.InvT-loop
-Inv-loop b kind end stations total₀ i₀ total i = (i ≤ end) × ((total ≤ i * 255) × (total ≡ sumTo i (sentCount b kind)))
+Inv-loop m kind stations end total₀ i₀ total i = (i ≤ end) × ((total ≤ i * 255) × (total ≡ sumTo i (sentCount (shownOf m stations) kind)))
 
 abbrev μ-loop : tie.MeasureT-loop
-μ-loop b kind end stations total₀ i₀ total i = end - i
+μ-loop m kind stations end total₀ i₀ total i = end - i
 
 cast-end : tie.Need-cast-end Inv-loop μ-loop
 cast-end c = search needs
@@ -54,19 +55,19 @@ loop-less c = omega arith
 loop-again : tie.Need-loop-again Inv-loop μ-loop
 unfolding sentCount station freshStation fresh unsentAll
 loop-again c =
-    let start = c .before .before .before .before .before .before .before .before in
+    let start = c .before .before .before .before .before .before .before in
     let l = c .before .before .before .before .before .loop in
-    let sixteen : length (start .args .b .stations) ≡ limit = simp length-map at (start .good .0 .1 .1 .1 .0 .1 .0 .1) in
-    let to = c .before .receivers-at .ensures ∙ sent-at (start .args .b .stations) (start .args .kind) (l .i) (c .before .before .before .place-of .result) sixteen (c .before .before .before .place-of .ensures .1) in
-    (omega arith, (omega arith, more-sum (sentCount (start .args .b) (start .args .kind)) (l .i) (l .total) (c .size .result) (l .inv .1 .1) (rw (← to) (c .size .ensures))))
+    let sixteen : length (start .args .t2) ≡ limit = search needs in
+    let to = c .before .receivers-at .ensures ∙ sent-at (start .args .t2) (start .args .kind) (l .i) (c .before .before .before .place-of .result) sixteen (c .before .before .before .place-of .ensures .1) in
+    (omega arith, (omega arith, more-sum (sentCount (shownOf (start .args .m) (start .args .t2)) (start .args .kind)) (l .i) (l .total) (c .size .result) (l .inv .1 .1) (rw (← to) (c .size .ensures))))
 
 returns : tie.Need-returns Inv-loop μ-loop
 unfolding messageCount
 returns c =
-    let a = c .before .before .before .before .args in
+    let a = c .before .before .before .args in
     let l = c .before .loop in
-    let e : l .i ≡ a .b .shared .n = omega arith in
-    l .inv .1 .1 ∙ ap (λ k. sumTo k (sentCount (a .b) (a .kind))) e
+    let e : l .i ≡ a .m .n = omega arith in
+    l .inv .1 .1 ∙ ap (λ k. sumTo k (sentCount (shownOf (a .m) (a .t2)) (a .kind))) e
 
 pub message-count-spec : {M : Type 1} → statement M
 message-count-spec =

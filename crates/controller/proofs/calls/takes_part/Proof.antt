@@ -1,42 +1,19 @@
-use borrow.Author.Tests.{le-leb, lt-leb, not-false, not-true}
-use Rattle.protocol.specs.Calls.{validIdentity}
+use borrow.Author.Tests.{not-false, not-true}
 use borrow.Author.Needs.{needs}
 use Rattle.controller.proofs.calls.takes_part.Statement.{statement}
 use Rattle.controller.proofs.calls.takes_part.Tie as tie
 
-sizes-in-range-requires : tie.Need-sizes-in-range-requires
-sizes-in-range-requires c κs = search needs
+valid-identity-requires : tie.Need-valid-identity-requires
+valid-identity-requires c κs = search needs
 
 returns : tie.Need-returns
-unfolding validIdentity
-returns c = simp (← c .before .sizes-in-range .ensures, not-true (c .before .sizes-in-range .result) (c .if1 .taken))
-
-is-controller-requires : tie.Need-is-controller-requires
-is-controller-requires c κs = search needs
-
-returns-2 : tie.Need-returns-2
-unfolding validIdentity
-returns-2 c = simp (← c .before .before .before .sizes-in-range .ensures, not-false (c .before .before .before .sizes-in-range .result) (c .before .before .if1 .left), ← c .before .is-controller .ensures, not-true (c .before .is-controller .result) (c .if2 .taken))
-
-returns-3 : tie.Need-returns-3
-unfolding validIdentity
-returns-3 c = simp (← c .before .before .before .before .before .sizes-in-range .ensures, not-false (c .before .before .before .before .before .sizes-in-range .result) (c .before .before .before .before .if1 .left), ← c .before .before .before .is-controller .ensures, not-false (c .before .before .before .is-controller .result) (c .before .before .if2 .left), lt-leb 1 _ (c .if3 .taken))
+returns c = simp (← c .before .valid-identity .ensures, not-true (c .before .valid-identity .result) (c .if1 .taken))
 
 is-running-requires : tie.Need-is-running-requires
 is-running-requires c κs = search needs
 
-returns-4 : tie.Need-returns-4
-unfolding validIdentity
-returns-4 c = simp (← c .before .before .before .before .before .before .sizes-in-range .ensures, not-false (c .before .before .before .before .before .before .sizes-in-range .result) (c .before .before .before .before .before .if1 .left), ← c .before .before .before .before .is-controller .ensures, not-false (c .before .before .before .before .is-controller .result) (c .before .before .before .if2 .left), le-leb 1 _ (c .before .if3 .left), c .is-running .ensures)
+returns-2 : tie.Need-returns-2
+returns-2 c = simp (← c .before .before .valid-identity .ensures, not-false (c .before .before .valid-identity .result) (c .before .if1 .left), c .is-running .ensures)
 
 pub takes-part-spec : {M : Type 1} → statement M
-takes-part-spec =
-    tie.close
-    (tie.spec
-    sizes-in-range-requires
-    returns
-    is-controller-requires
-    returns-2
-    returns-3
-    is-running-requires
-    returns-4)
+takes-part-spec = tie.close (tie.spec valid-identity-requires returns is-running-requires returns-2)

@@ -5,7 +5,7 @@ use Rattle.event_record.specs.Events.{events}
 use Rattle.event_record.proofs.event.asked_in_sequence.Statement.{statement}
 use Rattle.event_record.proofs.event.asked_in_sequence.Tie as tie
 
-asked : AskedInSequence events (1 ∷ 2 ∷ 3 ∷ []) (1 ∷ [])
+asked : AskedInSequence events (λ k. 1 ∷ 2 ∷ 3 ∷ []) (λ k. 1 ∷ [])
 asked = record { at-reading = λ s. refl; at-writing = λ out a. refl }
 
 returns : tie.Need-returns

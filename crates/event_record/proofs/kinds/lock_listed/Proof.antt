@@ -1,12 +1,15 @@
-use borrow.Author.Tests.{eq-eqb, ne-eqb}
+use borrow.Author.Needs.{needs}
 use Rattle.event_record.proofs.kinds.lock_listed.Statement.{statement}
 use Rattle.event_record.proofs.kinds.lock_listed.Tie as tie
 
+is-flag-requires : tie.Need-is-flag-requires
+is-flag-requires c κs = search needs
+
 returns : tie.Need-returns
-returns c = simp (eq-eqb _ _ (c .if1 .taken))
+returns c = simp (← c .before .is-flag .ensures, c .if1 .taken)
 
 returns-2 : tie.Need-returns-2
-returns-2 c = simp (ne-eqb _ _ (c .if1 .left))
+returns-2 c = simp (← c .before .is-flag .ensures, c .if1 .left)
 
 pub lock-listed-spec : {M : Type 1} → statement M
-lock-listed-spec = tie.close (tie.spec returns returns-2)
+lock-listed-spec = tie.close (tie.spec is-flag-requires returns returns-2)

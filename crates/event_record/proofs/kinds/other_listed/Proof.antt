@@ -3,14 +3,14 @@ use borrow.Author.Needs.{needs}
 use Rattle.event_record.proofs.kinds.other_listed.Statement.{statement}
 use Rattle.event_record.proofs.kinds.other_listed.Tie as tie
 
-lock-listed-requires : tie.Need-lock-listed-requires
-lock-listed-requires c κs = search needs
+rest-unused-requires : tie.Need-rest-unused-requires
+rest-unused-requires c κs = search needs
 
 returns : tie.Need-returns
-returns c = simp (eq-eqb _ _ (c .before .if1 .taken), c .lock-listed .ensures)
+returns c = simp (eq-eqb _ _ (c .before .if1 .taken), c .rest-unused .ensures)
 
 returns-2 : tie.Need-returns-2
 returns-2 c = simp (ne-eqb _ _ (c .if1 .left))
 
 pub other-listed-spec : {M : Type 1} → statement M
-other-listed-spec = tie.close (tie.spec lock-listed-requires returns returns-2)
+other-listed-spec = tie.close (tie.spec rest-unused-requires returns returns-2)

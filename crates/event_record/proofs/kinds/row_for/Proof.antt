@@ -10,20 +10,23 @@ use Rattle.event_record.proofs.kinds.row_for.Tie as tie
 lock-listed-requires : tie.Need-lock-listed-requires
 lock-listed-requires c κs = search needs
 
+flag-of-requires : tie.Need-flag-of-requires
+flag-of-requires c κs = search needs
+
 order-listed-requires : tie.Need-order-listed-requires
 order-listed-requires c κs = search needs
 
 vote-listed-requires : tie.Need-vote-listed-requires
 vote-listed-requires c κs = search needs
 
-flag-of-requires : tie.Need-flag-of-requires
-flag-of-requires c κs = search needs
+flag-of-requires-2 : tie.Need-flag-of-requires-2
+flag-of-requires-2 c κs = search needs
 
 delivery-listed-requires : tie.Need-delivery-listed-requires
 delivery-listed-requires c κs = search needs
 
-kind-of-requires : tie.Need-kind-of-requires
-kind-of-requires c κs = search needs
+delivery-requires : tie.Need-delivery-requires
+delivery-requires c κs = search needs
 
 other-listed-requires : tie.Need-other-listed-requires
 other-listed-requires c κs = search needs
@@ -31,8 +34,8 @@ other-listed-requires c κs = search needs
 decision-listed-requires : tie.Need-decision-listed-requires
 decision-listed-requires c κs = search needs
 
-flag-of-requires-2 : tie.Need-flag-of-requires-2
-flag-of-requires-2 c κs = search needs
+flag-of-requires-3 : tie.Need-flag-of-requires-3
+flag-of-requires-3 c κs = search needs
 
 other-listed-requires-2 : tie.Need-other-listed-requires-2
 other-listed-requires-2 c κs = search needs
@@ -43,9 +46,15 @@ other-listed-requires-3 c κs = search needs
 other-listed-requires-4 : tie.Need-other-listed-requires-4
 other-listed-requires-4 c κs = search needs
 
+opening-listed-requires : tie.Need-opening-listed-requires
+opening-listed-requires c κs = search needs
+
+opening-requires : tie.Need-opening-requires
+opening-requires c κs = search needs
+
 returns : tie.Need-returns
 unfolding rowOf rows
-returns c = at-row _ 0 (c .before .match .keys1) (c .lock-listed .ensures) refl
+returns c = at-row _ 0 (c .before .before .match .keys1) (c .before .lock-listed .ensures) (rw (c .flag-of .ensures))
 
 returns-2 : tie.Need-returns-2
 unfolding rowOf rows
@@ -53,11 +62,11 @@ returns-2 c = at-row _ 1 (c .before .match .keys2) (c .order-listed .ensures) re
 
 returns-3 : tie.Need-returns-3
 unfolding rowOf rows
-returns-3 c = at-row _ 2 (c .before .before .match .keys3) (c .before .vote-listed .ensures) (rw (c .flag-of .ensures))
+returns-3 c = at-row _ 2 (c .before .before .match .keys3) (c .before .vote-listed .ensures) (rw (c .flag-of2 .ensures))
 
 returns-4 : tie.Need-returns-4
 unfolding rowOf rows
-returns-4 c = at-row _ 3 (c .before .before .match .keys4) (c .before .delivery-listed .ensures) (rw (c .kind-of .ensures))
+returns-4 c = at-row _ 3 (c .before .before .match .keys4) (c .before .delivery-listed .ensures) (c .delivery .ensures)
 
 returns-5 : tie.Need-returns-5
 unfolding rowOf rows
@@ -65,7 +74,7 @@ returns-5 c = at-row _ 4 (c .before .match .keys5) (c .other-listed .ensures) re
 
 returns-6 : tie.Need-returns-6
 unfolding rowOf rows
-returns-6 c = at-row _ 5 (c .before .before .match .keys6) (c .before .decision-listed .ensures) (rw (c .flag-of2 .ensures))
+returns-6 c = at-row _ 5 (c .before .before .match .keys6) (c .before .decision-listed .ensures) (rw (c .flag-of3 .ensures))
 
 returns-7 : tie.Need-returns-7
 unfolding rowOf rows
@@ -80,24 +89,31 @@ unfolding rowOf rows
 returns-9 c = at-row _ 8 (c .before .match .keys9) (c .other-listed4 .ensures) refl
 
 returns-10 : tie.Need-returns-10
-returns-10 c = rw (no-row (c .before .args .x) (above 9 (c .before .args .x .kind) (c .match .rest))) (refl, refl)
+unfolding rowOf rows
+returns-10 c = at-row _ 10 (c .before .before .match .keys10) (c .before .opening-listed .ensures) (c .opening .ensures)
+
+returns-11 : tie.Need-returns-11
+returns-11 c = rw (no-row (c .before .args .x) (above 9 (c .before .args .x .kind) (c .match .rest .0)) (c .match .rest .1)) (refl, refl)
 
 pub row-for-spec : {M : Type 1} → statement M
 row-for-spec =
     tie.close
     (tie.spec
     lock-listed-requires
+    flag-of-requires
     order-listed-requires
     vote-listed-requires
-    flag-of-requires
+    flag-of-requires-2
     delivery-listed-requires
-    kind-of-requires
+    delivery-requires
     other-listed-requires
     decision-listed-requires
-    flag-of-requires-2
+    flag-of-requires-3
     other-listed-requires-2
     other-listed-requires-3
     other-listed-requires-4
+    opening-listed-requires
+    opening-requires
     returns
     returns-2
     returns-3
@@ -107,4 +123,5 @@ row-for-spec =
     returns-7
     returns-8
     returns-9
-    returns-10)
+    returns-10
+    returns-11)

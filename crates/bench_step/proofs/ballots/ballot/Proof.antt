@@ -1,0 +1,87 @@
+-- An event of ballots: its questions and its answer, on what is read of the bench.
+use mathlib.Core.Path.{_≡_, sym, _∙_}
+use Rattle.model.specs.declared.Event.the-variants.{OfBallots}
+use Rattle.protocol.specs.Ballots.{acceptor}
+use Rattle.protocol.specs.Questions.{number, reply}
+use Rattle.bench_step.proofs.BallotLaws.{asked-read, placed, answerRead, put-answer}
+use Rattle.bench_step.proofs.StepLaws.{refuses, accepts}
+use borrow.Author.Needs.{needs}
+use Rattle.bench_step.proofs.ballots.ballot.Statement.{statement}
+use Rattle.bench_step.proofs.ballots.ballot.Tie as tie
+
+asked : (c : tie.After-ballot-question) → let s = c .before .before .before .before .before .before .before .before .before .before .before in c .ballot-question .result ≡ number (reply (s .args .b) (OfBallots (s .args .e)))
+unfolding acceptor
+asked c =
+    let s = c .before .before .before .before .before .before .before .before .before .before .before in
+    rw (c .ballot-question .ensures, c .before .condition-of .ensures, c .before .before .row-at .ensures .0, c .before .before .before .acceptor-at .ensures, c .before .before .before .before .before .before .before .ballot-of .ensures, c .before .before .before .before .before .before .before .before .proposal-of .ensures, c .before .before .before .before .before .before .before .before .before .station-at .ensures .0, c .before .before .before .before .before .before .before .before .before .before .subject-of .ensures)
+    (asked-read (s .args .b) (s .args .e) (c .before .before .row-at .ensures .1))
+
+zero : (c : tie.After-ballot-question) → c .ballot-question .result ≡ 0 → let s = c .before .before .before .before .before .before .before .before .before .before .before in number (reply (s .args .b) (OfBallots (s .args .e))) ≡ 0
+zero c z = sym (asked c) ∙ z
+
+found : (c : tie.After-answer-to) → let a = c .before .before in let s = a .before .before .before .before .before .before .before .before .before .before .before in c .answer-to .result ≡ answerRead (s .args .b) (s .args .e) (a .before .before .row-at .ensures .1) (zero a (c .before .if1 .left))
+unfolding acceptor
+found c =
+    let a = c .before .before in
+    rw (c .answer-to .ensures, a .before .before .row-at .ensures .0, a .before .before .before .acceptor-at .ensures, a .before .before .before .before .before .before .before .ballot-of .ensures, a .before .before .before .before .before .before .before .before .proposal-of .ensures, a .before .before .before .before .before .before .before .before .before .station-at .ensures .0, a .before .before .before .before .before .before .before .before .before .before .subject-of .ensures)
+
+subject-of-requires : tie.Need-subject-of-requires
+subject-of-requires c κs = search needs
+
+station-at-requires : tie.Need-station-at-requires
+station-at-requires c κs = search needs
+
+proposal-of-requires : tie.Need-proposal-of-requires
+proposal-of-requires c κs = search needs
+
+ballot-of-requires : tie.Need-ballot-of-requires
+ballot-of-requires c κs = search needs
+
+acceptor-at-requires : tie.Need-acceptor-at-requires
+acceptor-at-requires c κs = search needs
+
+row-at-requires : tie.Need-row-at-requires
+row-at-requires c κs = search needs
+
+condition-of-requires : tie.Need-condition-of-requires
+condition-of-requires c κs = search needs
+
+ballot-question-requires : tie.Need-ballot-question-requires
+ballot-question-requires c κs = search needs
+
+returns : tie.Need-returns
+returns c = refuses _ _ _ (asked (c .before)) (c .if1 .taken)
+
+answer-to-requires : tie.Need-answer-to-requires
+answer-to-requires c κs = search needs
+
+answered-requires : tie.Need-answered-requires
+answered-requires c κs =
+    let a = c .before .before .before .before in
+    let s = a .before .before .before .before .before .before .before .before .before .before .before in
+    rw (a .before .before .before .before .before .before .before .ballot-of .ensures, a .before .before .before .before .before .before .before .before .before .before .subject-of .ensures) (placed (s .args .b) (s .args .e) (a .before .before .row-at .ensures .1) (zero a (c .before .before .before .if1 .left)))
+
+returns-2 : tie.Need-returns-2
+returns-2 c =
+    let a = c .before .before .before .before .before in
+    let s = a .before .before .before .before .before .before .before .before .before .before .before in
+    accepts _ _ _ (asked a) (c .before .before .before .before .if1 .left) _
+    (rw (c .answered .ensures, a .before .before .row-at .ensures .0, a .before .before .before .before .before .before .before .ballot-of .ensures, a .before .before .before .before .before .before .before .before .before .before .subject-of .ensures)
+    (put-answer (s .args .b) (s .args .e) (a .before .before .row-at .ensures .1) (zero a (c .before .before .before .before .if1 .left)) _ (found (c .before .before .before))))
+
+pub ballot-spec : {M : Type 1} → statement M
+ballot-spec =
+    tie.close
+    (tie.spec
+    subject-of-requires
+    station-at-requires
+    proposal-of-requires
+    ballot-of-requires
+    acceptor-at-requires
+    row-at-requires
+    condition-of-requires
+    ballot-question-requires
+    returns
+    answer-to-requires
+    answered-requires
+    returns-2)

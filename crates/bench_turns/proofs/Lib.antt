@@ -1,0 +1,2 @@
+pub mod OneStation
+pub mod BallotLaws

@@ -1,0 +1,36 @@
+-- What an event of ballots makes of the acceptor of the controller that it concerns, and of the row of its ballot (document 02, U14).
+use Prim.Native.Nat.{ℕ}
+use mathlib.Core.Bool.{cond}
+use lib.Dec.{eqb}
+use Rattle.model.specs.declared.Outcome.{Outcome}
+use Rattle.model.specs.declared.Outcome.the-variants.{None}
+use Rattle.model.specs.declared.BallotKind.{BallotKind}
+use Rattle.model.specs.declared.BallotKind.the-variants.{Prepare, Promise, Accept, Accepted}
+use Rattle.model.specs.declared.BallotEvent.{BallotEvent}
+use Rattle.model.specs.declared.BallotEvent.the-variants.{Open, Carry}
+use Rattle.protocol.specs.declared.Acceptor.{Acceptor}
+use Rattle.protocol.specs.declared.BallotAnswer.{BallotAnswer}
+use Rattle.protocol.specs.declared.BallotRow.{BallotRow}
+use Rattle.protocol.specs.declared.Tally.{Tally}
+use Rattle.protocol.specs.Ballots.{report}
+use Rattle.protocol.specs.BallotRules.{unanswered, prepareArrives, acceptArrives, promiseArrives, openBallot}
+
+-- which ballot the sender's promise reports, and the word of its row
+abbrev pub reportedBallot : BallotEvent → BallotRow → ℕ
+reportedBallot (Open i x) r = 0
+reportedBallot (Carry i j kind x) r = report r i
+
+abbrev pub wordIn : ℕ → BallotRow → Outcome
+wordIn last r = cond (eqb last 0) None (r .tally .word)
+
+-- a message of ballot b arrives, from i, which reports a ballot and its word: "A taken changes nothing where it comes in"
+unfoldable pub carriedAnswer : BallotKind → ℕ → ℕ → ℕ → ℕ → Outcome → Outcome → Acceptor → Tally → BallotAnswer
+carriedAnswer Prepare n b i last w own a t = prepareArrives b a t
+carriedAnswer Promise n b i last w own a t = promiseArrives n b i last w own a t
+carriedAnswer Accept n b i last w own a t = acceptArrives b (t .word) a t
+carriedAnswer Accepted n b i last w own a t = unanswered a t
+
+-- the controller's answer in ballot b: it has put `own`, and the word reported is w
+unfoldable pub ballotAnswer : ℕ → ℕ → BallotEvent → Outcome → Acceptor → BallotRow → Outcome → BallotAnswer
+ballotAnswer n b (Open i x) own a r w = openBallot n b i own a (r .tally)
+ballotAnswer n b (Carry i j kind x) own a r w = carriedAnswer kind n b i (report r i) w own a (r .tally)

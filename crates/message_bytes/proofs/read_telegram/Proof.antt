@@ -1,0 +1,90 @@
+-- `read_telegram` meets its contract: each way out is one of the description (FrameLaws), by the form that length and mark say.
+use mathlib.Core.Path.{refl, sym, _∙_, ap}
+use borrow.Author.Tests.{not-true, not-false}
+use lib.ListN.{length}
+use Rattle.records.specs.FrameLaws.{frame-refused, frame-length, unlisted, question-refused, questions-passed}
+use Rattle.message_record.specs.Telegrams.{markOf, telegramOf, listedIn, formFor, telegrams}
+use Rattle.message_bytes.proofs.Numbered.{telegram-numbered}
+use Rattle.message_bytes.proofs.Framing.{enough}
+use borrow.Author.Needs.{needs}
+use Rattle.message_bytes.proofs.read_telegram.Statement.{statement}
+use Rattle.message_bytes.proofs.read_telegram.Tie as tie
+
+number2-requires : tie.Need-number2-requires
+number2-requires c κs = search needs
+
+form-on-requires : tie.Need-form-on-requires
+form-on-requires c κs = search needs
+
+frame-in-requires : tie.Need-frame-in-requires
+frame-in-requires c κs = search needs
+
+returns : tie.Need-returns
+returns c =
+    let s = c .before .before .before .before .before .args .s .now in
+    let form = c .before .before .form-on in
+    let on = form .ensures ∙ ap (formFor (length s)) (c .before .before .before .number2 .ensures) in
+    frame-refused telegrams s (form .result) on (markOf (form .result .width)) refl _ (c .before .frame-in .ensures) (c .if1 .taken)
+
+fields-in-requires : tie.Need-fields-in-requires
+fields-in-requires c κs =
+    let s = c .before .before .before .before .before .args .s .now in
+    let form = c .before .before .form-on in
+    let on = form .ensures ∙ ap (formFor (length s)) (c .before .before .before .number2 .ensures) in
+    enough (form .result) s (frame-length telegrams s (form .result) on (markOf (form .result .width)) refl _ (c .before .frame-in .ensures) (c .if1 .left))
+
+listed-requires : tie.Need-listed-requires
+listed-requires c κs = search needs
+
+returns-2 : tie.Need-returns-2
+returns-2 c =
+    let s = c .before .before .before .before .before .before .before .before .args .s .now in
+    let form = c .before .before .before .before .before .form-on in
+    let on = form .ensures ∙ ap (formFor (length s)) (c .before .before .before .before .before .before .number2 .ensures) in
+    let listed = c .before .listed in
+    unlisted telegrams s (form .result) on (markOf (form .result .width)) refl _ (c .before .before .before .before .frame-in .ensures) (c .before .before .before .if1 .left)
+    (ap (listedIn (form .result .body)) (sym (c .before .before .fields-in .ensures)) ∙ (sym (listed .ensures) ∙ not-true (listed .result) (c .if2 .taken)))
+
+telegram-of-requires : tie.Need-telegram-of-requires
+telegram-of-requires c κs = search needs
+
+question-in-requires : tie.Need-question-in-requires
+question-in-requires c κs = search needs
+
+returns-3 : tie.Need-returns-3
+returns-3 c =
+    let s = c .before .before .before .before .before .before .before .before .before .before .before .args .s .now in
+    let form = c .before .before .before .before .before .before .before .before .form-on in
+    let on = form .ensures ∙ ap (formFor (length s)) (c .before .before .before .before .before .before .before .before .before .number2 .ensures) in
+    let fields = c .before .before .before .before .before .fields-in .ensures in
+    let listed = c .before .before .before .before .listed in
+    question-refused telegrams s (form .result) on (markOf (form .result .width)) refl _ (c .before .before .before .before .before .before .before .frame-in .ensures) (c .before .before .before .before .before .before .if1 .left)
+    (ap (listedIn (form .result .body)) (sym fields) ∙ (sym (listed .ensures) ∙ not-false (listed .result) (c .before .before .before .if2 .left)))
+    _ (c .before .before .telegram-of .ensures ∙ ap (telegramOf (form .result .body)) fields) _ (c .before .question-in .ensures) (c .if3 .taken)
+
+returns-4 : tie.Need-returns-4
+returns-4 c =
+    let s = c .before .before .before .before .before .before .before .before .before .before .before .args .s .now in
+    let form = c .before .before .before .before .before .before .before .before .form-on in
+    let on = form .ensures ∙ ap (formFor (length s)) (c .before .before .before .before .before .before .before .before .before .number2 .ensures) in
+    let fields = c .before .before .before .before .before .fields-in .ensures in
+    let listed = c .before .before .before .before .listed in
+    questions-passed telegrams s (form .result) on (markOf (form .result .width)) refl _ (c .before .before .before .before .before .before .before .frame-in .ensures) (c .before .before .before .before .before .before .if1 .left)
+    (ap (listedIn (form .result .body)) (sym fields) ∙ (sym (listed .ensures) ∙ not-false (listed .result) (c .before .before .before .if2 .left)))
+    _ (c .before .before .telegram-of .ensures ∙ ap (telegramOf (form .result .body)) fields) _ (c .before .question-in .ensures) (telegram-numbered (form .result .width) (c .before .before .telegram-of .result)) (c .if3 .left)
+
+pub read-telegram-spec : {M : Type 1} → statement M
+read-telegram-spec =
+    tie.close
+    (tie.spec
+    number2-requires
+    form-on-requires
+    frame-in-requires
+    returns
+    fields-in-requires
+    listed-requires
+    returns-2
+    telegram-of-requires
+    question-in-requires
+    returns-3
+    returns-4)

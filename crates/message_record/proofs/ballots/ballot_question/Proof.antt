@@ -1,0 +1,47 @@
+use Rattle.message_record.specs.BallotMessages.{aboutBallot}
+use borrow.Author.Tests.{not-true, not-false}
+use Rattle.model.specs.Questions.{firstNo, unless}
+use Rattle.message_record.proofs.Asked.{ballot-stopped, ballot-past}
+use borrow.Author.Needs.{needs}
+use Rattle.message_record.proofs.ballots.ballot_question.Statement.{statement}
+use Rattle.message_record.proofs.ballots.ballot_question.Tie as tie
+
+head-question-requires : tie.Need-head-question-requires
+head-question-requires c κs = search needs
+
+returns : tie.Need-returns
+returns c = ballot-stopped (c .before .before .args .b) _ (c .before .head-question .ensures) (c .if1 .taken)
+
+ballot-suits-requires : tie.Need-ballot-suits-requires
+ballot-suits-requires c κs = search needs
+
+returns-2 : tie.Need-returns-2
+unfolding aboutBallot firstNo unless
+returns-2 c = ballot-past (c .before .before .before .before .args .b) _ _ (c .before .before .before .head-question .ensures) (c .before .before .if1 .left) (simp (← c .before .ballot-suits .ensures, not-true (c .before .ballot-suits .result) (c .if2 .taken)))
+
+cast-is-ballot : tie.Need-cast-is-ballot
+cast-is-ballot c = search needs
+
+is-ballot-requires : tie.Need-is-ballot-requires
+is-ballot-requires c κs = search needs
+
+returns-3 : tie.Need-returns-3
+unfolding aboutBallot firstNo unless
+returns-3 c = ballot-past (c .before .before .before .before .before .before .before .args .b) _ _ (c .before .before .before .before .before .before .head-question .ensures) (c .before .before .before .before .before .if1 .left) (simp (← c .before .before .before .before .ballot-suits .ensures, not-false (c .before .before .before .before .ballot-suits .result) (c .before .before .before .if2 .left), ← c .before .is-ballot .ensures, not-true (c .before .is-ballot .result) (c .if3 .taken)))
+
+returns-4 : tie.Need-returns-4
+unfolding aboutBallot firstNo unless
+returns-4 c = ballot-past (c .before .before .before .before .before .before .before .args .b) _ _ (c .before .before .before .before .before .before .head-question .ensures) (c .before .before .before .before .before .if1 .left) (simp (← c .before .before .before .before .ballot-suits .ensures, not-false (c .before .before .before .before .ballot-suits .result) (c .before .before .before .if2 .left), ← c .before .is-ballot .ensures, not-false (c .before .is-ballot .result) (c .if3 .left)))
+
+pub ballot-question-spec : {M : Type 1} → statement M
+ballot-question-spec =
+    tie.close
+    (tie.spec
+    head-question-requires
+    returns
+    ballot-suits-requires
+    returns-2
+    cast-is-ballot
+    is-ballot-requires
+    returns-3
+    returns-4)

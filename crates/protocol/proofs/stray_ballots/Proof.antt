@@ -1,0 +1,10 @@
+-- `protocol::stray_ballots` meets its contract.
+use Rattle.protocol.proofs.paxos.Strayed.{ballot-strays}
+use Rattle.protocol.proofs.stray_ballots.Statement.{statement}
+use Rattle.protocol.proofs.stray_ballots.Tie as tie
+
+returns : tie.Need-returns
+returns c = ballot-strays
+
+pub stray-ballots-spec : {M : Type 1} → statement M
+stray-ballots-spec = tie.close (tie.spec returns)
