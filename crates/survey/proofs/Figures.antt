@@ -16,7 +16,7 @@ use Rattle.survey.specs.declared.Endings.{Endings}
 use Rattle.survey.specs.declared.Survey.{Survey}
 use Rattle.survey.specs.Ended.{endingOf}
 use Rattle.survey.specs.Surveys.{endingsWith, allKinds, withOne, surveyOf}
-use Rattle.survey.specs.Claim.{Surveyed}
+use Rattle.survey.specs.Claim.{total as totalOf, oneIfMoved, oneIfStayed, Surveyed}
 
 abbrev three : Endings → ℕ
 three e = e .moved + e .stayed + e .rest
@@ -25,6 +25,16 @@ one-more : (x : Ending) (e : Endings) (k : ℕ) → three e ≡ k → three (end
 one-more Moved e k h = omega arith
 one-more Stayed e k h = omega arith
 one-more Rest e k h = omega arith
+
+moved-more : (x : Ending) (e : Endings) → endingsWith e x .moved ≡ e .moved + oneIfMoved x
+moved-more Moved e = omega arith
+moved-more Stayed e = omega arith
+moved-more Rest e = omega arith
+
+stayed-more : (x : Ending) (e : Endings) → endingsWith e x .stayed ≡ e .stayed + oneIfStayed x
+stayed-more Moved e = omega arith
+stayed-more Stayed e = omega arith
+stayed-more Rest e = omega arith
 
 module _ (ends : ℕ → Summary) (s : ℕ) where
   abbrev total : ℕ → ℕ
@@ -37,6 +47,36 @@ module _ (ends : ℕ → Summary) (s : ℕ) where
   unfolding surveyOf withOne
   adds-up zero = refl
   adds-up (suc k) = one-more (endingOf (ends (s + k))) (at k .endings) k (adds-up k)
+
+  pub all-moved : (k : ℕ) → at k .endings .moved ≡ totalOf (λ g. oneIfMoved (endingOf (ends g))) s k
+  unfolding surveyOf withOne totalOf
+  all-moved zero = refl
+  all-moved (suc k) = moved-more (endingOf (ends (s + k))) (at k .endings) ∙ ap (λ (x : ℕ). x + oneIfMoved (endingOf (ends (s + k)))) (all-moved k)
+
+  pub all-stayed : (k : ℕ) → at k .endings .stayed ≡ totalOf (λ g. oneIfStayed (endingOf (ends g))) s k
+  unfolding surveyOf withOne totalOf
+  all-stayed zero = refl
+  all-stayed (suc k) = stayed-more (endingOf (ends (s + k))) (at k .endings) ∙ ap (λ (x : ℕ). x + oneIfStayed (endingOf (ends (s + k)))) (all-stayed k)
+
+  pub all-vote : (k : ℕ) → at k .messages .vote ≡ totalOf (λ g. ends g .messages .vote) s k
+  unfolding surveyOf withOne totalOf
+  all-vote zero = refl
+  all-vote (suc k) = ap (λ (x : ℕ). x + ends (s + k) .messages .vote) (all-vote k)
+
+  pub all-ack : (k : ℕ) → at k .messages .ack ≡ totalOf (λ g. ends g .messages .ack) s k
+  unfolding surveyOf withOne totalOf
+  all-ack zero = refl
+  all-ack (suc k) = ap (λ (x : ℕ). x + ends (s + k) .messages .ack) (all-ack k)
+
+  pub all-help : (k : ℕ) → at k .messages .help ≡ totalOf (λ g. ends g .messages .help) s k
+  unfolding surveyOf withOne totalOf
+  all-help zero = refl
+  all-help (suc k) = ap (λ (x : ℕ). x + ends (s + k) .messages .help) (all-help k)
+
+  pub all-helped : (k : ℕ) → at k .messages .helped ≡ totalOf (λ g. ends g .messages .helped) s k
+  unfolding surveyOf withOne totalOf
+  all-helped zero = refl
+  all-helped (suc k) = ap (λ (x : ℕ). x + ends (s + k) .messages .helped) (all-helped k)
 
   pub sum-of-kinds : (k : ℕ) → at k .sum ≡ allKinds (at k .messages)
   unfolding surveyOf withOne
@@ -109,6 +149,12 @@ module _ (ends : ℕ → Summary) (s : ℕ) where
 
 pub all-surveyed : Surveyed
 all-surveyed = record {
+  moved = λ ends s k. all-moved ends s k;
+  stayed = λ ends s k. all-stayed ends s k;
+  votes = λ ends s k. all-vote ends s k;
+  acks = λ ends s k. all-ack ends s k;
+  helps = λ ends s k. all-help ends s k;
+  helpeds = λ ends s k. all-helped ends s k;
   adds-up = λ ends s k. adds-up ends s k;
   most = λ ends s k g l u. best ends s k .most g l u;
   reached = λ ends s k l. best ends s k .reached l;

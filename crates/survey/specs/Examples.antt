@@ -1,4 +1,4 @@
--- Worked by hand: how some benches ended, which records are refused with what, and a report over four schedules, from what they showed to its page.
+-- Worked by hand: how some benches ended, which records are refused with what, and a report over six schedules, from what they showed to its page.
 use Prim.Native.Nat.{ℕ, zero, suc, _-_}
 use Prim.Native.String.{String}
 use mathlib.Core.Path.{_≡_, refl}
@@ -48,11 +48,24 @@ pub endings : map endingOf (
     ∷ end (shown 9 None ∷ shown 3 Stay ∷ [])
     -- one that has not ended
     ∷ end (shown 2 None ∷ shown 3 Move ∷ [])
+    ∷ end (shown 0 None ∷ shown 3 Move ∷ [])
+    -- the last controller counts as the first does
+    ∷ end (shown 3 Move ∷ shown 2 None ∷ [])
+    ∷ end (shown 3 Stay ∷ shown 9 None ∷ [])
+    -- one of each
+    ∷ end (shown 3 Move ∷ shown 3 Stay ∷ [])
+    ∷ end (shown 3 Stay ∷ shown 3 Move ∷ [])
+    -- nobody runs, but one stands by
+    ∷ end (shown 9 Move ∷ shown 8 None ∷ [])
+    ∷ end (shown 8 None ∷ shown 9 Stay ∷ [])
+    -- what is shown of one stopped is not asked (no bench shows an outcome there)
+    ∷ end (shown 8 Stay ∷ shown 3 Move ∷ [])
+    ∷ end (shown 8 Move ∷ shown 8 Move ∷ [])
     -- nobody left unstopped, and no controller at all
     ∷ end (shown 8 None ∷ shown 8 None ∷ [])
     ∷ end []
     ∷ [])
-    ≡ Moved ∷ Moved ∷ Rest ∷ Moved ∷ Stayed ∷ Rest ∷ Rest ∷ Rest ∷ Rest ∷ []
+    ≡ Moved ∷ Moved ∷ Rest ∷ Moved ∷ Stayed ∷ Rest ∷ Rest ∷ Rest ∷ Rest ∷ Rest ∷ Rest ∷ Rest ∷ Moved ∷ Stayed ∷ Moved ∷ Rest ∷ Rest ∷ Rest ∷ []
 unfolding endingOf anyPresent allEnded nth allTo anyTo
 endings = refl
 
@@ -75,10 +88,13 @@ records =
     -- 4 before 27 and 23
     ∷ asks 33 1 4001 0 0 4
     ∷ asks 5 5 1000 1 100 4
+    ∷ asks 5 0 1000 1 100 4
+    ∷ asks 1 1 1000 1 100 4
     -- 27 before 23
     ∷ asks 5 2 4001 1 0 27
     ∷ asks 5 2 4001 1 1001 27
     ∷ asks 5 2 4001 0 1 27
+    ∷ asks 5 2 4001 0 2 27
     ∷ asks 5 2 4001 1 1000 23
     -- the last number
     ∷ asks 2 1 0 4294967295 1 0
@@ -98,19 +114,21 @@ pub answers : allAnswered records ≡ true
 unfolding refusalOf numbersInRange sizesInRange firstNo unless
 answers = refl
 
--- numbers 7 to 10: the most, 9 messages, in 8 and again in 9
+-- numbers 7 to 12: the most, 9 messages, in 8 and again in 9
 abbrev pub ends : ℕ → Summary
 ends g = getD (
     endWith (sent 2 1 0 0) (shown 3 Move ∷ shown 8 None ∷ [])
     ∷ endWith (sent 2 4 2 1) (shown 3 Stay ∷ shown 9 Stay ∷ [])
     ∷ endWith (sent 3 3 2 1) (shown 8 None ∷ shown 8 None ∷ [])
     ∷ endWith (sent 2 2 0 0) (shown 9 None ∷ shown 3 Move ∷ [])
+    ∷ endWith (sent 1 0 0 0) (shown 8 None ∷ shown 9 Stay ∷ [])
+    ∷ endWith (sent 0 1 0 0) (shown 3 Move ∷ shown 2 None ∷ [])
     ∷ []) (g - 7) (end [])
 
-pub printed : page (surveyOf ends 7 4) 4 ≡ asPage (
-    "1 1 2" ∷
-    "9 10 4 2" ∷
+pub printed : page (surveyOf ends 7 6) 6 ≡ asPage (
+    "1 2 3" ∷
+    "10 11 4 2" ∷
     "9 8" ∷
-    "25 4" ∷ [])
+    "27 6" ∷ [])
 unfolding page surveyOf withOne endingOf anyPresent allEnded nth allTo anyTo digits decimal
 printed = refl
