@@ -1,14 +1,16 @@
 -- One event of ballots of a run: its questions, asked of the acceptor and of the row that are read; what is left. And question 18's look at the rows.
 use Prim.Native.Nat.{ℕ, _+_, _-_, _%_, _≤_, _<_}
-use mathlib.Core.Path.{_≡_, refl, sym, ap, _∙_}
+use mathlib.Core.Path.{_≡_, refl, sym, ap, subst, _∙_}
 use mathlib.Core.Bool.{Bool, true, false, cond, _&&_, _||_}
 use mathlib.Core.List.{List, []}
 use mathlib.Core.Logic.{inl, inr}
 use native.Mathlib.Omega.{arith}
 use native.Mathlib.Numerals.{add-one}
+use lib.Dec.{eqb}
 use lib.ListN.{getD, set}
+use borrow.Author.Tests.{eqb-true, eqb-false}
 use Rattle.ground.specs.Limit.{limit}
-use Rattle.ground.specs.Tests.{split}
+use Rattle.ground.specs.Tests.{split, by-cond}
 use Rattle.ground.specs.Lists.{nth, put, nth-at}
 use Rattle.ground.specs.Quantify.{anyTo}
 use Rattle.model.specs.QuestionLaws.{AllYes}
@@ -20,7 +22,6 @@ use Rattle.protocol.specs.declared.BallotAnswer.{BallotAnswer}
 use Rattle.protocol.specs.declared.BallotRow.{BallotRow}
 use Rattle.protocol.specs.declared.Ballots.{Ballots}
 use Rattle.protocol.specs.declared.Bench.{Bench}
-use Rattle.protocol.specs.declared.Condition.{Condition}
 use Rattle.protocol.specs.declared.Shared.{Shared}
 use Rattle.protocol.specs.declared.Station.{Station}
 use Rattle.protocol.specs.Ballots.{ballotLimit, isBallot, majority, newAcceptor, newRow, acceptor, row, isWord, chosenIn, isChosen}
@@ -30,8 +31,9 @@ use Rattle.protocol.specs.Questions.{Facts, number, firstNo, mayOpen, mayGive, 
 use Rattle.protocol.specs.Steps.{perform, step}
 use Rattle.bench_state.specs.BallotQuestions.{ballotNumber, ballotAsked}
 use Rattle.bench_state.proofs.BallotReplies.{has-row, in-row}
-use Rattle.bench_turns.specs.BallotTurns.{reportedBallot, wordIn, ballotAnswer}
-use Rattle.bench_turns.proofs.BallotLaws.{reportedOf, word-read, ballots-answered}
+use Rattle.bench_turns.specs.declared.BallotTurn.{BallotTurn}
+use Rattle.bench_turns.specs.BallotTurns.{reportedBallot, wordIn, ballotAnswer, ballotTurn}
+use Rattle.bench_turns.proofs.BallotLaws.{same-set, reportedOf, word-read, ballots-answered}
 use Rattle.bench_run.specs.Schedule.{eventsTo}
 use Rattle.bench_run.proofs.Asking.{same-ballot, ballot-seat}
 use Rattle.bench_run.proofs.Local.{benchWith, Asked, own-seat, replied, yes-to-all, steps, few}
@@ -80,11 +82,12 @@ unfolding acceptor
 read-acceptor bs i at h e = ap (acceptorAt bs) e ∙ sym (nth-at newAcceptor (bs .acceptors) i h)
 
 module _ (s out₀ : List ℕ) (all k : ℕ) (m : Shared) (bs : Ballots) (l : List Station) (out : List ℕ) (e : BallotEvent) (g : Reading s out₀ all k m bs l out (OfBallots e))
-    (i : ℕ) (subject : i ≡ ballotSubject e) (at : ℕ) (seat : PlaceOf i at) (b : ℕ) (number-is : b ≡ ballotNumber e) (p : ℕ) (slot : SlotOf b p)
-    (w : Outcome) (put-is : w ≡ (stationAt l at) .controller .proposal) (c : Condition) (d : c ≡ (stationAt l at) .controller .condition)
-    (q : ℕ) (a : q ≡ number (firstNo (ballotAsked m c w (acceptorAt bs at) (rowAt bs p) e))) where
+    (i : ℕ) (subject : i ≡ ballotSubject e) (at : ℕ) (seat : PlaceOf i at) (b : ℕ) (number-is : b ≡ ballotNumber e) (p : ℕ) (slot : SlotOf b p) where
   abbrev own : Station
   own = stationAt l at
+
+  abbrev q : ℕ
+  q = number (firstNo (ballotAsked m (own .controller .condition) (own .controller .proposal) (acceptorAt bs at) (rowAt bs p) e))
 
   seated : PlaceOf (ballotSubject e) at
   seated = (seat .0, λ h j. seat .1 (rw subject h) (rw subject j) ∙ ap (λ (x : ℕ). x - 1) subject)
@@ -106,12 +109,9 @@ module _ (s out₀ : List ℕ) (all k : ℕ) (m : Shared) (bs : Ballots) (l : Li
 
   ballot-asked : Asked m bs l (OfBallots e) own own at q
   ballot-asked = asked-of s out₀ all k m bs l out (OfBallots e) g at at q seated seated
-      (a
-      ∙ ap (λ (x : Condition). number (firstNo (ballotAsked m x w (acceptorAt bs at) (rowAt bs p) e))) d
-      ∙ ap (λ (x : Outcome). number (firstNo (ballotAsked m (own .controller .condition) x (acceptorAt bs at) (rowAt bs p) e))) put-is
-      ∙ ap number (same-ballot facts has-few e (acceptorAt bs at) (rowAt bs p) acceptor-read row-read))
+      (ap number (same-ballot facts has-few e (acceptorAt bs at) (rowAt bs p) acceptor-read row-read))
 
-  pub ballot-refused : (q ≡ 0 → ⊥) → Upto s out₀ all (k + 1) (benchWith m bs l) (set out k q)
+  ballot-refused : (q ≡ 0 → ⊥) → Upto s out₀ all (k + 1) (benchWith m bs l) (set out k q)
   ballot-refused = refused s out₀ all k m bs l out (OfBallots e) g at at q ballot-asked
 
   module _ (z : q ≡ 0) where
@@ -133,12 +133,12 @@ module _ (s out₀ : List ℕ) (all k : ℕ) (m : Shared) (bs : Ballots) (l : Li
     abbrev proposal : Outcome
     proposal = (controller (benchWith m bs l) (ballotSubject e)) .proposal
 
-    own-word : w ≡ proposal
-    own-word = put-is ∙ ap (λ (x : Station). x .controller .proposal) (own-seat _ _ _ _ _ _ _ _ ballot-asked low high)
+    own-word : own .controller .proposal ≡ proposal
+    own-word = ap (λ (x : Station). x .controller .proposal) (own-seat _ _ _ _ _ _ _ _ ballot-asked low high)
 
     -- with the answer of the controller, put where acceptor and row were read
-    pub ballot-accepted : (last : ℕ) → last ≡ reportedBallot e (rowAt bs p) → (o : ℕ) → ((o < ballotLimit) × (1 ≤ last → o ≡ last - 1)) → (v : Outcome) → v ≡ wordIn last (rowAt bs o)
-        → (x : BallotAnswer) → x ≡ ballotAnswer (m .n) (n % 256) e w (acceptorAt bs at) (rowAt bs p) v → (r : BallotRow) → r ≡ rowAfter (rowAt bs p) i x
+    ballot-accepted : (last : ℕ) → last ≡ reportedBallot e (rowAt bs p) → (o : ℕ) → ((o < ballotLimit) × (1 ≤ last → o ≡ last - 1)) → (v : Outcome) → v ≡ wordIn last (rowAt bs o)
+        → (x : BallotAnswer) → x ≡ ballotAnswer (m .n) (n % 256) e (own .controller .proposal) (acceptorAt bs at) (rowAt bs p) v → (r : BallotRow) → r ≡ rowAfter (rowAt bs p) i x
         → Upto s out₀ all (k + 1) (benchWith m (record { acceptors = set (bs .acceptors) at (x .acceptor); rows = set (bs .rows) p r }) l) (set out k q)
     ballot-accepted last e1 o e2 v e3 x e4 r e5 = let-through s out₀ all k (benchWith m bs l) out (g .upto) (g .more) (g .record-read) (g .piece-read) (OfBallots e) (g .event)
         (benchWith m (record { acceptors = set (bs .acceptors) at (x .acceptor); rows = set (bs .rows) p r }) l) q (played ∙ sym (steps _ _ _ _ _ _ _ _ ballot-asked z)) (replied _ _ _ _ _ _ _ _ ballot-asked)
@@ -160,7 +160,7 @@ module _ (s out₀ : List ℕ) (all k : ℕ) (m : Shared) (bs : Ballots) (l : Li
 
         x-is : x ≡ now
         x-is = e4
-            ∙ ap (λ (j : ℕ). ballotAnswer (m .n) j e w (acceptorAt bs at) (rowAt bs p) v) small
+            ∙ ap (λ (j : ℕ). ballotAnswer (m .n) j e (own .controller .proposal) (acceptorAt bs at) (rowAt bs p) v) small
             ∙ ap (λ (y : Outcome). ballotAnswer (m .n) n e y (acceptorAt bs at) (rowAt bs p) v) own-word
             ∙ ap (λ (y : Acceptor). ballotAnswer (m .n) n e proposal y (rowAt bs p) v) (acceptor-read low high)
             ∙ ap (λ (y : BallotRow). ballotAnswer (m .n) n e proposal (acceptor bs (ballotSubject e)) y v) row-is
@@ -177,3 +177,19 @@ module _ (s out₀ : List ℕ) (all k : ℕ) (m : Shared) (bs : Ballots) (l : Li
 
         played : benchWith m (record { acceptors = set (bs .acceptors) at (x .acceptor); rows = set (bs .rows) p r }) l ≡ perform (benchWith m bs l) (OfBallots e)
         played = unfold perform in ap (λ (y : Ballots). benchWith m y l) (placed ∙ ballots-answered (m .n) bs proposal e low (in-row n ranged .0))
+
+  -- asked and played by its turn: refused, acceptor and row are put back as they were read
+  pub ballot-played : (last : ℕ) → last ≡ reportedBallot e (rowAt bs p) → (o : ℕ) → ((o < ballotLimit) × (1 ≤ last → o ≡ last - 1)) → (v : Outcome) → v ≡ wordIn last (rowAt bs o)
+      → (t : BallotTurn) → t ≡ ballotTurn m own (acceptorAt bs at) (rowAt bs p) v e
+      → Upto s out₀ all (k + 1) (benchWith m (record { acceptors = set (bs .acceptors) at (t .acceptor); rows = set (bs .rows) p (t .row) }) l) (set out k (t .answer))
+  unfolding ballotTurn
+  ballot-played last e1 o e2 v e3 t w = subst Played (sym w) (by-cond Played (eqb q 0) _ _ (λ y. ballot-accepted (eqb-true q 0 y) last e1 o e2 v e3 _ refl _ (ap (λ (j : ℕ). rowAfter (rowAt bs p) j answer) (sym subject))) (λ n. put-back (eqb-false q 0 n)))
+    where
+      answer : BallotAnswer
+      answer = ballotAnswer (m .n) (ballotNumber e % 256) e (own .controller .proposal) (acceptorAt bs at) (rowAt bs p) v
+
+      Played : BallotTurn → Type 0
+      Played y = Upto s out₀ all (k + 1) (benchWith m (record { acceptors = set (bs .acceptors) at (y .acceptor); rows = set (bs .rows) p (y .row) }) l) (set out k (y .answer))
+
+      put-back : (q ≡ 0 → ⊥) → Upto s out₀ all (k + 1) (benchWith m (record { acceptors = set (bs .acceptors) at (acceptorAt bs at); rows = set (bs .rows) p (rowAt bs p) }) l) (set out k q)
+      put-back n = subst (λ (y : Ballots). Upto s out₀ all (k + 1) (benchWith m y l) (set out k q)) (λ i. record { acceptors = sym (same-set (bs .acceptors) at newAcceptor) i; rows = sym (same-set (bs .rows) p (newRow [])) i }) (ballot-refused n)

@@ -2,9 +2,7 @@
 use crate::RunResult;
 use ballot_rules::new_acceptor;
 use ballot_rules::new_row;
-use ballot_rules::row_after;
 use bench_state::all_undecided;
-use bench_state::ballot_question;
 use bench_state::cast_question;
 use bench_state::decide_question;
 use bench_state::deliver_question;
@@ -20,8 +18,8 @@ use bench_state::present_question;
 use bench_state::restore_question;
 use bench_state::timeout_question;
 use bench_summary::summary_of;
-use bench_turns::ballot_answer;
 use bench_turns::ballot_of;
+use bench_turns::ballot_turn;
 use bench_turns::cast_turn;
 use bench_turns::chosen_at;
 use bench_turns::condition_of;
@@ -31,7 +29,7 @@ use bench_turns::help_turn;
 use bench_turns::helped_turn;
 use bench_turns::is_saved;
 use bench_turns::outgoing;
-use bench_turns::proposal_of;
+use bench_turns::rebuilt;
 use bench_turns::renewed;
 use bench_turns::report_in;
 use bench_turns::restore_turn;
@@ -146,7 +144,8 @@ fn locked(m: Shared, n: u8, f: u8, own: bool) -> Shared
 }
 
 // Plays what stands from a place of the schedule on. The bench lies in this function's own variables: an event's questions are asked first, and one that
-// is accepted changes one station where it lies; an event of ballots one acceptor and one row. At a lock with an arbiter the ballots stay new.
+// is accepted changes one station where it lies. Of an event of ballots the turn asks too, and leaves the acceptor and the row as they are where it is refused.
+// At a lock with an arbiter the ballots stay new.
 fn run_from(s: &[u8], from: usize, answers: &mut [u8]) -> RunResult
     ensures { λ r. ⌜ RunAsDefined (drop from (now (s .entry))) (now (answers .entry)) r (now (answers .exit)) ⌝ }
 {
@@ -373,24 +372,18 @@ fn run_from(s: &[u8], from: usize, answers: &mut [u8]) -> RunResult
                 stations[at] = station;
             }
             Event::OfBallots { event } => {
-                let id = subject_of(event);
-                let at = seat(id);
-                let place = slot(ballot_of(event));
-                let word = proposal_of(stations[at]);
-                let a = acceptors[at];
-                let row = rows[place];
-                let answer = ballot_question(m, condition_of(stations[at]), word, a, row, event);
-                answers[k] = answer;
-                k += 1;
-                if answer != 0 {
-                    continue;
-                }
-                let last = report_in(event, row);
+                let e = rebuilt(event);
+                let at = seat(subject_of(e));
+                let place = slot(ballot_of(e));
+                let last = report_in(e, rows[place]);
                 let reported = word_in(last, rows[slot_reported(last)]);
-                let x = ballot_answer(m.n, event, word, a, row, reported);
-                let acceptor = x.acceptor;
+                let t = ballot_turn(m, stations[at], acceptors[at], rows[place], reported, e);
+                answers[k] = t.answer;
+                k += 1;
+                let acceptor = t.acceptor;
                 acceptors[at] = acceptor;
-                rows[place] = row_after(row, id, x);
+                let row = t.row;
+                rows[place] = row;
             }
         }
     }

@@ -1,10 +1,15 @@
 // What an event of ballots does, from the acceptor of the controller that it concerns and the row of its ballot (document 02, U14).
+use crate::BallotTurn;
+use crate::stations::condition_of;
+use crate::stations::proposal_of;
 use ballot_rules::accept_arrives;
 use ballot_rules::chosen_in;
 use ballot_rules::open_ballot;
 use ballot_rules::prepare_arrives;
 use ballot_rules::promise_arrives;
+use ballot_rules::row_after;
 use ballot_rules::unanswered;
+use bench_state::ballot_question;
 use ground::LIMIT;
 use model::BallotEvent;
 use model::BallotKind;
@@ -12,15 +17,17 @@ use model::Outcome;
 use protocol::Acceptor;
 use protocol::BallotAnswer;
 use protocol::BallotRow;
+use protocol::Shared;
+use protocol::Station;
 use protocol::Tally;
 ghost use Prim.Native.Nat.{_%_};
 ghost use mathlib.Core.Path.{_≡_};
 ghost use mathlib.Core.Bool.{_&&_};
 ghost use Rattle.ground.specs.Lists.{nth};
-ghost use Rattle.protocol.specs.Ballots.{isWord, majority};
+ghost use Rattle.protocol.specs.Ballots.{isWord, majority, report};
 ghost use Rattle.protocol.specs.BallotSteps.{ballotSubject};
 ghost use Rattle.bench_state.specs.BallotQuestions.{ballotNumber};
-ghost use Rattle.bench_turns.specs.BallotTurns.{reportedBallot, wordIn, carriedAnswer, ballotAnswer};
+ghost use Rattle.bench_turns.specs.BallotTurns.{reportedBallot, wordIn, carriedAnswer, ballotAnswer, ballotTurn};
 
 // The controller that it concerns.
 pub fn subject_of(e: BallotEvent) -> u8
@@ -55,16 +62,21 @@ fn report_at(lasts: [u8; LIMIT], j: u8) -> u8
     lasts[at]
 }
 
+// Which ballot j's promise reports.
+fn report_of(row: BallotRow, j: u8) -> u8
+    ensures { λ r. ⌜ r ≡ report row j ⌝ }
+{
+    let lasts = row.lasts;
+    report_at(lasts, j)
+}
+
 // Which ballot the sender's promise reports.
 pub fn report_in(e: BallotEvent, row: BallotRow) -> u8
     ensures { λ r. ⌜ r ≡ reportedBallot e row ⌝ }
 {
     match e {
         BallotEvent::Open { .. } => 0,
-        BallotEvent::Carry { from, .. } => {
-            let lasts = row.lasts;
-            report_at(lasts, from)
-        }
+        BallotEvent::Carry { from, .. } => report_of(row, from),
     }
 }
 
@@ -135,8 +147,7 @@ pub fn ballot_answer(
             ballot,
             ..
         } => {
-            let lasts = row.lasts;
-            let last = report_at(lasts, from);
+            let last = report_of(row, from);
             carried(
                 kind,
                 n,
@@ -149,5 +160,55 @@ pub fn ballot_answer(
                 row.tally,
             )
         }
+    }
+}
+
+// An event of ballots, asked and played: its answer, and what it leaves of the acceptor and of the row. A refused one leaves them as they are.
+pub fn ballot_turn(
+    m: Shared,
+    own: Station,
+    a: Acceptor,
+    row: BallotRow,
+    reported: Outcome,
+    e: BallotEvent,
+) -> BallotTurn
+    ensures { λ r. ⌜ r ≡ ballotTurn m own a row reported e ⌝ }
+{
+    let word = proposal_of(own);
+    let answer = ballot_question(m, condition_of(own), word, a, row, e);
+    if answer != 0 {
+        return BallotTurn {
+            answer,
+            acceptor: a,
+            row,
+        };
+    }
+    let x = ballot_answer(m.n, e, word, a, row, reported);
+    let acceptor = x.acceptor;
+    BallotTurn {
+        answer,
+        acceptor,
+        row: row_after(row, subject_of(e), x),
+    }
+}
+
+// The same event, from its fields. What the run looks at of an event of ballots goes through this: the fields of a record then stay apart where the compiler
+// joins the kinds of event, and the other kinds cost no more for it.
+pub fn rebuilt(e: BallotEvent) -> BallotEvent
+    ensures { λ r. ⌜ r ≡ e ⌝ }
+{
+    match e {
+        BallotEvent::Open { id, ballot } => BallotEvent::Open { id, ballot },
+        BallotEvent::Carry {
+            from,
+            to,
+            kind,
+            ballot,
+        } => BallotEvent::Carry {
+            from,
+            to,
+            kind,
+            ballot,
+        },
     }
 }

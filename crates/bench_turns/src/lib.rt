@@ -7,11 +7,15 @@ mod turns;
 
 pub use ballots::ballot_answer;
 pub use ballots::ballot_of;
+pub use ballots::ballot_turn;
 pub use ballots::chosen_at;
+pub use ballots::rebuilt;
 pub use ballots::report_in;
 pub use ballots::subject_of;
 pub use ballots::word_in;
 pub use effects::answering;
+use protocol::Acceptor;
+use protocol::BallotRow;
 pub use stations::condition_of;
 pub use stations::identity;
 pub use stations::is_saved;
@@ -29,3 +33,10 @@ pub use turns::second_turn;
 pub use turns::settled_turn;
 pub use turns::stop_turn;
 pub use turns::vote_turn;
+
+// What an event of ballots leaves: its answer, the acceptor of the controller that it concerns, and the row of its ballot.
+pub struct BallotTurn {
+    pub answer: u8,
+    pub acceptor: Acceptor,
+    pub row: BallotRow,
+}

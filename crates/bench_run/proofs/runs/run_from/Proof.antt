@@ -11,6 +11,7 @@ use lib.ListN.{length, drop, getD, set, replicate}
 use Rattle.ground.specs.Limit.{limit}
 use Rattle.ground.specs.Quantify.{anyTo}
 use Rattle.ground.specs.Firsts.{mapFirst, first-none, first-more, first-all}
+use Rattle.model.specs.declared.Event.the-variants.{OfBallots}
 use Rattle.event_record.specs.declared.ReadEvent.the-variants.{Read}
 use Rattle.protocol.specs.declared.Station.{Station}
 use Rattle.protocol.specs.Ballots.{ballotLimit, newAcceptor, newRow, chosenIn}
@@ -21,7 +22,7 @@ use Rattle.bench_run.specs.Runs.{endOf}
 use Rattle.bench_run.proofs.Local.{benchWith, all-stations, new-parts, new-ballots}
 use Rattle.bench_run.proofs.Records.{Upto, start, not-read, no-room, ended, read-from, place-within}
 use Rattle.bench_run.proofs.PlayLaws.{order-size, lock-refused, lock-accepted, order-refused, order-accepted, order-quiet, cast-refused, cast-accepted, delivery-refused, vote-accepted, ack-passed-over, ack-held, ack-put, help-accepted, helped-accepted, timeout-refused, first-laid, second-accepted, decide-refused, decide-accepted, stop-refused, stop-accepted, save-refused, save-accepted, restore-refused, restore-accepted}
-use Rattle.bench_run.proofs.BallotPlay.{none-chosen, more-chosen, may-give, ballot-refused, ballot-accepted}
+use Rattle.bench_run.proofs.BallotPlay.{none-chosen, more-chosen, may-give, ballot-played}
 use Rattle.bench_run.proofs.runs.run_from.Statement.{statement}
 use Rattle.bench_run.proofs.runs.run_from.Tie as tie
 
@@ -335,17 +336,17 @@ loop-again-9 c =
 enum-told-2 : tie.Need-enum-told-2 Inv-loop2 μ-loop2 Inv-loop3 μ-loop3 Inv-loop μ-loop
 enum-told-2 c = search needs
 
-mul-t147 : tie.Need-mul-t147 Inv-loop2 μ-loop2 Inv-loop3 μ-loop3 Inv-loop μ-loop
-mul-t147 c = search needs
+mul-t144 : tie.Need-mul-t144 Inv-loop2 μ-loop2 Inv-loop3 μ-loop3 Inv-loop μ-loop
+mul-t144 c = search needs
 
-element-copy-out-t150 : tie.Need-element-copy-out-t150 Inv-loop2 μ-loop2 Inv-loop3 μ-loop3 Inv-loop μ-loop
-element-copy-out-t150 c = search needs
+element-copy-out-t147 : tie.Need-element-copy-out-t147 Inv-loop2 μ-loop2 Inv-loop3 μ-loop3 Inv-loop μ-loop
+element-copy-out-t147 c = search needs
 
-mul-t151 : tie.Need-mul-t151 Inv-loop2 μ-loop2 Inv-loop3 μ-loop3 Inv-loop μ-loop
-mul-t151 c = search needs
+mul-t148 : tie.Need-mul-t148 Inv-loop2 μ-loop2 Inv-loop3 μ-loop3 Inv-loop μ-loop
+mul-t148 c = search needs
 
-element-copy-out-t154 : tie.Need-element-copy-out-t154 Inv-loop2 μ-loop2 Inv-loop3 μ-loop3 Inv-loop μ-loop
-element-copy-out-t154 c = search needs
+element-copy-out-t151 : tie.Need-element-copy-out-t151 Inv-loop2 μ-loop2 Inv-loop3 μ-loop3 Inv-loop μ-loop
+element-copy-out-t151 c = search needs
 
 mul-vote-turn : tie.Need-mul-vote-turn Inv-loop2 μ-loop2 Inv-loop3 μ-loop3 Inv-loop μ-loop
 mul-vote-turn c = search needs
@@ -415,17 +416,17 @@ mul-own c = search needs
 array-copy-out-own : tie.Need-array-copy-out-own Inv-loop2 μ-loop2 Inv-loop3 μ-loop3 Inv-loop μ-loop
 array-copy-out-own c = search needs
 
-mul-t161 : tie.Need-mul-t161 Inv-loop2 μ-loop2 Inv-loop3 μ-loop3 Inv-loop μ-loop
-mul-t161 c = search needs
+mul-t158 : tie.Need-mul-t158 Inv-loop2 μ-loop2 Inv-loop3 μ-loop3 Inv-loop μ-loop
+mul-t158 c = search needs
 
-element-copy-out-t175 : tie.Need-element-copy-out-t175 Inv-loop2 μ-loop2 Inv-loop3 μ-loop3 Inv-loop μ-loop
-element-copy-out-t175 c = search needs
+element-copy-out-t172 : tie.Need-element-copy-out-t172 Inv-loop2 μ-loop2 Inv-loop3 μ-loop3 Inv-loop μ-loop
+element-copy-out-t172 c = search needs
 
-mul-t176 : tie.Need-mul-t176 Inv-loop2 μ-loop2 Inv-loop3 μ-loop3 Inv-loop μ-loop
-mul-t176 c = search needs
+mul-t173 : tie.Need-mul-t173 Inv-loop2 μ-loop2 Inv-loop3 μ-loop3 Inv-loop μ-loop
+mul-t173 c = search needs
 
-element-copy-out-t179 : tie.Need-element-copy-out-t179 Inv-loop2 μ-loop2 Inv-loop3 μ-loop3 Inv-loop μ-loop
-element-copy-out-t179 c = search needs
+element-copy-out-t176 : tie.Need-element-copy-out-t176 Inv-loop2 μ-loop2 Inv-loop3 μ-loop3 Inv-loop μ-loop
+element-copy-out-t176 c = search needs
 
 mul-sets : tie.Need-mul-sets Inv-loop2 μ-loop2 Inv-loop3 μ-loop3 Inv-loop μ-loop
 mul-sets c = search needs
@@ -926,6 +927,9 @@ loop-again-26 c =
 enum-known-e-10 : tie.Need-enum-known-e-10 Inv-loop2 μ-loop2 Inv-loop3 μ-loop3 Inv-loop μ-loop
 enum-known-e-10 c = search needs
 
+rebuilt-requires : tie.Need-rebuilt-requires Inv-loop2 μ-loop2 Inv-loop3 μ-loop3 Inv-loop μ-loop
+rebuilt-requires c κs = search needs
+
 subject-of-requires : tie.Need-subject-of-requires Inv-loop2 μ-loop2 Inv-loop3 μ-loop3 Inv-loop μ-loop
 subject-of-requires c κs = search needs
 
@@ -938,53 +942,11 @@ ballot-of-requires c κs = search needs
 slot-requires : tie.Need-slot-requires Inv-loop2 μ-loop2 Inv-loop3 μ-loop3 Inv-loop μ-loop
 slot-requires c κs = search needs
 
-mul-proposal-of : tie.Need-mul-proposal-of Inv-loop2 μ-loop2 Inv-loop3 μ-loop3 Inv-loop μ-loop
-mul-proposal-of c = omega (arith, c .before .before .seat9 .ensures .0)
+mul-report-in : tie.Need-mul-report-in Inv-loop2 μ-loop2 Inv-loop3 μ-loop3 Inv-loop μ-loop
+mul-report-in c = omega (arith, c .slot .ensures .0)
 
-array-copy-out-proposal-of : tie.Need-array-copy-out-proposal-of Inv-loop2 μ-loop2 Inv-loop3 μ-loop3 Inv-loop μ-loop
-array-copy-out-proposal-of c = omega (arith, c .before .before .seat9 .ensures .0)
-
-proposal-of-requires : tie.Need-proposal-of-requires Inv-loop2 μ-loop2 Inv-loop3 μ-loop3 Inv-loop μ-loop
-proposal-of-requires c κs = search needs
-
-mul-a : tie.Need-mul-a Inv-loop2 μ-loop2 Inv-loop3 μ-loop3 Inv-loop μ-loop
-mul-a c = omega (arith, c .before .before .before .before .seat9 .ensures .0)
-
-array-copy-out-a : tie.Need-array-copy-out-a Inv-loop2 μ-loop2 Inv-loop3 μ-loop3 Inv-loop μ-loop
-array-copy-out-a c = omega (arith, c .before .before .before .before .seat9 .ensures .0)
-
-mul-row : tie.Need-mul-row Inv-loop2 μ-loop2 Inv-loop3 μ-loop3 Inv-loop μ-loop
-mul-row c = omega (arith, c .before .before .before .slot .ensures .0)
-
-array-copy-out-row : tie.Need-array-copy-out-row Inv-loop2 μ-loop2 Inv-loop3 μ-loop3 Inv-loop μ-loop
-array-copy-out-row c = omega (arith, c .before .before .before .slot .ensures .0)
-
-mul-condition-of-8 : tie.Need-mul-condition-of-8 Inv-loop2 μ-loop2 Inv-loop3 μ-loop3 Inv-loop μ-loop
-mul-condition-of-8 c = omega (arith, c .before .before .before .before .before .before .seat9 .ensures .0)
-
-array-copy-out-condition-of-8 : tie.Need-array-copy-out-condition-of-8 Inv-loop2 μ-loop2 Inv-loop3 μ-loop3 Inv-loop μ-loop
-array-copy-out-condition-of-8 c = omega (arith, c .before .before .before .before .before .before .seat9 .ensures .0)
-
-condition-of-requires-9 : tie.Need-condition-of-requires-9 Inv-loop2 μ-loop2 Inv-loop3 μ-loop3 Inv-loop μ-loop
-condition-of-requires-9 c κs = search needs
-
-ballot-question-requires : tie.Need-ballot-question-requires Inv-loop2 μ-loop2 Inv-loop3 μ-loop3 Inv-loop μ-loop
-ballot-question-requires c κs = search needs
-
-slice-write-answers-11 : tie.Need-slice-write-answers-11 Inv-loop2 μ-loop2 Inv-loop3 μ-loop3 Inv-loop μ-loop
-slice-write-answers-11 c = search needs
-
-add-k-11 : tie.Need-add-k-11 Inv-loop2 μ-loop2 Inv-loop3 μ-loop3 Inv-loop μ-loop
-add-k-11 c = search needs
-
-loop-less-27 : tie.Need-loop-less-27 Inv-loop2 μ-loop2 Inv-loop3 μ-loop3 Inv-loop μ-loop
-loop-less-27 c = omega (arith, c .before .before .before .before .before .before .before .before .before .before .before .before .before .before .before .before .before .before .before .loop-test .taken)
-
-loop-again-27 : tie.Need-loop-again-27 Inv-loop2 μ-loop2 Inv-loop3 μ-loop3 Inv-loop μ-loop
-unfolding freshStation fresh unsentAll newRow
-loop-again-27 c =
-    ballot-refused _ _ _ _ _ _ _ _ _ (record { upto = c .before .before .before .before .before .before .before .before .before .before .before .before .before .before .before .before .before .before .before .before .loop .inv; more = c .before .before .before .before .before .before .before .before .before .before .before .before .before .before .before .before .before .before .before .loop-test .taken; record-read = c .before .before .before .before .before .before .before .before .before .before .before .before .before .before .before .before .before .before .record-at .result; piece-read = read-from _ _ _ _ (c .before .before .before .before .before .before .before .before .before .before .before .before .before .before .before .before .before .before .record-at .ensures); event = c .before .before .before .before .before .before .before .before .before .before .before .before .before .before .before .before .r .given .1 ∙ ap Read (c .before .before .before .before .before .before .before .before .before .before .before .before .before .e10 .given .1) })
-    _ (c .before .before .before .before .before .before .before .before .before .before .before .subject-of .ensures) _ (c .before .before .before .before .before .before .before .before .before .before .seat9 .ensures) _ (c .before .before .before .before .before .before .before .before .before .ballot-of .ensures) _ (c .before .before .before .before .before .before .before .before .slot .ensures) _ (c .before .before .before .before .before .before .proposal-of .ensures) _ (c .before .before .condition-of9 .ensures) _ (c .before .ballot-question .ensures) (c .if15 .taken)
+array-copy-out-report-in : tie.Need-array-copy-out-report-in Inv-loop2 μ-loop2 Inv-loop3 μ-loop3 Inv-loop μ-loop
+array-copy-out-report-in c = omega (arith, c .slot .ensures .0)
 
 report-in-requires : tie.Need-report-in-requires Inv-loop2 μ-loop2 Inv-loop3 μ-loop3 Inv-loop μ-loop
 report-in-requires c κs = search needs
@@ -1001,32 +963,57 @@ array-copy-out-word-in c = omega (arith, c .slot-reported .ensures .0)
 word-in-requires : tie.Need-word-in-requires Inv-loop2 μ-loop2 Inv-loop3 μ-loop3 Inv-loop μ-loop
 word-in-requires c κs = search needs
 
-ballot-answer-requires : tie.Need-ballot-answer-requires Inv-loop2 μ-loop2 Inv-loop3 μ-loop3 Inv-loop μ-loop
-ballot-answer-requires c κs = search needs
+mul-ballot-turn : tie.Need-mul-ballot-turn Inv-loop2 μ-loop2 Inv-loop3 μ-loop3 Inv-loop μ-loop
+mul-ballot-turn c = omega (arith, c .before .before .before .before .before .before .before .seat9 .ensures .0)
+
+array-copy-out-ballot-turn : tie.Need-array-copy-out-ballot-turn Inv-loop2 μ-loop2 Inv-loop3 μ-loop3 Inv-loop μ-loop
+array-copy-out-ballot-turn c = omega (arith, c .before .before .before .before .before .before .before .seat9 .ensures .0)
+
+mul-ballot-turn-2 : tie.Need-mul-ballot-turn-2 Inv-loop2 μ-loop2 Inv-loop3 μ-loop3 Inv-loop μ-loop
+mul-ballot-turn-2 c = omega (arith, c .before .before .before .before .before .before .before .before .seat9 .ensures .0)
+
+array-copy-out-ballot-turn-2 : tie.Need-array-copy-out-ballot-turn-2 Inv-loop2 μ-loop2 Inv-loop3 μ-loop3 Inv-loop μ-loop
+array-copy-out-ballot-turn-2 c = omega (arith, c .before .before .before .before .before .before .before .before .seat9 .ensures .0)
+
+mul-ballot-turn-3 : tie.Need-mul-ballot-turn-3 Inv-loop2 μ-loop2 Inv-loop3 μ-loop3 Inv-loop μ-loop
+mul-ballot-turn-3 c = omega (arith, c .before .before .before .before .before .before .before .slot .ensures .0)
+
+array-copy-out-ballot-turn-3 : tie.Need-array-copy-out-ballot-turn-3 Inv-loop2 μ-loop2 Inv-loop3 μ-loop3 Inv-loop μ-loop
+array-copy-out-ballot-turn-3 c = omega (arith, c .before .before .before .before .before .before .before .slot .ensures .0)
+
+ballot-turn-requires : tie.Need-ballot-turn-requires Inv-loop2 μ-loop2 Inv-loop3 μ-loop3 Inv-loop μ-loop
+ballot-turn-requires c κs = search needs
+
+slice-write-answers-11 : tie.Need-slice-write-answers-11 Inv-loop2 μ-loop2 Inv-loop3 μ-loop3 Inv-loop μ-loop
+slice-write-answers-11 c = omega (arith, c .before .before .before .before .before .before .before .before .before .before .before .before .before .before .before .before .before .before .before .before .before .loop-test .taken, c .before .before .before .before .before .before .before .before .before .before .before .before .before .before .before .before .before .before .before .before .before .before .loop .inv .room, c .before .before .before .before .before .before .before .before .before .before .before .before .before .before .before .before .before .before .before .before .before .before .loop .inv .long)
+
+add-k-11 : tie.Need-add-k-11 Inv-loop2 μ-loop2 Inv-loop3 μ-loop3 Inv-loop μ-loop
+add-k-11 c =
+    let a = c .before .before .before .before .before .before .before .before .before .before .before .before .before .before .before .before .before .before .before .before .before .before .before .before .before .before .before .before .before .before .before in
+    let p = place-within (a .args .s .now) (a .args .from) (c .before .before .before .before .before .before .before .before .before .before .before .before .before .before .before .before .before .before .before .before .before .before .before .before .before .before .before .before .count-from .result) (c .before .before .before .before .before .before .before .before .before .before .before .before .before .before .before .before .before .before .before .before .before .before .loop .k) (c .before .before .before .before .before .before .before .before .before .before .before .before .before .before .before .before .before .before .before .before .before .before .loop .inv .whole) (c .before .before .before .before .before .before .before .before .before .before .before .before .before .before .before .before .before .before .before .before .before .loop-test .taken) in
+    omega (arith, p, a .good .0 .0)
 
 mul-acceptors : tie.Need-mul-acceptors Inv-loop2 μ-loop2 Inv-loop3 μ-loop3 Inv-loop μ-loop
-mul-acceptors c = omega (arith, c .before .before .before .before .before .before .before .before .before .before .before .before .before .before .before .before .seat9 .ensures .0)
+mul-acceptors c = omega (arith, c .before .before .before .before .before .before .before .before .before .before .before .before .seat9 .ensures .0)
 
 array-set-from-acceptors : tie.Need-array-set-from-acceptors Inv-loop2 μ-loop2 Inv-loop3 μ-loop3 Inv-loop μ-loop
-array-set-from-acceptors c = omega (arith, c .before .before .before .before .before .before .before .before .before .before .before .before .before .before .before .before .seat9 .ensures .0)
-
-row-after-requires : tie.Need-row-after-requires Inv-loop2 μ-loop2 Inv-loop3 μ-loop3 Inv-loop μ-loop
-row-after-requires c κs = search needs
+array-set-from-acceptors c = omega (arith, c .before .before .before .before .before .before .before .before .before .before .before .before .seat9 .ensures .0)
 
 mul-rows : tie.Need-mul-rows Inv-loop2 μ-loop2 Inv-loop3 μ-loop3 Inv-loop μ-loop
-mul-rows c = omega (arith, c .before .before .before .before .before .before .before .before .before .before .before .before .before .before .before .slot .ensures .0)
+mul-rows c = omega (arith, c .before .before .before .before .before .before .before .before .before .before .before .slot .ensures .0)
 
 array-set-from-rows : tie.Need-array-set-from-rows Inv-loop2 μ-loop2 Inv-loop3 μ-loop3 Inv-loop μ-loop
-array-set-from-rows c = omega (arith, c .before .before .before .before .before .before .before .before .before .before .before .before .before .before .before .slot .ensures .0)
+array-set-from-rows c = omega (arith, c .before .before .before .before .before .before .before .before .before .before .before .slot .ensures .0)
 
-loop-less-28 : tie.Need-loop-less-28 Inv-loop2 μ-loop2 Inv-loop3 μ-loop3 Inv-loop μ-loop
-loop-less-28 c = omega (arith, c .before .before .before .before .before .before .before .before .before .before .before .before .before .before .before .before .before .before .before .before .before .before .before .before .before .before .loop-test .taken)
+loop-less-27 : tie.Need-loop-less-27 Inv-loop2 μ-loop2 Inv-loop3 μ-loop3 Inv-loop μ-loop
+loop-less-27 c = omega (arith, c .before .before .before .before .before .before .before .before .before .before .before .before .before .before .before .before .before .before .before .before .before .before .before .loop-test .taken)
 
-loop-again-28 : tie.Need-loop-again-28 Inv-loop2 μ-loop2 Inv-loop3 μ-loop3 Inv-loop μ-loop
+loop-again-27 : tie.Need-loop-again-27 Inv-loop2 μ-loop2 Inv-loop3 μ-loop3 Inv-loop μ-loop
 unfolding freshStation fresh unsentAll newRow
-loop-again-28 c =
-    ballot-accepted _ _ _ _ _ _ _ _ _ (record { upto = c .before .before .before .before .before .before .before .before .before .before .before .before .before .before .before .before .before .before .before .before .before .before .before .before .before .before .before .loop .inv; more = c .before .before .before .before .before .before .before .before .before .before .before .before .before .before .before .before .before .before .before .before .before .before .before .before .before .before .loop-test .taken; record-read = c .before .before .before .before .before .before .before .before .before .before .before .before .before .before .before .before .before .before .before .before .before .before .before .before .before .record-at .result; piece-read = read-from _ _ _ _ (c .before .before .before .before .before .before .before .before .before .before .before .before .before .before .before .before .before .before .before .before .before .before .before .before .before .record-at .ensures); event = c .before .before .before .before .before .before .before .before .before .before .before .before .before .before .before .before .before .before .before .before .before .before .before .r .given .1 ∙ ap Read (c .before .before .before .before .before .before .before .before .before .before .before .before .before .before .before .before .before .before .before .before .e10 .given .1) })
-    _ (c .before .before .before .before .before .before .before .before .before .before .before .before .before .before .before .before .before .before .subject-of .ensures) _ (c .before .before .before .before .before .before .before .before .before .before .before .before .before .before .before .before .before .seat9 .ensures) _ (c .before .before .before .before .before .before .before .before .before .before .before .before .before .before .before .before .ballot-of .ensures) _ (c .before .before .before .before .before .before .before .before .before .before .before .before .before .before .before .slot .ensures) _ (c .before .before .before .before .before .before .before .before .before .before .before .before .before .proposal-of .ensures) _ (c .before .before .before .before .before .before .before .before .before .condition-of9 .ensures) _ (c .before .before .before .before .before .before .before .before .ballot-question .ensures) (c .before .before .before .before .before .before .before .if15 .left) _ (c .before .before .before .before .before .before .report-in .ensures) _ (c .before .before .before .before .before .slot-reported .ensures) _ (c .before .before .before .word-in .ensures) _ (c .before .before .ballot-answer .ensures) _ (c .row-after .ensures)
+loop-again-27 c =
+    ballot-played _ _ _ _ _ _ _ _ _ (record { upto = c .before .before .before .before .before .before .before .before .before .before .before .before .before .before .before .before .before .before .before .before .before .before .before .before .loop .inv; more = c .before .before .before .before .before .before .before .before .before .before .before .before .before .before .before .before .before .before .before .before .before .before .before .loop-test .taken; record-read = c .before .before .before .before .before .before .before .before .before .before .before .before .before .before .before .before .before .before .before .before .before .before .record-at .result; piece-read = read-from _ _ _ _ (c .before .before .before .before .before .before .before .before .before .before .before .before .before .before .before .before .before .before .before .before .before .before .record-at .ensures); event = c .before .before .before .before .before .before .before .before .before .before .before .before .before .before .before .before .before .before .before .before .r .given .1 ∙ ap Read (c .before .before .before .before .before .before .before .before .before .before .before .before .before .before .before .before .before .e10 .given .1 ∙ ap OfBallots (sym (c .before .before .before .before .before .before .before .before .before .before .before .before .before .before .before .rebuilt .ensures))) })
+    _ (c .before .before .before .before .before .before .before .before .before .before .before .before .before .before .subject-of .ensures) _ (c .before .before .before .before .before .before .before .before .before .before .before .before .before .seat9 .ensures) _ (c .before .before .before .before .before .before .before .before .before .before .before .before .ballot-of .ensures) _ (c .before .before .before .before .before .before .before .before .before .before .before .slot .ensures)
+    _ (c .before .before .before .before .before .before .before .before .before .report-in .ensures) _ (c .before .before .before .before .before .before .before .before .slot-reported .ensures) _ (c .before .before .before .before .before .before .word-in .ensures) _ (c .before .before .ballot-turn .ensures)
 
 ended-requires-2 : tie.Need-ended-requires-2 Inv-loop2 μ-loop2 Inv-loop3 μ-loop3 Inv-loop μ-loop
 ended-requires-2 c κs = search needs
@@ -1133,10 +1120,10 @@ run-from-spec =
     loop-less-9
     loop-again-9
     enum-told-2
-    mul-t147
-    element-copy-out-t150
-    mul-t151
-    element-copy-out-t154
+    mul-t144
+    element-copy-out-t147
+    mul-t148
+    element-copy-out-t151
     mul-vote-turn
     array-copy-out-vote-turn
     vote-turn-requires
@@ -1157,10 +1144,10 @@ run-from-spec =
     loop-again-11
     mul-own
     array-copy-out-own
-    mul-t161
-    element-copy-out-t175
-    mul-t176
-    element-copy-out-t179
+    mul-t158
+    element-copy-out-t172
+    mul-t173
+    element-copy-out-t176
     mul-sets
     array-set-from-sets
     insert-requires
@@ -1307,38 +1294,33 @@ run-from-spec =
     loop-less-26
     loop-again-26
     enum-known-e-10
+    rebuilt-requires
     subject-of-requires
     seat-requires-9
     ballot-of-requires
     slot-requires
-    mul-proposal-of
-    array-copy-out-proposal-of
-    proposal-of-requires
-    mul-a
-    array-copy-out-a
-    mul-row
-    array-copy-out-row
-    mul-condition-of-8
-    array-copy-out-condition-of-8
-    condition-of-requires-9
-    ballot-question-requires
-    slice-write-answers-11
-    add-k-11
-    loop-less-27
-    loop-again-27
+    mul-report-in
+    array-copy-out-report-in
     report-in-requires
     slot-reported-requires
     mul-word-in
     array-copy-out-word-in
     word-in-requires
-    ballot-answer-requires
+    mul-ballot-turn
+    array-copy-out-ballot-turn
+    mul-ballot-turn-2
+    array-copy-out-ballot-turn-2
+    mul-ballot-turn-3
+    array-copy-out-ballot-turn-3
+    ballot-turn-requires
+    slice-write-answers-11
+    add-k-11
     mul-acceptors
     array-set-from-acceptors
-    row-after-requires
     mul-rows
     array-set-from-rows
-    loop-less-28
-    loop-again-28
+    loop-less-27
+    loop-again-27
     ended-requires-2
     same-length
     returns-2)

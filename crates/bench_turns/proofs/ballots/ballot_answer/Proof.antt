@@ -16,8 +16,8 @@ open-ballot-requires c κs = search needs
 enum-known-e-2 : tie.Need-enum-known-e-2
 enum-known-e-2 c = search needs
 
-report-at-requires : tie.Need-report-at-requires
-report-at-requires c κs = search needs
+report-of-requires : tie.Need-report-of-requires
+report-of-requires c κs = search needs
 
 cast-carried : tie.Need-cast-carried
 cast-carried c = search needs
@@ -31,7 +31,7 @@ returns c = simp (c .before .before .e .given .1, c .open-ballot .ensures)
 
 returns-2 : tie.Need-returns-2
 unfolding ballotAnswer
-returns-2 c = simp (c .before .before .before .before .e2 .given .1, c .before .report-at .ensures, c .carried .ensures)
+returns-2 c = simp (c .before .before .before .e2 .given .1, c .before .report-of .ensures, c .carried .ensures)
 
 pub ballot-answer-spec : {M : Type 1} → statement M
 ballot-answer-spec =
@@ -41,7 +41,7 @@ ballot-answer-spec =
     cast-open-ballot
     open-ballot-requires
     enum-known-e-2
-    report-at-requires
+    report-of-requires
     cast-carried
     carried-requires
     returns

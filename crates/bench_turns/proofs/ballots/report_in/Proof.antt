@@ -9,14 +9,14 @@ enum-told c = search needs
 enum-known-e : tie.Need-enum-known-e
 enum-known-e c = search needs
 
-report-at-requires : tie.Need-report-at-requires
-report-at-requires c κs = search needs
+report-of-requires : tie.Need-report-of-requires
+report-of-requires c κs = search needs
 
 returns : tie.Need-returns
 returns c = search needs
 
 returns-2 : tie.Need-returns-2
-returns-2 c = simp (c .before .before .before .e .given .1, c .report-at .ensures)
+returns-2 c = simp (c .before .before .e .given .1, c .report-of .ensures)
 
 pub report-in-spec : {M : Type 1} → statement M
-report-in-spec = tie.close (tie.spec enum-told enum-known-e report-at-requires returns returns-2)
+report-in-spec = tie.close (tie.spec enum-told enum-known-e report-of-requires returns returns-2)
