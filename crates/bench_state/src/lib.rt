@@ -13,7 +13,6 @@ pub use parts::bench_of;
 pub use parts::fresh_station;
 pub use parts::new_bench;
 pub use parts::new_shared;
-pub use parts::unsent_all;
 pub use shared::decided_as;
 pub use shared::may_open;
 pub use shared::open_gates;

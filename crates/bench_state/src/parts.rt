@@ -1,14 +1,13 @@
 // The parts of a bench, as they begin.
 use ballot_rules::new_ballots;
 use controller_state::fresh;
+use controller_state::unsent_all;
 use ground::LIMIT;
 use model::Outcome;
 use protocol::Bench;
 use protocol::Consensus;
 use protocol::Counts;
-use protocol::Outgoing;
 use protocol::Saved;
-use protocol::Sent;
 use protocol::Shared;
 use protocol::Station;
 use votes::empty_set;
@@ -16,23 +15,7 @@ ghost use mathlib.Core.Path.{_≡_};
 ghost use lib.ListN.{replicate};
 ghost use Rattle.ground.specs.Limit.{limit};
 ghost use Rattle.votes.specs.VoteSets.{empty};
-ghost use Rattle.protocol.specs.Benches.{unsentAll, freshStation, noConsensus, allUndecided, benchOf, newBench};
-
-// Nothing sent yet.
-pub fn unsent_all() -> Sent
-    ensures { λ r. ⌜ r ≡ unsentAll ⌝ }
-{
-    let unsent = Outgoing {
-        to: 0,
-        votes: empty_set(),
-    };
-    Sent {
-        vote: unsent,
-        ack: unsent,
-        help: unsent,
-        helped: unsent,
-    }
-}
+ghost use Rattle.protocol.specs.Benches.{freshStation, noConsensus, allUndecided, benchOf, newBench};
 
 pub fn fresh_station() -> Station
     ensures { λ r. ⌜ r ≡ freshStation (replicate limit empty) ⌝ }

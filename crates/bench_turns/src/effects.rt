@@ -1,7 +1,7 @@
 // What a controller's answer leaves of its station, and of what is shared.
-use crate::sends::sent_after;
 use bench_state::counts_after;
 use bench_state::proposed_to;
+use controller_state::sent_after;
 use protocol::Answer;
 use protocol::Effect;
 use protocol::Shared;

@@ -1,7 +1,6 @@
 // What an accepted event leaves of the station of the controller that it concerns: a turn. The step by value and the run go by these.
 mod ballots;
 mod effects;
-mod sends;
 mod stations;
 mod turns;
 

@@ -25,7 +25,7 @@ ghost use Rattle.protocol.specs.Benches.{fresh};
 ghost use Rattle.protocol.specs.Controllers.{blank, cleared, advance, learn, aim, freeze, await, propose, conclude};
 
 // A controller of this condition that holds nothing. What stands in its list of acknowledgements no longer counts.
-fn blank(condition: Condition, sets: [VoteSet; LIMIT], position: u32) -> Controller
+pub fn blank(condition: Condition, sets: [VoteSet; LIMIT], position: u32) -> Controller
     ensures { λ r. ⌜ r ≡ blank condition sets position ⌝ }
 {
     Controller {

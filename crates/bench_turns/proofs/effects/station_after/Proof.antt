@@ -5,7 +5,7 @@ use Rattle.bench_turns.proofs.effects.station_after.Statement.{statemen
 use Rattle.bench_turns.proofs.effects.station_after.Tie as tie
 use Rattle.bench_turns.proofs.effects.station_after.Reads as reads
 use Rattle.bench_turns.proofs.effects.station_after.Lts as lts
-use Rattle.bench_turns.proofs.sends.sent_after.Reads as sent-after-reads
+use Rattle.controller_state.proofs.sent_after.Reads as sent-after-reads
 
 -- src/effects.rt:16:9
 sent-after-requires : tie.Need-sent-after-requires

@@ -5,7 +5,7 @@ use Rattle.bench_turns.proofs.turns.renewed.Statement.{statement}
 use Rattle.bench_turns.proofs.turns.renewed.Tie as tie
 use Rattle.bench_turns.proofs.turns.renewed.Reads as reads
 use Rattle.bench_turns.proofs.turns.renewed.Lts as lts
-use Rattle.bench_state.proofs.unsent_all.Reads as unsent-all-reads
+use Rattle.controller_state.proofs.unsent_all.Reads as unsent-all-reads
 use Rattle.controller.proofs.renew.Reads as renew-reads
 
 -- src/turns.rt:155:21

@@ -1,7 +1,7 @@
 use Rattle.protocol.specs.Benches.{unsentAll}
 use borrow.Author.Needs.{needs}
-use Rattle.bench_state.proofs.parts.unsent_all.Statement.{statement}
-use Rattle.bench_state.proofs.parts.unsent_all.Tie as tie
+use Rattle.controller_state.proofs.sends.unsent_all.Statement.{statement}
+use Rattle.controller_state.proofs.sends.unsent_all.Tie as tie
 
 empty-set-requires : tie.Need-empty-set-requires
 empty-set-requires c κs = search needs

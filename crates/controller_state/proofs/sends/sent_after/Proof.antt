@@ -1,11 +1,11 @@
 use Rattle.protocol.specs.Benches.{sentAfter}
 use borrow.Author.Tests.{le-leb, lt-leb, lt-ltb, le-ltb, eq-eqb, ne-eqb}
 use borrow.Author.Needs.{needs}
-use Rattle.bench_turns.proofs.sends.sent_after.Statement.{statement}
-use Rattle.bench_turns.proofs.sends.sent_after.Tie as tie
-use Rattle.bench_turns.proofs.sends.sent_after.Reads as reads
-use Rattle.bench_turns.proofs.sends.sent_after.Lts as lts
-use Rattle.bench_turns.proofs.sends.after_send.Reads as after-send-reads
+use Rattle.controller_state.proofs.sends.sent_after.Statement.{statement}
+use Rattle.controller_state.proofs.sends.sent_after.Tie as tie
+use Rattle.controller_state.proofs.sends.sent_after.Reads as reads
+use Rattle.controller_state.proofs.sends.sent_after.Lts as lts
+use Rattle.controller_state.proofs.sends.after_send.Reads as after-send-reads
 
 -- src/sends.rt:29:15
 after-send-requires : tie.Need-after-send-requires

@@ -1,9 +1,9 @@
 use borrow.Author.Tests.{le-leb, lt-leb, lt-ltb, le-ltb, eq-eqb, ne-eqb}
 use borrow.Author.Needs.{needs}
-use Rattle.bench_turns.proofs.sends.after_send.Statement.{statement}
-use Rattle.bench_turns.proofs.sends.after_send.Tie as tie
-use Rattle.bench_turns.proofs.sends.after_send.Reads as reads
-use Rattle.bench_turns.proofs.sends.after_send.Lts as lts
+use Rattle.controller_state.proofs.sends.after_send.Statement.{statement}
+use Rattle.controller_state.proofs.sends.after_send.Tie as tie
+use Rattle.controller_state.proofs.sends.after_send.Reads as reads
+use Rattle.controller_state.proofs.sends.after_send.Lts as lts
 
 -- src/sends.rt:13:26
 enum-told : tie.Need-enum-told
