@@ -1,0 +1,5 @@
+mod Filling
+mod Heads
+mod Leaving
+mod OneWord
+mod ReadBack
