@@ -26,7 +26,8 @@ fn others(n: u8, i: u8) -> u32
     remove(up_to(n), i)
 }
 
-fn ballot_to(
+// A message of ballot b to one of the others.
+pub fn ballot_to(
     me: Identity,
     kind: BallotKind,
     b: u8,
@@ -50,14 +51,15 @@ fn ballot_to(
     }
 }
 
-fn count_others(me: Identity) -> u8
+// How many others there are.
+pub fn count_others(me: Identity) -> u8
     ensures { λ r. ⌜ r ≡ length (members (me .n) (others (me .n) (me .id))) ⌝ }
 {
     size(others(me.n, me.id), me.n)
 }
 
 // The message to all others that has k before it.
-fn nth_to_others(me: Identity, kind: BallotKind, b: u8, word: Outcome, k: u8) -> ToSendBallot
+pub fn nth_to_others(me: Identity, kind: BallotKind, b: u8, word: Outcome, k: u8) -> ToSendBallot
     ensures { λ r. ⌜ r ≡ nthBallotOf (ballotToOthers me kind b word) k ⌝ }
 {
     if count_others(me) <= k {

@@ -23,6 +23,7 @@ use protocol::Controller;
 use protocol::Identity;
 use protocol::Tally;
 ghost use mathlib.Core.Path.{_≡_};
+ghost use mathlib.Core.Bool.{_&&_};
 ghost use Rattle.protocol.specs.BallotCalls.{takesPart, mayOpenAlone, openCall, ballotAddressed, ofOwner, ballotArrives, ballotComes, receiveBallot};
 
 // A running controller of a lock that settles the word by ballots, in an order.
@@ -40,7 +41,7 @@ fn takes_part(me: Identity, own: bool, c: Controller) -> bool
 }
 
 // Is the ballot its own, not opened before and not below its highest promise?
-fn may_open(me: Identity, b: u8, a: Acceptor, t: Tally) -> bool
+pub fn may_open(me: Identity, b: u8, a: Acceptor, t: Tally) -> bool
     ensures { λ r. ⌜ r ≡ mayOpenAlone me b a t ⌝ }
 {
     if !is_ballot(b as u32) {
@@ -142,6 +143,16 @@ fn comes(me: Identity, m: BallotMessage, t: Tally) -> bool
     of_owner(kind, me.n, m.ballot, m.from, me.id, t)
 }
 
+// Is a message of a ballot meant for one that takes part, and may it come so?
+pub fn takes_ballot(me: Identity, own: bool, m: BallotMessage, c: Controller, t: Tally) -> bool
+    ensures { λ r. ⌜ r ≡ (takesPart me own c && ballotComes me m t) ⌝ }
+{
+    if !takes_part(me, own, c) {
+        return false;
+    }
+    comes(me, m, t)
+}
+
 // A message of a ballot arrives. `own`: does its lock settle the word by ballots.
 pub fn receive_ballot(
     me: Identity,
@@ -153,10 +164,7 @@ pub fn receive_ballot(
 ) -> BallotAnswer
     ensures { λ r. ⌜ r ≡ receiveBallot me own m c a t ⌝ }
 {
-    if !takes_part(me, own, c) {
-        return unanswered(a, t);
-    }
-    if !comes(me, m, t) {
+    if !takes_ballot(me, own, m, c, t) {
         return unanswered(a, t);
     }
     let kind = m.kind;

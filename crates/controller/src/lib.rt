@@ -6,9 +6,14 @@ mod calls;
 mod lifecycle;
 mod sequence;
 
+pub use ballot_sequence::ballot_to;
+pub use ballot_sequence::count_others;
 pub use ballot_sequence::nth_ballot_message;
+pub use ballot_sequence::nth_to_others;
+pub use ballots::may_open;
 pub use ballots::open;
 pub use ballots::receive_ballot;
+pub use ballots::takes_ballot;
 pub use calls::receive;
 pub use calls::timeout;
 pub use calls::vote;
