@@ -1,4 +1,3 @@
-mod Filling
 mod Heads
 mod Leaving
 mod OneWord

@@ -26,7 +26,7 @@ use Rattle.cabinet_state.specs.Tables.{tabulate, allBelow}
 use Rattle.cabinet_state.specs.Words.{markWord, stateWords, checkPlace, headWords, knownPlace, willingPlace, word, headFrom, headOf, ballotsFrom, ballotsOf, columnIn, columnOf, checkTo, checkOf, withCheck, wordsOf, cabinetOf, identityIn, conditionFrom, conditionIn, setsIn, acksIn, helpedIn, helpIn, controllerIn, sentIn, acceptorIn, reportIn, tallyIn, ballotsIn, tagOf}
 use Rattle.cabinet_state.specs.States.{sameWords, writtenForm, stateRefusal}
 use Rattle.cabinet_state.specs.Encoding.{InWords, InBytes, Encoding}
-use Rattle.cabinet_state.proofs.Filling.{at-tabulate, length-tabulate, all-at}
+use Rattle.cabinet_state.specs.FillLaws.{at-tabulate, length-tabulate, all-at}
 use Rattle.cabinet_state.proofs.OneWord.{same-check, one-apart}
 
 -- every word of a cabinet, from its place

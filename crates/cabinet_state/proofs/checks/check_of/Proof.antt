@@ -3,7 +3,7 @@ use mathlib.Core.Path.{_≡_, refl, sym, ap, subst, _∙_}
 use native.Mathlib.Omega.{arith}
 use borrow.Author.Needs.{needs}
 use Rattle.cabinet_state.specs.Words.{checkPlace, checkTo, columnIn}
-use Rattle.cabinet_state.proofs.Filling.{check-next}
+use Rattle.cabinet_state.specs.FillLaws.{check-next}
 use Rattle.cabinet_state.proofs.checks.check_of.Statement.{statement}
 use Rattle.cabinet_state.proofs.checks.check_of.Tie as tie
 use Rattle.cabinet_state.proofs.checks.check_of.Reads as reads

@@ -4,7 +4,7 @@ use native.Mathlib.Omega.{arith}
 use borrow.Author.Needs.{needs}
 use Rattle.ground.specs.Limit.{limit}
 use Rattle.cabinet_state.specs.Words.{word, knownPlace, willingPlace, setsIn}
-use Rattle.cabinet_state.proofs.Filling.{Filled, none-filled, one-filled, all-filled}
+use Rattle.cabinet_state.specs.FillLaws.{Filled, none-filled, one-filled, all-filled}
 use Rattle.cabinet_state.proofs.reading.sets_in.Statement.{statement}
 use Rattle.cabinet_state.proofs.reading.sets_in.Tie as tie
 use Rattle.cabinet_state.proofs.reading.sets_in.Reads as reads

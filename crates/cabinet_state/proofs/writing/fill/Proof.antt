@@ -3,7 +3,7 @@ use mathlib.Core.Path.{refl, sym, _∙_}
 use native.Mathlib.Omega.{arith}
 use borrow.Author.Needs.{needs}
 use Rattle.cabinet_state.specs.Words.{stateWords, columnIn, withCheck}
-use Rattle.cabinet_state.proofs.Filling.{Filled, none-filled, one-filled, all-filled}
+use Rattle.cabinet_state.specs.FillLaws.{Filled, none-filled, one-filled, all-filled}
 use Rattle.cabinet_state.proofs.writing.fill.Statement.{statement}
 use Rattle.cabinet_state.proofs.writing.fill.Tie as tie
 use Rattle.cabinet_state.proofs.writing.fill.Reads as reads

@@ -8,7 +8,7 @@ use borrow.Author.Tests.{eq-eqb, ne-eqb}
 use Rattle.cabinet_state.specs.Tables.{allBelow}
 use Rattle.cabinet_state.specs.Words.{stateWords, word, columnIn, withCheck}
 use Rattle.cabinet_state.specs.States.{sameWords}
-use Rattle.cabinet_state.proofs.Filling.{all-next, not-all}
+use Rattle.cabinet_state.specs.FillLaws.{all-next, not-all}
 use Rattle.cabinet_state.proofs.writing.same_words.Statement.{statement}
 use Rattle.cabinet_state.proofs.writing.same_words.Tie as tie
 use Rattle.cabinet_state.proofs.writing.same_words.Reads as reads
