@@ -29,7 +29,7 @@ enum { WAIT_MS = 10, AGAIN_MS = 5, LATE_MS = 15, ORDER_MS = 3000 };
 enum { LOCK, ORDER, VOTE, DELIVER, BELL, WORD, STOP, SAVE, RESTORE, OPEN = 10 };
 
 /* one accepted event of a cabinet, as its file has it */
-struct record { uint64_t at; uint32_t order, position; uint8_t event[10], outcome; };
+struct record { uint64_t at; uint32_t order, position; uint8_t event[10], outcome, unused[5]; };
 
 /* what the processes count together */
 struct counts { long sent, lost, repeated, late, refused; };
@@ -145,7 +145,7 @@ static void look(struct cabinet *c) {
 static void note(struct cabinet *c, uint8_t kind, uint8_t a, uint8_t b, uint8_t e, uint32_t v) {
     look(c);
     struct record r = { now_ns(), c->shown[CABINET_ORDER], c->shown[CABINET_POSITION], { 0x4C, 0x45, kind, a, b, e, (uint8_t)(v >> 24), (uint8_t)(v >> 16), (uint8_t)(v >> 8), (uint8_t)v },
-        (uint8_t)c->shown[CABINET_OUTCOME] };
+        (uint8_t)c->shown[CABINET_OUTCOME], { 0 } };
     if (write(c->file, &r, sizeof r) != sizeof r) fail("record");
 }
 
@@ -359,7 +359,7 @@ static void stopped(unsigned id, uint32_t order) {
     if (!out) fail(path);
     fprintf(out, "C %u 8 - %d\n", id, (int32_t)last.position);
     fclose(out);
-    struct record r = { now_ns(), order, last.position, { 0x4C, 0x45, STOP, (uint8_t)id }, 0 };
+    struct record r = { now_ns(), order, last.position, { 0x4C, 0x45, STOP, (uint8_t)id }, 0, { 0 } };
     path_of(path, "record", id);
     int file = open(path, O_WRONLY | O_APPEND);
     if (file < 0 || write(file, &r, sizeof r) != sizeof r) fail(path);

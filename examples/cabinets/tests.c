@@ -1,0 +1,143 @@
+/* Every single turned bit of a state is refused by every call, a state of another length or version too, and what is refused stays as it was; and how much stack the
+ * calls take. The states are those of a lock of 3 and of 32 through an order, with and without an arbiter. */
+#define _GNU_SOURCE
+#include "cabinet.h"
+#include <stdio.h>
+#include <stdlib.h>
+#include <string.h>
+#include <ucontext.h>
+
+static long refusals, states;
+
+static void check(int right, const char *what) {
+    if (!right) { fprintf(stderr, "cabinet tests: FAILED: %s\n", what); exit(1); }
+}
+
+/* every call, on a state that each must refuse with one of the two numbers */
+static void all_refuse(uint32_t *s, size_t words, uint8_t a, uint8_t b) {
+    uint32_t before[CABINET_WORDS + 1], shown[CABINET_SHOWN], kept[CABINET_SHOWN];
+    uint8_t card[CABINET_CARD], t[CABINET_TELEGRAM], same[CABINET_TELEGRAM], r[12];
+    memcpy(before, s, words * sizeof *s);
+    memset(card, 0xA5, sizeof card); memset(t, 0xA5, sizeof t); memset(same, 0xA5, sizeof same); memset(shown, 0xA5, sizeof shown); memset(kept, 0xA5, sizeof kept);
+    r[0] = cabinet_order(s, words, 4000000000u);
+    r[1] = cabinet_vote(s, words, 1, 0);
+    r[2] = cabinet_receive(s, words, t, 16);
+    r[3] = cabinet_timeout(s, words);
+    r[4] = cabinet_decide(s, words, 1);
+    r[5] = cabinet_stop(s, words);
+    r[6] = cabinet_save(s, words, card, sizeof card);
+    r[7] = cabinet_wake(s, words, card, sizeof card);
+    r[8] = cabinet_open(s, words, 1);
+    r[9] = cabinet_telegram(s, words, 0, t, 16);
+    r[10] = cabinet_show(s, words, shown, CABINET_SHOWN);
+    check(cabinet_telegram_length(s, words, 0) == 0, "a length of a refused state");
+    for (int k = 0; k < 11; k++) { check(r[k] == a || r[k] == b, "a damaged state is taken"); refusals++; }
+    check(memcmp(before, s, words * sizeof *s) == 0, "a refused state was changed");
+    check(memcmp(t, same, sizeof t) == 0 && memcmp(card, same, sizeof card) == 0 && memcmp(shown, kept, sizeof shown) == 0, "a buffer was changed");
+}
+
+static void turn_every_bit(const uint32_t *state) {
+    uint32_t s[CABINET_WORDS + 1];
+    memcpy(s, state, CABINET_WORDS * sizeof *s);
+    s[CABINET_WORDS] = 0;
+    states++;
+    for (int w = 0; w < CABINET_WORDS; w++)
+        for (int b = 0; b < 32; b++) {
+            s[w] ^= (uint32_t)1 << b;
+            all_refuse(s, CABINET_WORDS, 2, 3);
+            s[w] ^= (uint32_t)1 << b;
+        }
+    all_refuse(s, CABINET_WORDS - 1, 1, 1);
+    all_refuse(s, CABINET_WORDS + 1, 1, 1);
+    all_refuse(s, 0, 1, 1);
+}
+
+/* what one has sent comes to the others */
+static void deliver(uint32_t lock[][CABINET_WORDS], unsigned n, unsigned from) {
+    uint8_t t[CABINET_TELEGRAM], length;
+    for (unsigned k = 0; (length = cabinet_telegram_length(lock[from], CABINET_WORDS, (uint8_t)k)) != 0; k++) {
+        check(cabinet_telegram(lock[from], CABINET_WORDS, (uint8_t)k, t, length) == 0, "a telegram");
+        check(t[6] >= 1 && t[6] <= n && cabinet_receive(lock[t[6]], CABINET_WORDS, t, length) == 0, "a telegram is received");
+    }
+}
+
+static void order(unsigned n, unsigned f, unsigned own) {
+    static uint32_t lock[33][CABINET_WORDS];
+    uint32_t d[CABINET_SHOWN];
+    for (unsigned i = 1; i <= n; i++) {
+        check(cabinet_begin(lock[i], CABINET_WORDS, (uint8_t)n, (uint8_t)f, (uint8_t)i, (uint8_t)own, 0) == 0, "begin");
+        check(cabinet_order(lock[i], CABINET_WORDS, 7) == 0 && cabinet_vote(lock[i], CABINET_WORDS, i != 2, 100) == 0, "vote");
+    }
+    turn_every_bit(lock[1]);
+    for (int bell = 1; bell <= 2; bell++) /* no telegram comes before the bells: all put a word */
+        for (unsigned i = 1; i <= n; i++) {
+            cabinet_show(lock[i], CABINET_WORDS, d, CABINET_SHOWN);
+            if (d[CABINET_STAGE] == (unsigned)bell) check(cabinet_timeout(lock[i], CABINET_WORDS) == 0, "timeout");
+        }
+    for (int round = 0; round < 3; round++) for (unsigned i = 1; i <= n; i++) deliver(lock, n, i);
+    if (own) {
+        check(cabinet_open(lock[1], CABINET_WORDS, 1) == 0, "open");
+        for (int round = 0; round < 3; round++) for (unsigned i = 1; i <= n; i++) deliver(lock, n, i);
+        cabinet_show(lock[1], CABINET_WORDS, d, CABINET_SHOWN);
+        check(d[CABINET_SETTLED] == 1, "a ballot settles Stay");
+    }
+    turn_every_bit(lock[1]);
+    turn_every_bit(lock[n]);
+    for (unsigned i = 1; i <= n; i++) {
+        cabinet_decide(lock[i], CABINET_WORDS, 0);
+        cabinet_show(lock[i], CABINET_WORDS, d, CABINET_SHOWN);
+        check(d[CABINET_OUTCOME] == 1, "the outcome");
+    }
+    turn_every_bit(lock[n]);
+}
+
+/* how deep each call goes, by a painted stack */
+static ucontext_t here, there;
+static uint32_t state[CABINET_WORDS], display[CABINET_SHOWN];
+static uint8_t card[CABINET_CARD], ack[20] = { 0x4C, 0x4C, 2, 32, 5, 2, 1, 0, 0, 0, 0, 5, 0xFF, 0xFF, 0xFF, 0xFF, 0xFF, 0xFF, 0xFF, 0xFF }, out[20];
+static int which;
+
+static void call(void) {
+    switch (which) {
+    case 0: cabinet_begin(state, CABINET_WORDS, 32, 5, 1, 0, 0); break;
+    case 1: cabinet_order(state, CABINET_WORDS, 5); break;
+    case 2: cabinet_vote(state, CABINET_WORDS, 1, 7); break;
+    case 3: cabinet_receive(state, CABINET_WORDS, ack, sizeof ack); break;
+    case 4: cabinet_timeout(state, CABINET_WORDS); break;
+    case 5: cabinet_telegram(state, CABINET_WORDS, 0, out, sizeof out); break;
+    case 6: cabinet_timeout(state, CABINET_WORDS); break;
+    case 7: cabinet_show(state, CABINET_WORDS, display, CABINET_SHOWN); break;
+    case 8: cabinet_save(state, CABINET_WORDS, card, sizeof card); break;
+    case 9: cabinet_wake(state, CABINET_WORDS, card, sizeof card); break;
+    case 10: cabinet_open(state, CABINET_WORDS, 1); break;
+    case 11: cabinet_stop(state, CABINET_WORDS); break;
+    }
+}
+
+static int deepest(void) {
+    enum { ROOM = 1 << 17 };
+    unsigned char *stack = malloc(ROOM);
+    static int most;
+    for (which = 0; which < 12; which++) {
+        memset(stack, 0xA5, ROOM);
+        getcontext(&there);
+        there.uc_stack.ss_sp = stack;
+        there.uc_stack.ss_size = ROOM;
+        there.uc_link = &here;
+        makecontext(&there, call, 0);
+        swapcontext(&here, &there);
+        int k = 0;
+        while (stack[k] == 0xA5) k++;
+        if (ROOM - k > most) most = ROOM - k;
+    }
+    free(stack);
+    return most;
+}
+
+int main(void) {
+    for (unsigned own = 0; own < 2; own++) { order(3, 1, own); order(32, 5, own); }
+    int stack = deepest();
+    check(stack < 65536, "a call takes less than 64 KB of stack");
+    printf("cabinet tests: %ld states, each of their %d bits turned: %ld refusals, nothing changed; at most %d bytes of stack a call\n", states, CABINET_WORDS * 32, refusals, stack);
+    return 0;
+}
