@@ -361,7 +361,7 @@ static void stopped(unsigned id, uint32_t order) {
     fclose(out);
     struct record r = { now_ns(), order, last.position, { 0x4C, 0x45, STOP, (uint8_t)id }, 0, { 0 } };
     path_of(path, "record", id);
-    int file = open(path, O_WRONLY | O_APPEND);
+    int file = open(path, O_WRONLY | O_CREAT | O_APPEND, 0600);
     if (file < 0 || write(file, &r, sizeof r) != sizeof r) fail(path);
     close(file);
 }
