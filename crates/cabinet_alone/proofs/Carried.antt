@@ -5,7 +5,7 @@ use mathlib.Core.Bool.{Bool, true, false, cond}
 use mathlib.Core.List.{List, [], _∷_, _++_}
 use lib.Dec.{eqb}
 use Rattle.ground.specs.Quantify.{countTo}
-use Rattle.votes.specs.VoteSets.{knows, union}
+use Rattle.votes.specs.VoteSets.{knows}
 use Rattle.votes.specs.declared.Joined.the-variants.{Agreed}
 use Rattle.model.specs.declared.Checkpoint.{Checkpoint}
 use Rattle.model.specs.declared.Telegram.{Telegram}
@@ -20,7 +20,7 @@ use Rattle.protocol.specs.declared.Condition.{Condition}
 use Rattle.protocol.specs.declared.Condition.the-variants.{Running, Stopped, Standby}
 use Rattle.protocol.specs.declared.Controller.{Controller}
 use Rattle.protocol.specs.Controllers.{phase, hasAck, hasHelped, cleared}
-use Rattle.protocol.specs.Rules.{becomes, passedOver, ackJoin, helpVotes}
+use Rattle.protocol.specs.Rules.{becomes, passedOver, ackJoin}
 use Rattle.protocol.specs.Benches.{fresh}
 use Rattle.protocol.specs.NoContradiction.{Agreeing, acksUnion}
 use Rattle.protocol.specs.Calls.{vote, receive, timeout, decide, stop, restore, renew}
@@ -29,7 +29,8 @@ use Rattle.cabinet_state.specs.declared.Cabinet.{Cabinet}
 use Rattle.cabinet_turns.specs.Turns.{answered, begun, ordered, voted, timedOut, decided, halted, laterOrder, wokenBy, woken}
 use Rattle.cabinet_turns.specs.Ballots.{withBallots, openedBy, opened, answeredIn, receivedBallot, receivedTelegram, received}
 use Rattle.cabinet_alone.specs.Acts.{Act, Ordering, Voting, Receiving, TimingOut, Deciding, Stopping, Waking, Opening, numberOf, nextOf, after, afterAll, callsOf, allCalls}
-use Rattle.cabinet_alone.specs.CabinetAlone.{who, inside, CabinetAlone}
+use Rattle.cabinet_alone.specs.CabinetAlone.{who, inside, bare, CabinetAlone}
+use Rattle.cabinet_alone.proofs.Gates.{gates-alone}
 
 -- what a controller alone has of a cabinet
 abbrev view : Cabinet → AloneCabinet
@@ -109,23 +110,33 @@ module _ (start : Identity) where
   all [] s e = refl
   all (a ∷ acts) s e = goes (eqb (numberOf a s) 0) acts s (nextOf a s) (callsOf a s) e (kept a s e) (step a s e) (λ x h. all acts x h)
 
-as-alone : (n f id own : ℕ) (acts : List Act) → inside n f id own acts ≡ alone (who n f id) (allCalls acts (begun n f id own 0))
+as-alone : (n f id own p : ℕ) (acts : List Act) → bare (inside n f id own p acts) ≡ bare (alone (who n f id) (allCalls acts (begun n f id own p)))
 unfolding begun fresh
-as-alone n f id own acts = ap (λ (x : AloneCabinet). x .controller) (all (who n f id) acts (begun n f id own 0) refl)
+as-alone n f id own p acts =
+    ap (λ (x : AloneCabinet). bare (x .controller)) (all (who n f id) acts (begun n f id own p) refl)
+    ∙ gates-alone (who n f id) (allCalls acts (begun n f id own p)) 0 _ _ refl
+
+to-bare : (c : Controller) → Agreeing c → Agreeing (bare c)
+to-bare c x = record { own-answers = x .own-answers; own-ack = x .own-ack; answers-ack = x .answers-ack; acks = x .acks }
+
+of-bare : (c : Controller) → Agreeing (bare c) → Agreeing c
+of-bare c x = record { own-answers = x .own-answers; own-ack = x .own-ack; answers-ack = x .answers-ack; acks = x .acks }
 
 module _ (x : ControllerAlone) where
-  over : (P : Controller → Type 0) (n f id own : ℕ) (acts : List Act) → ((ks : List Call) → P (alone (who n f id) ks)) → P (inside n f id own acts)
-  over P n f id own acts h = subst P (sym (as-alone n f id own acts)) (h (allCalls acts (begun n f id own 0)))
+  -- what is said of a controller but for its gate
+  over : (P : Controller → Type 0) (n f id own p : ℕ) (acts : List Act) → ((ks : List Call) → P (bare (alone (who n f id) ks))) → P (bare (inside n f id own p acts))
+  over P n f id own p acts h = subst P (sym (as-alone n f id own p acts)) (h (allCalls acts (begun n f id own p)))
 
   pub carried : CabinetAlone
+  unfolding ackJoin
   carried = record {
     as-alone = as-alone;
-    held = λ n f id own acts. over Agreeing n f id own acts (x .held (who n f id));
-    acks-joined = λ n f id own acts. over (λ c. ackJoin n c ≡ Agreed (acksUnion n c)) n f id own acts (x .acks-joined (who n f id));
-    help-votes = λ n f id own acts. over (λ c. helpVotes n c ≡ union (acksUnion n c) (c .votes)) n f id own acts (x .help-votes (who n f id));
-    unvoted = λ n f id own acts. over (λ c. phase c ≡ 0 → knows (c .votes) id ≡ false) n f id own acts (x .unvoted (who n f id));
-    ack-count = λ n f id own acts. over (λ c. c .acks .cnt .0 ≡ countTo n (hasAck c)) n f id own acts (x .ack-count (who n f id));
-    answer-count = λ n f id own acts. over (λ c. c .helped .«cnt_help» .0 ≡ countTo n (hasHelped c)) n f id own acts (x .answer-count (who n f id));
-    ack-senders = λ n f id own acts. over (λ c. (j : ℕ) → hasAck c j ≡ true → (1 ≤ j) × (j ≤ n)) n f id own acts (x .ack-senders (who n f id));
-    answer-senders = λ n f id own acts. over (λ c. (j : ℕ) → hasHelped c j ≡ true → (1 ≤ j) × (j ≤ n)) n f id own acts (x .answer-senders (who n f id));
+    held = λ n f id own p acts. of-bare (inside n f id own p acts) (over Agreeing n f id own p acts (λ ks. to-bare (alone (who n f id) ks) (x .held (who n f id) ks)));
+    acks-joined = λ n f id own p acts. let ks = allCalls acts (begun n f id own p) in
+        subst (λ c. ackJoin n c ≡ Agreed (acksUnion n (alone (who n f id) ks))) (sym (as-alone n f id own p acts)) (x .acks-joined (who n f id) ks);
+    unvoted = λ n f id own p acts. over (λ c. phase c ≡ 0 → knows (c .votes) id ≡ false) n f id own p acts (x .unvoted (who n f id));
+    ack-count = λ n f id own p acts. over (λ c. c .acks .cnt .0 ≡ countTo n (hasAck c)) n f id own p acts (x .ack-count (who n f id));
+    answer-count = λ n f id own p acts. over (λ c. c .helped .«cnt_help» .0 ≡ countTo n (hasHelped c)) n f id own p acts (x .answer-count (who n f id));
+    ack-senders = λ n f id own p acts. over (λ c. (j : ℕ) → hasAck c j ≡ true → (1 ≤ j) × (j ≤ n)) n f id own p acts (x .ack-senders (who n f id));
+    answer-senders = λ n f id own p acts. over (λ c. (j : ℕ) → hasHelped c j ≡ true → (1 ≤ j) × (j ≤ n)) n f id own p acts (x .answer-senders (who n f id));
   }
