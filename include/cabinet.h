@@ -28,9 +28,9 @@
  * What to send again: all of cabinet_telegram, every few waits, until the display shows an outcome, and for some time after: others may still need them. Each of them
  * is what was sent before, byte for byte, and a repeated one changes nothing where it comes in.
  *
- * The word put (CABINET_PUT) goes to the arbiter, whose answer comes in by cabinet_decide. At a lock without arbiter (own = 1) a cabinet that has put a word opens
- * a ballot: the least number above CABINET_HIGHEST that is 1 + its own number's place, b with (b - 1) % n + 1 == number. When the display shows a settled word
- * (CABINET_SETTLED), this cabinet decides by it and tells the others, which decide by it too.
+ * The word put (CABINET_PUT) goes to the arbiter, whose answer comes in by cabinet_decide. At a lock without arbiter (own = 1) a cabinet that has put a word and has
+ * no outcome opens a ballot of its own: the least b above CABINET_HIGHEST with (b - 1) % n + 1 == number, at most 255; after a while, at random, another. When the
+ * display shows a settled word (CABINET_SETTLED), this cabinet decides by it and tells the others, which decide by it too.
  *
  * A cabinet that was ended and comes back: begin, then wake with its card. It stands by in the card's order (stage 9), sends nothing and moves nothing, and runs in
  * the next. Without cabinet_wake it would run in an order in which it may have voted before: so write the card after cabinet_order, before anything is sent, and
