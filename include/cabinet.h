@@ -4,7 +4,8 @@
  * Every call answers 0, or the number of the first question that was answered "no" (docs/QUESTIONS.md; CABINET_OTHER_CARD is this library's own). What is refused
  * changes nothing: neither the state nor a lent buffer. Questions 1 to 3 are first asked of the state: is it CABINET_WORDS long, does it begin with the mark and
  * this version, and is every word as the library wrote it. Any change of one word, a turned bit among them, is refused with 2 or 3. A telegram that is passed
- * over (of another order, n or f, for another controller, at a wrong stage) is answered 0 and changes nothing.
+ * over (of another order, n or f, for another controller, at a wrong stage, or where the controller is stopped or stands by) is answered 0 and changes nothing. A call
+ * takes less than 8 KB of stack.
  *
  * Buffers: a pointer and a length. They stay the caller's; nothing is kept of them after the call. No two buffers of one call may overlap, and a length must be
  * that of the memory behind its pointer. Pointers are never null, also where the length is 0.
@@ -20,12 +21,13 @@
  *     for (k = 0; (len = cabinet_telegram_length(s, CABINET_WORDS, k)) != 0; k++)  // all that it has sent in this order: now, and again until the outcome
  *         if (cabinet_telegram(s, CABINET_WORDS, k, t, len) == 0) send_to(t[6], t, len);
  *     cabinet_receive(s, CABINET_WORDS, in, length);                               // whenever a telegram comes
- *     if (waited(d[CABINET_STAGE])) cabinet_timeout(s, CABINET_WORDS);             // once at stage 1 and once at stage 2, after cabinet_show
+ *     cabinet_show(s, CABINET_WORDS, d, CABINET_SHOWN);                            // for the display, and to know when to ring
+ *     if (waited(d[CABINET_STAGE])) cabinet_timeout(s, CABINET_WORDS);             // once at stage 1 and once at stage 2
  *
  * When to ring: controllers 1 to f + 1 go from stage 0 to stage 1 at their vote, those above to stage 2. So go by the stage: a wait begins when the stage becomes
  * 1 or 2 and ends with one cabinet_timeout. A wait should be as long as a telegram takes when nothing is late; too short costs telegrams, never agreement.
  *
- * What to send again: all of cabinet_telegram, every few waits, until the display shows an outcome, and for some time after: others may still need them. Each of them
+ * What to send again: all of cabinet_telegram (of ballots the last promise, the last acceptance and the last own ballot), every few waits, until the display shows an outcome, and for some time after: others may still need them. Each of them
  * is what was sent before, byte for byte, and a repeated one changes nothing where it comes in.
  *
  * The word put (CABINET_PUT) goes to the arbiter, whose answer comes in by cabinet_decide. At a lock without arbiter (own = 1) a cabinet that has put a word and has

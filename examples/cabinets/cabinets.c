@@ -24,7 +24,8 @@
 #include <unistd.h>
 
 enum { MOST = 32, ARBITER = 0, QUEUE = 4096, RECORDS = 200000 };
-enum { WAIT_MS = 10, AGAIN_MS = 5, LATE_MS = 15, ORDER_MS = 3000 };
+/* an order is left open after ORDER_MS, or after LONE_MS where nothing is sent twice: long on a slow machine, since else all end */
+enum { WAIT_MS = 10, AGAIN_MS = 5, LATE_MS = 15, ORDER_MS = 20000, LONE_MS = 1500 };
 /* kinds of events, as the bench has them */
 enum { LOCK, ORDER, VOTE, DELIVER, BELL, WORD, STOP, SAVE, RESTORE, OPEN = 10 };
 
@@ -389,8 +390,8 @@ int main(int argc, char **argv) {
     unsigned killed = 0, back = 0, open_left = 0, ended_orders = 0;
     uint64_t began = now_ns();
     for (uint32_t order = 1; order <= orders; order++) {
-        uint8_t word = 0, in[64], done[MOST + 1] = { 0 };
-        uint64_t call_at = 0, from = now_ns(), until = from + ms(ORDER_MS);
+        uint8_t word = 0, outcome = 0, in[64], done[MOST + 1] = { 0 };
+        uint64_t call_at = 0, from = now_ns(), until = from + ms(again ? ORDER_MS : LONE_MS);
         uint64_t kill_at = kills > killed ? from + ms(draw(60)) : until + 1, back_at = until + 1;
         unsigned victim = 0;
         for (;;) {
@@ -416,7 +417,11 @@ int main(int argc, char **argv) {
             carry_late(ARBITER);
             ssize_t length = next(ARBITER, in, sizeof in, 1);
             if (length != 7 || order_in(in) != order) continue;
-            if (in[0] == 'D') done[in[6]] = 1;
+            if (in[0] == 'D') {
+                done[in[6]] = 1;
+                if (in[5] && outcome && in[5] != outcome) { fprintf(stderr, "order %u: two outcomes\n", order); return 9; }
+                if (in[5]) outcome = in[5];
+            }
             if (in[0] == 'P') { if (!word) word = in[5]; if (word) tell(ARBITER, in[6], 'W', order, word); }
         }
         if (open_left) break;

@@ -18,7 +18,7 @@ for seed in $(seq "$first" "$last"); do
     kills=$((seed % (most + 1)))
     rm -rf "$work/run"; mkdir "$work/run"
     status=0
-    timeout 60 "$root/target/cabinets" "$seed" "$work/run" "$n" "$f" "$own" 3 "$loss" "$kills" "$again" > "$work/counts" || status=$?
+    timeout 90 "$root/target/cabinets" "$seed" "$work/run" "$n" "$f" "$own" 3 "$loss" "$kills" "$again" > "$work/counts" || status=$?
     [ "$status" = 0 ] || { [ "$status" = 3 ] && [ "$again" = 0 ]; } || stop "seed $seed (n $n, f $f, own $own, loss $loss, kills $kills): status $status, $(cat "$work/counts")"
     "$root/target/bin/program_bench" < "$work/run/schedule" > "$work/played"
     if awk '!/^[CT]/ && $2 != 0 { bad = 1 } END { exit !bad }' "$work/played"; then stop "seed $seed: the bench refuses $(awk '!/^[CT]/ && $2 != 0' "$work/played" | head -n 1)"; fi
@@ -30,5 +30,10 @@ for seed in $(seq "$first" "$last"); do
     ! grep -q ' M ' "$work/run/lines" || moves=$((moves + 1))
     ! grep -q ' S ' "$work/run/lines" || stays=$((stays + 1))
 done
+# what a batch is for has come to pass
+if [ $((last - first)) -ge 49 ]; then
+    for count in "$killed" "$back" "$lost" "$repeated" "$late" "$moves" "$stays"; do [ "$count" -gt 0 ] || stop "nothing was killed, lost, repeated or late, or no gate moved or stayed"; done
+    [ "$again" = 1 ] || [ "$last" -lt $((first + 149)) ] || [ "$with_open" -gt 0 ] || stop "nothing was sent twice, and none was left open"
+fi
 printf 'cabinets: %d runs, %d orders ended, %d Move and %d Stay at the end; %d left open in %d runs; %d killed, %d came back; of %d datagrams %d lost, %d repeated, %d late; every recording accepted by the bench, with the same C lines\n' \
     "$((last - first + 1))" "$orders" "$moves" "$stays" "$open" "$with_open" "$killed" "$back" "$sent" "$lost" "$repeated" "$late"

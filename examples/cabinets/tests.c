@@ -1,5 +1,5 @@
-/* Every single turned bit of a state is refused by every call, a state of another length or version too, and what is refused stays as it was; and how much stack the
- * calls take. The states are those of a lock of 3 and of 32 through an order, with and without an arbiter. */
+/* Every single turned bit of a state is refused by every call, a state of another length or version too, and what is refused stays as it was; the numbers of calls that
+ * fail a question of their own; and how much stack the calls take. The states are those of a lock of 3 and of 32 through an order, with and without an arbiter. */
 #define _GNU_SOURCE
 #include "cabinet.h"
 #include <stdio.h>
@@ -91,6 +91,46 @@ static void order(unsigned n, unsigned f, unsigned own) {
     turn_every_bit(lock[n]);
 }
 
+/* the questions of the calls' own arguments: a refused call leaves the state as it was */
+static void refused(uint8_t answer, uint8_t number, const uint32_t *s, const uint32_t *before, const char *what) {
+    check(answer == number, what);
+    check(memcmp(s, before, CABINET_WORDS * sizeof *s) == 0, "a refused call changed the state");
+}
+
+static void own_questions(void) {
+    uint32_t s[CABINET_WORDS], b[CABINET_WORDS], d[CABINET_SHOWN + 1];
+    uint8_t c[CABINET_CARD + 1], t[CABINET_TELEGRAM + 1];
+    memset(s, 0x5A, sizeof s);
+    memcpy(b, s, sizeof s);
+    refused(cabinet_begin(s, CABINET_WORDS - 1, 3, 1, 1, 0, 0), 1, s, b, "begin, 1");
+    refused(cabinet_begin(s, CABINET_WORDS, 3, 1, 1, 2, 0), 3, s, b, "begin, 3");
+    refused(cabinet_begin(s, CABINET_WORDS, 33, 1, 1, 0, 0), 4, s, b, "begin, 4 of n");
+    refused(cabinet_begin(s, CABINET_WORDS, 3, 3, 1, 0, 0), 4, s, b, "begin, 4 of f");
+    refused(cabinet_begin(s, CABINET_WORDS, 3, 1, 4, 0, 0), 7, s, b, "begin, 7");
+    refused(cabinet_begin(s, CABINET_WORDS, 3, 1, 0, 0, 0), 7, s, b, "begin, 7 of 0");
+    refused(cabinet_begin(s, CABINET_WORDS, 3, 1, 1, 0, 0x7FFFFFFF), 11, s, b, "begin, 11");
+    check(cabinet_begin(s, CABINET_WORDS, 3, 1, 1, 0, 0) == 0, "begin");
+    memcpy(b, s, sizeof s);
+    refused(cabinet_vote(s, CABINET_WORDS, 1, 0), 14, s, b, "vote, 14");
+    refused(cabinet_timeout(s, CABINET_WORDS), 14, s, b, "timeout, 14");
+    refused(cabinet_order(s, CABINET_WORDS, 0), 8, s, b, "order, 8");
+    check(cabinet_order(s, CABINET_WORDS, 5) == 0, "order");
+    memcpy(b, s, sizeof s);
+    refused(cabinet_order(s, CABINET_WORDS, 5), 12, s, b, "order, 12");
+    refused(cabinet_order(s, CABINET_WORDS, 6), 13, s, b, "order, 13");
+    refused(cabinet_vote(s, CABINET_WORDS, 2, 0), 3, s, b, "vote, 3");
+    refused(cabinet_vote(s, CABINET_WORDS, 1, 0x7FFFFFFF), 11, s, b, "vote, 11");
+    refused(cabinet_decide(s, CABINET_WORDS, 2), 3, s, b, "decide, 3");
+    refused(cabinet_decide(s, CABINET_WORDS, 1), 16, s, b, "decide, 16");
+    refused(cabinet_timeout(s, CABINET_WORDS), 16, s, b, "timeout, 16");
+    refused(cabinet_open(s, CABINET_WORDS, 2), 28, s, b, "open, 28");
+    refused(cabinet_open(s, CABINET_WORDS, 1), 29, s, b, "open, 29");
+    refused(cabinet_save(s, CABINET_WORDS, c, CABINET_CARD + 1), 1, s, b, "save, 1");
+    refused(cabinet_show(s, CABINET_WORDS, d, CABINET_SHOWN + 1), 1, s, b, "show, 1");
+    refused(cabinet_telegram(s, CABINET_WORDS, 0, t, 16), 17, s, b, "telegram, 17");
+    refused(cabinet_receive(s, CABINET_WORDS, t, CABINET_TELEGRAM + 1), 1, s, b, "receive, 1");
+}
+
 /* how deep each call goes, by a painted stack */
 static ucontext_t here, there;
 static uint32_t state[CABINET_WORDS], display[CABINET_SHOWN];
@@ -136,8 +176,9 @@ static int deepest(void) {
 
 int main(void) {
     for (unsigned own = 0; own < 2; own++) { order(3, 1, own); order(32, 5, own); }
+    own_questions();
     int stack = deepest();
-    check(stack < 65536, "a call takes less than 64 KB of stack");
+    check(stack < 8192, "a call takes less than 8 KB of stack");
     printf("cabinet tests: %ld states, each of their %d bits turned: %ld refusals, nothing changed; at most %d bytes of stack a call\n", states, CABINET_WORDS * 32, refusals, stack);
     return 0;
 }

@@ -1,6 +1,5 @@
 //! Compares the cabinet library's calls with the reference, on drawn sequences of calls: compare_cabinet SEQUENCES SEED. A sequence is a whole lock, each controller
-//! once as a cabinet and once as the reference has it, side by side. After each call the number, the display, the card and the telegrams sent are alike; every
-//! so often a bit of a state is turned, and each call refuses it.
+//! once as a cabinet and once as the reference has it, side by side. After each call the number, the display, the card and the telegrams sent are alike.
 
 #[allow(dead_code)]
 #[path = "../../include/cabinet.rs"]

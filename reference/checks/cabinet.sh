@@ -1,5 +1,5 @@
 # The cabinet library from C and from Rust: its calls beside the reference on 100,000 sequences, every turned bit of a state, and 50 runs of cabinets as processes over UDP on
-# the loopback address, whose recordings the bench accepts with the same C lines; the same seeds with nothing sent twice disagree nowhere. `make` links the archive.
+# the loopback address, whose recordings the bench accepts with the same C lines; the first twenty seeds with nothing sent twice disagree nowhere. `make` links the archive.
 (cd "$root" && make examples) > "$work/cabinet.log" 2>&1 || { tail -n 5 "$work/cabinet.log"; stop "the cabinet library or its examples do not build"; }
 "$root/target/cabinet_from_rust" > "$work/cabinet_rust.out" || stop "the cabinet library gives something else to Rust"
 say "$(cat "$work/cabinet_rust.out")"
@@ -7,5 +7,5 @@ say "$(cat "$work/cabinet_rust.out")"
 rustc --edition 2021 -O -D warnings -L native="$root/target/staticlib" --extern reference="$ref/libreference.rlib" -o "$work/compare_cabinet" "$here/calls/compare_cabinet.rs" || stop "reference/calls/compare_cabinet.rs does not build"
 "$work/compare_cabinet" 100000 17 > "$work/cabinet.out" || { cat "$work/cabinet.out"; stop "a cabinet's calls and the reference differ"; }
 sed 's/^/compare: cabinets: /' "$work/cabinet.out"
-timeout 300 "$root/examples/cabinets/runs.sh" 1 50 || stop "cabinets as processes"
+timeout 600 "$root/examples/cabinets/runs.sh" 1 50 || stop "cabinets as processes"
 timeout 300 "$root/examples/cabinets/runs.sh" 1 20 0 || stop "cabinets as processes, nothing sent twice"
