@@ -12,6 +12,7 @@ use crate::questions::{
 use crate::records::event::Event;
 use crate::records::message::MessageKind;
 use crate::vote_set::Verdict;
+use crate::session::Session;
 use lock::Lock;
 
 /// "a new bench, without lock, order, telegrams, words or cards"
@@ -20,11 +21,17 @@ pub struct Bench {
     lock: Option<Lock>,
 }
 
-/// "The records follow one another with nothing between them." Each gets its answer.
+/// "The records follow one another with nothing between them." Each gets its answer. A schedule without steps back needs no
+/// memory.
 pub fn run(schedule: &[u8]) -> (Vec<u8>, Bench) {
+    let records = || schedule.chunks(Event::LENGTH);
+    if records().any(|record| Event::read(record) == Ok(Event::StepBack)) {
+        let mut session = Session::default();
+        let answers = records().map(|record| session.step_record(record)).collect();
+        return (answers, session.into_bench());
+    }
     let mut bench = Bench::default();
-    let records = schedule.chunks(Event::LENGTH);
-    let answers = records.map(|record| bench.step_record(record)).collect();
+    let answers = records().map(|record| bench.step_record(record)).collect();
     (answers, bench)
 }
 
@@ -71,6 +78,7 @@ impl Bench {
                 ballot,
             } => self.deliver_ballot(from, to, kind, ballot),
             Event::OpenBallot { id, ballot } => self.open_ballot(id, ballot),
+            Event::StepBack => self.step_back(),
         })
     }
 
@@ -224,6 +232,12 @@ impl Bench {
         let answer = lock.controller_mut(to).receive_ballot(&message);
         lock.note(to, answer);
         Ok(())
+    }
+
+    /// A bench alone remembers nothing: 26, "nothing to undo; after question 5". What remembers is a session.
+    fn step_back(&mut self) -> Result<(), u8> {
+        self.locked()?;
+        Err(26)
     }
 
     /// 5. "Is a lock set up? (every event but lock)"

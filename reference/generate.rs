@@ -14,6 +14,7 @@ pub mod ranges;
 pub mod reports;
 pub mod schedules;
 pub mod sheets;
+pub mod steps_back;
 pub mod wanted;
 
 use std::io;

@@ -26,6 +26,8 @@ pub mod records;
 pub mod rng;
 pub mod rows;
 pub mod search;
+pub mod session;
+pub mod step_back_tally;
 pub mod survey;
 pub mod tally;
 pub mod telegrams;

@@ -26,6 +26,8 @@ mod readings;
 mod records;
 #[path = "trials/search.rs"]
 mod search;
+#[path = "trials/steps_back.rs"]
+mod steps_back;
 #[path = "trials/strays.rs"]
 mod strays;
 #[path = "trials/support.rs"]

@@ -5,6 +5,7 @@ use reference::bench::lock::Lock;
 use reference::bench::Bench;
 use reference::controller::Controller;
 use reference::records::event::Event;
+use reference::session::Session;
 use reference::text::MAX_SCHEDULE;
 use std::collections::BTreeMap;
 
@@ -27,7 +28,7 @@ const PLACES: usize = 80;
 const TOO_LONG: u8 = 255;
 
 /// What was met where a call was made; a row that is 0 fails.
-const ROWS: [&str; 12] = [
+const ROWS: [&str; 14] = [
     "calls, the count alike",
     "locks that set the count",
     "orders that raised it",
@@ -39,6 +40,8 @@ const ROWS: [&str; 12] = [
     "arbiter's words that lowered it",
     "arbiter's words to one with an outcome",
     "restores",
+    "steps back that raised it",
+    "steps back that lowered it",
     "schedules too long to be run",
 ];
 
@@ -72,18 +75,18 @@ fn compare(index: usize, schedule: &[u8], meet: &mut impl FnMut(&'static str)) {
         meet("schedules too long to be run");
         return;
     }
-    let mut bench = Bench::default();
-    assert_eq!(proved::open_gates(&[]), bench.open_gates(), "a new bench");
+    let mut session = Session::default();
+    assert_eq!(proved::open_gates(&[]), session.bench().open_gates(), "a new bench");
     let records = schedule.len().div_ceil(Event::LENGTH);
     let stride = records.div_ceil(PLACES).max(1);
     for (k, record) in schedule.chunks(Event::LENGTH).enumerate() {
-        let before = Before::of(&bench, record);
-        let answer = bench.step_record(record);
+        let before = Before::of(session.bench(), record);
+        let answer = session.step_record(record);
         if k % stride != 0 && k + 1 != records {
             continue;
         }
         let end = schedule.len().min((k + 1) * Event::LENGTH);
-        let open = bench.open_gates();
+        let open = session.bench().open_gates();
         assert_eq!(proved::open_gates(&schedule[..end]), open, "schedule {index}, after record {k}");
         meet("calls, the count alike");
         if let Ok(event) = Event::read(record) {
@@ -136,6 +139,8 @@ fn note(before: &Before, event: &Event, answer: u8, open: u8, meet: &mut impl Fn
         (Event::Decision { .. }, 0) if lowered => meet("arbiter's words that lowered it"),
         (Event::Decision { .. }, 0) if before.has_outcome => meet("arbiter's words to one with an outcome"),
         (Event::Restore { .. }, 0) => meet("restores"),
+        (Event::StepBack, 0) if before.open < open => meet("steps back that raised it"),
+        (Event::StepBack, 0) if lowered => meet("steps back that lowered it"),
         _ => {}
     }
 }

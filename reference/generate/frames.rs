@@ -172,7 +172,7 @@ pub(super) fn order(rng: &mut Rng, broken: &[u8]) -> u32 {
 fn event(rng: &mut Rng) -> Event {
     let id = rng.pick(&[0, 1, 2, 16, 17, 32, 33, 255]);
     let other = rng.pick(&[0, 1, 3, 16, 32, 255]);
-    match rng.below(9) {
+    match rng.below(10) {
         0 => Event::Lock {
             group: Group { n: id, f: other },
             ballots: false,
@@ -197,6 +197,7 @@ fn event(rng: &mut Rng) -> Event {
         },
         6 => Event::Stop { id },
         7 => Event::Save { id },
+        8 => Event::StepBack,
         _ => Event::Restore { id },
     }
 }

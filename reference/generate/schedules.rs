@@ -10,7 +10,7 @@ use crate::text::MAX_SCHEDULE;
 use std::io;
 
 /// The most events of a schedule.
-const MAX_EVENTS: usize = MAX_SCHEDULE / Event::LENGTH;
+pub(super) const MAX_EVENTS: usize = MAX_SCHEDULE / Event::LENGTH;
 
 /// The schedules of a file, each after its length in four bytes.
 pub fn split(file: &[u8]) -> io::Result<Vec<&[u8]>> {
@@ -64,7 +64,7 @@ fn played_of_any_length(rng: &mut Rng) -> Vec<u8> {
 }
 
 /// A lock of up to `most` controllers and orders until the schedule is full, with some events before each.
-fn played(rng: &mut Rng, limit: usize, most: u8) -> Vec<u8> {
+pub(super) fn played(rng: &mut Rng, limit: usize, most: u8) -> Vec<u8> {
     let mut player = Player::new(rng.fork(), limit);
     play_strays(&mut player);
     let group = choices::group(&mut player.rng, most);

@@ -23,6 +23,8 @@ pub enum Event {
     /// The delivery of a message of a ballot.
     DeliverBallot { from: u8, to: u8, kind: BallotKind, ballot: u32 },
     OpenBallot { id: u8, ballot: u32 },
+    /// Document 02, U11.
+    StepBack,
 }
 
 /// What an event record holds after its mark.
@@ -124,6 +126,8 @@ impl Event {
             (6, id, 0, 0, 0) => Event::Stop { id },
             (7, id, 0, 0, 0) => Event::Save { id },
             (8, id, 0, 0, 0) => Event::Restore { id },
+            // "Event kind 9, all fields 0"
+            (9, 0, 0, 0, 0) => Event::StepBack,
             // "Event kind 10 (a, value = b ..)"
             (10, id, 0, 0, ballot) => Event::OpenBallot { id, ballot },
             _ => return None,
@@ -152,6 +156,7 @@ impl Event {
                 ballot,
             } => (3, from, to, kind.number(), ballot),
             Event::OpenBallot { id, ballot } => (10, id, 0, 0, ballot),
+            Event::StepBack => (9, 0, 0, 0, 0),
         };
         Fields {
             kind,

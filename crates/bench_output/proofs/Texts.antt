@@ -1,6 +1,6 @@
 -- The two texts: the line for a schedule that is too long, and the report; and how long they can be.
 use Prim.Native.Nat.{ℕ, _≤_}
-use mathlib.Core.Path.{_≡_}
+use mathlib.Core.Path.{_≡_, sym, subst}
 use mathlib.Core.Bool.{true, false}
 use mathlib.Core.List.{List}
 use native.Mathlib.Omega.{arith}
@@ -11,10 +11,13 @@ use Rattle.ground.specs.Tests.{by-cond}
 use Rattle.text.specs.Writing.{fittedLength}
 use Rattle.text.specs.WritingLaws.{fitted-whole}
 use Rattle.model.specs.declared.Event.{Event}
+use Rattle.protocol.specs.declared.Bench.{Bench}
 use Rattle.protocol.specs.Benches.{newBench}
 use Rattle.protocol.specs.Steps.{run}
 use Rattle.protocol.proofs.claim.Reach.{controllers-limit}
-use Rattle.bench_run.specs.Schedule.{count, events}
+use Rattle.steps_back.specs.Memory.{left}
+use Rattle.steps_back.proofs.Moments.{as-left}
+use Rattle.bench_run.specs.Schedule.{count, acts}
 use Rattle.bench_run.specs.Runs.{endOf, answers, hasRoom, runOf, answered}
 use Rattle.bench_run.proofs.Records.{length-answers}
 use Rattle.bench_report.specs.declared.Summary.{Summary}
@@ -23,7 +26,7 @@ use Rattle.bench_report.specs.Lines.{reportOf}
 use Rattle.bench_report.specs.Report.{tooLong, reported}
 use Rattle.bench_report.specs.Room.{report-length, report-some}
 use Rattle.bench_summary.specs.Summary.{summaryOf}
-use Rattle.bench_output.specs.Output.{outputOf}
+use Rattle.bench_output.specs.Output.{benchAfter, outputOf}
 use Rattle.bench_output.specs.AlwaysPrints.{AlwaysPrints}
 
 -- a report of few answers is written as any text is
@@ -44,7 +47,7 @@ module _ (s : List ℕ) (h : isTooLong (length s) ≡ false) where
   pub few-answers : length (answers s) ≤ mostAnswers
   few-answers = rw (length-answers s (count s)) few-records
 
-  pub is-report : outputOf s ≡ reportOf (answers s) (summaryOf (run newBench (events s)))
+  pub is-report : outputOf s ≡ reportOf (answers s) (summaryOf (benchAfter s))
   unfolding outputOf
   is-report = rw h
 
@@ -56,7 +59,7 @@ module _ (s : List ℕ) (h : isTooLong (length s) ≡ false) where
     pub counted : count s ≤ length out
     counted = omega (arith, few-records)
 
-    pub all-run : runOf s out ≡ endOf true (count s) (run newBench (events s))
+    pub all-run : runOf s out ≡ endOf true (count s) (benchAfter s)
     unfolding runOf
     all-run = rw room
 
@@ -78,16 +81,16 @@ report-limit answers es h =
 longest : (s : List ℕ) → length (outputOf s) ≤ longestOutput
 unfolding outputOf
 longest s =
-    by-cond (λ (t : List ℕ). length t ≤ longestOutput) (isTooLong (length s)) tooLong (reportOf (answers s) (summaryOf (run newBench (events s))))
+    by-cond (λ (t : List ℕ). length t ≤ longestOutput) (isTooLong (length s)) tooLong (reportOf (answers s) (summaryOf (benchAfter s)))
     (λ _. omega arith)
-    (λ h. report-limit (answers s) (events s) (few-answers s h))
+    (λ h. subst (λ (b : Bench). length (reportOf (answers s) (summaryOf b)) ≤ longestOutput) (sym (as-left (acts s))) (report-limit (answers s) (left (acts s)) (few-answers s h)))
 
 some : (s : List ℕ) → 1 ≤ length (outputOf s)
 unfolding outputOf
 some s =
-    by-cond (λ (t : List ℕ). 1 ≤ length t) (isTooLong (length s)) tooLong (reportOf (answers s) (summaryOf (run newBench (events s))))
+    by-cond (λ (t : List ℕ). 1 ≤ length t) (isTooLong (length s)) tooLong (reportOf (answers s) (summaryOf (benchAfter s)))
     (λ _. omega arith)
-    (λ _. report-some (answers s) (summaryOf (run newBench (events s))))
+    (λ _. report-some (answers s) (summaryOf (benchAfter s)))
 
 pub always : AlwaysPrints
 always = record { longest = longest; some = some; whole = λ s out h. fitted-whole (outputOf s) out (omega (arith, longest s)) }

@@ -4,11 +4,9 @@ use mathlib.Core.Bool.{cond}
 use mathlib.Core.List.{List}
 use lib.ListN.{length}
 use Rattle.protocol.specs.Counts.{openGates}
-use Rattle.protocol.specs.Benches.{newBench}
-use Rattle.protocol.specs.Steps.{run}
-use Rattle.bench_run.specs.Schedule.{events}
+use Rattle.bench_output.specs.Output.{benchAfter}
 use Rattle.bench_report.specs.Limits.{isTooLong}
 
 -- after the events that the bytes of a schedule stand for. One that is too long is not run, and gets 255: no lock has so many controllers
 unfoldable pub openGatesOf : List ℕ → ℕ
-openGatesOf s = cond (isTooLong (length s)) 255 (openGates ((run newBench (events s)) .shared))
+openGatesOf s = cond (isTooLong (length s)) 255 (openGates ((benchAfter s) .shared))

@@ -3,15 +3,19 @@ use Prim.Native.Nat.{ℕ}
 use mathlib.Core.Bool.{cond}
 use mathlib.Core.List.{List}
 use lib.ListN.{length}
-use Rattle.protocol.specs.Benches.{newBench}
-use Rattle.protocol.specs.Steps.{run}
-use Rattle.bench_run.specs.Schedule.{events}
+use Rattle.protocol.specs.declared.Bench.{Bench}
+use Rattle.steps_back.specs.Claim.{bench}
+use Rattle.bench_run.specs.Schedule.{acts}
 use Rattle.bench_run.specs.Runs.{answers}
 use Rattle.bench_report.specs.Limits.{isTooLong}
 use Rattle.bench_report.specs.Lines.{reportOf}
 use Rattle.bench_report.specs.Report.{tooLong}
 use Rattle.bench_summary.specs.Summary.{summaryOf}
 
--- "Above 40,960 bytes it prints just "- 1"."; else the answers, and the bench after the events that the bytes stand for
+-- the bench after the events and steps back that the bytes stand for
+abbrev pub benchAfter : List ℕ → Bench
+benchAfter s = bench (acts s)
+
+-- "Above 40,960 bytes it prints just "- 1"."; else the answers, and that bench
 unfoldable pub outputOf : List ℕ → List ℕ
-outputOf s = cond (isTooLong (length s)) tooLong (reportOf (answers s) (summaryOf (run newBench (events s))))
+outputOf s = cond (isTooLong (length s)) tooLong (reportOf (answers s) (summaryOf (benchAfter s)))

@@ -34,10 +34,9 @@ use Rattle.bench_state.proofs.BallotReplies.{has-row, in-row}
 use Rattle.bench_turns.specs.declared.BallotTurn.{BallotTurn}
 use Rattle.bench_turns.specs.BallotTurns.{reportedBallot, wordIn, ballotAnswer, ballotTurn}
 use Rattle.bench_turns.proofs.BallotLaws.{same-set, reportedOf, word-read, ballots-answered}
-use Rattle.bench_run.specs.Schedule.{eventsTo}
 use Rattle.bench_run.proofs.Asking.{same-ballot, ballot-seat}
 use Rattle.bench_run.proofs.Local.{benchWith, Asked, own-seat, replied, yes-to-all, steps, few}
-use Rattle.bench_run.proofs.Records.{Upto, let-through}
+use Rattle.bench_run.proofs.Records.{Task, Notes, Upto, let-through}
 use Rattle.bench_run.proofs.PlayLaws.{PlaceOf, stationAt, Reading, asked-of, refused}
 
 -- question 18 looks at the first i rows
@@ -81,7 +80,7 @@ read-acceptor : (bs : Ballots) (i at : ℕ) → 1 ≤ i → at ≡ i - 1 → acc
 unfolding acceptor
 read-acceptor bs i at h e = ap (acceptorAt bs) e ∙ sym (nth-at newAcceptor (bs .acceptors) i h)
 
-module _ (s out₀ : List ℕ) (all k : ℕ) (m : Shared) (bs : Ballots) (l : List Station) (out : List ℕ) (e : BallotEvent) (g : Reading s out₀ all k m bs l out (OfBallots e))
+module _ (task : Task) (notes : Notes) (k spot : ℕ) (m : Shared) (bs : Ballots) (l : List Station) (out : List ℕ) (e : BallotEvent) (g : Reading task notes k spot m bs l out (OfBallots e))
     (i : ℕ) (subject : i ≡ ballotSubject e) (at : ℕ) (seat : PlaceOf i at) (b : ℕ) (number-is : b ≡ ballotNumber e) (p : ℕ) (slot : SlotOf b p) where
   abbrev own : Station
   own = stationAt l at
@@ -99,7 +98,7 @@ module _ (s out₀ : List ℕ) (all k : ℕ) (m : Shared) (bs : Ballots) (l : Li
   facts = factsOf m bs (OfBallots e) own (own .sent) (mayOpen m) (mayGive m bs) true
 
   has-few : m .n ≤ limit
-  has-few = few (benchWith m bs l) (eventsTo s k) (g .upto .bench)
+  has-few = few (benchWith m bs l) (g .upto .list) (g .upto .here)
 
   row-read : isBallot (ballotNumber e) ≡ true → rowAt bs p ≡ row bs (ballotNumber e)
   row-read y = let r = in-row (ballotNumber e) y in read-row bs (ballotNumber e) p (r .0) (slotted .1 (r .0) (r .1))
@@ -108,11 +107,11 @@ module _ (s out₀ : List ℕ) (all k : ℕ) (m : Shared) (bs : Ballots) (l : Li
   acceptor-read h j = read-acceptor bs (ballotSubject e) at h (seated .1 h j)
 
   ballot-asked : Asked m bs l (OfBallots e) own own at q
-  ballot-asked = asked-of s out₀ all k m bs l out (OfBallots e) g at at q seated seated
+  ballot-asked = asked-of task notes k spot m bs l out (OfBallots e) g at at q seated seated
       (ap number (same-ballot facts has-few e (acceptorAt bs at) (rowAt bs p) acceptor-read row-read))
 
-  ballot-refused : (q ≡ 0 → ⊥) → Upto s out₀ all (k + 1) (benchWith m bs l) (set out k q)
-  ballot-refused = refused s out₀ all k m bs l out (OfBallots e) g at at q ballot-asked
+  ballot-refused : (q ≡ 0 → ⊥) → Upto task notes (k + 1) (benchWith m bs l) (set out spot q)
+  ballot-refused = refused task notes k spot m bs l out (OfBallots e) g at at q ballot-asked
 
   module _ (z : q ≡ 0) where
     yes : AllYes (questionsOf facts (OfBallots e))
@@ -139,8 +138,8 @@ module _ (s out₀ : List ℕ) (all k : ℕ) (m : Shared) (bs : Ballots) (l : Li
     -- with the answer of the controller, put where acceptor and row were read
     ballot-accepted : (last : ℕ) → last ≡ reportedBallot e (rowAt bs p) → (o : ℕ) → ((o < ballotLimit) × (1 ≤ last → o ≡ last - 1)) → (v : Outcome) → v ≡ wordIn last (rowAt bs o)
         → (x : BallotAnswer) → x ≡ ballotAnswer (m .n) (n % 256) e (own .controller .proposal) (acceptorAt bs at) (rowAt bs p) v → (r : BallotRow) → r ≡ rowAfter (rowAt bs p) i x
-        → Upto s out₀ all (k + 1) (benchWith m (record { acceptors = set (bs .acceptors) at (x .acceptor); rows = set (bs .rows) p r }) l) (set out k q)
-    ballot-accepted last e1 o e2 v e3 x e4 r e5 = let-through s out₀ all k (benchWith m bs l) out (g .upto) (g .more) (g .record-read) (g .piece-read) (OfBallots e) (g .event)
+        → Upto task notes (k + 1) (benchWith m (record { acceptors = set (bs .acceptors) at (x .acceptor); rows = set (bs .rows) p r }) l) (set out spot q)
+    ballot-accepted last e1 o e2 v e3 x e4 r e5 = let-through task notes k (benchWith m bs l) out (g .upto) (g .more) spot (g .place) (g .ready) (OfBallots e) (g .read)
         (benchWith m (record { acceptors = set (bs .acceptors) at (x .acceptor); rows = set (bs .rows) p r }) l) q (played ∙ sym (steps _ _ _ _ _ _ _ _ ballot-asked z)) (replied _ _ _ _ _ _ _ _ ballot-asked)
       where
         row-is : rowAt bs p ≡ row bs n
@@ -181,7 +180,7 @@ module _ (s out₀ : List ℕ) (all k : ℕ) (m : Shared) (bs : Ballots) (l : Li
   -- asked and played by its turn: refused, acceptor and row are put back as they were read
   pub ballot-played : (last : ℕ) → last ≡ reportedBallot e (rowAt bs p) → (o : ℕ) → ((o < ballotLimit) × (1 ≤ last → o ≡ last - 1)) → (v : Outcome) → v ≡ wordIn last (rowAt bs o)
       → (t : BallotTurn) → t ≡ ballotTurn m own (acceptorAt bs at) (rowAt bs p) v e
-      → Upto s out₀ all (k + 1) (benchWith m (record { acceptors = set (bs .acceptors) at (t .acceptor); rows = set (bs .rows) p (t .row) }) l) (set out k (t .answer))
+      → Upto task notes (k + 1) (benchWith m (record { acceptors = set (bs .acceptors) at (t .acceptor); rows = set (bs .rows) p (t .row) }) l) (set out spot (t .answer))
   unfolding ballotTurn
   ballot-played last e1 o e2 v e3 t w = subst Played (sym w) (by-cond Played (eqb q 0) _ _ (λ y. ballot-accepted (eqb-true q 0 y) last e1 o e2 v e3 _ refl _ (ap (λ (j : ℕ). rowAfter (rowAt bs p) j answer) (sym subject))) (λ n. put-back (eqb-false q 0 n)))
     where
@@ -189,7 +188,7 @@ module _ (s out₀ : List ℕ) (all k : ℕ) (m : Shared) (bs : Ballots) (l : Li
       answer = ballotAnswer (m .n) (ballotNumber e % 256) e (own .controller .proposal) (acceptorAt bs at) (rowAt bs p) v
 
       Played : BallotTurn → Type 0
-      Played y = Upto s out₀ all (k + 1) (benchWith m (record { acceptors = set (bs .acceptors) at (y .acceptor); rows = set (bs .rows) p (y .row) }) l) (set out k (y .answer))
+      Played y = Upto task notes (k + 1) (benchWith m (record { acceptors = set (bs .acceptors) at (y .acceptor); rows = set (bs .rows) p (y .row) }) l) (set out spot (y .answer))
 
-      put-back : (q ≡ 0 → ⊥) → Upto s out₀ all (k + 1) (benchWith m (record { acceptors = set (bs .acceptors) at (acceptorAt bs at); rows = set (bs .rows) p (rowAt bs p) }) l) (set out k q)
-      put-back n = subst (λ (y : Ballots). Upto s out₀ all (k + 1) (benchWith m y l) (set out k q)) (λ i. record { acceptors = sym (same-set (bs .acceptors) at newAcceptor) i; rows = sym (same-set (bs .rows) p (newRow [])) i }) (ballot-refused n)
+      put-back : (q ≡ 0 → ⊥) → Upto task notes (k + 1) (benchWith m (record { acceptors = set (bs .acceptors) at (acceptorAt bs at); rows = set (bs .rows) p (rowAt bs p) }) l) (set out spot q)
+      put-back n = subst (λ (y : Ballots). Upto task notes (k + 1) (benchWith m y l) (set out spot q)) (λ i. record { acceptors = sym (same-set (bs .acceptors) at newAcceptor) i; rows = sym (same-set (bs .rows) p (newRow [])) i }) (ballot-refused n)

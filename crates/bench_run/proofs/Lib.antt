@@ -1,9 +1,10 @@
-mod Asking
-mod BallotPlay
-mod Idle
-mod Local
-mod PlayLaws
-mod Quiet
+pub mod Asking
+pub mod BallotPlay
+pub mod Idle
+pub mod Local
+pub mod PlayLaws
+pub mod Quiet
 pub mod Records
-mod TurnLaws
-mod Untested
+pub mod Remembered
+pub mod TurnLaws
+pub mod Untested

@@ -11,20 +11,20 @@ use Rattle.event_record.specs.declared.ReadEvent.the-variants.{Read, Refused}
 use Rattle.protocol.specs.declared.Bench.{Bench}
 use Rattle.protocol.specs.Benches.{newBench}
 use Rattle.protocol.specs.Counts.{openGates}
-use Rattle.protocol.specs.Questions.{number, reply}
-use Rattle.protocol.specs.Steps.{run}
+use Rattle.protocol.specs.Questions.{number}
+use Rattle.steps_back.specs.Memory.{Remembering, newRemembering, answer, runActs}
 use Rattle.bench_summary.specs.Summary.{summaryOf}
-use Rattle.bench_run.specs.Schedule.{piece, count, eventsTo, events}
+use Rattle.bench_run.specs.Schedule.{piece, count, actsTo, acts}
 use Rattle.bench_run.specs.declared.RunResult.{RunResult}
 
 -- a record's answer: the number with which reading refused it, or the bench's answer
-abbrev pub answerNumber : ReadEvent → Bench → ℕ
-answerNumber (Read e) b = number (reply b e)
+abbrev pub answerNumber : ReadEvent → Remembering → ℕ
+answerNumber (Read a) b = number (answer b a)
 answerNumber (Refused q) b = q
 
 -- the answer to record k, which finds the bench that the records before it have left
 abbrev pub answerAt : List ℕ → ℕ → ℕ
-answerAt s k = answerNumber (readEvent (piece s k)) (run newBench (eventsTo s k))
+answerAt s k = answerNumber (readEvent (piece s k)) (runActs newRemembering (actsTo s k))
 
 unfoldable pub answersTo : List ℕ → ℕ → List ℕ
 answersTo s zero = []
@@ -41,12 +41,12 @@ hasRoom s out = leb (count s) (length out)
 abbrev pub endOf : Bool → ℕ → Bench → RunResult
 endOf complete count b = record { complete = complete; count = count; «open_gates» = openGates (b .shared); summary = summaryOf b }
 
--- the run of a schedule: the bench after the list of events that its bytes stand for; with too little room nothing is run
+-- the run of a schedule: the bench after the list of events and steps back that its bytes stand for; with too little room nothing is run
 abbrev pub notRun : RunResult
 notRun = endOf false 0 newBench
 
 unfoldable pub runOf : List ℕ → List ℕ → RunResult
-runOf s out = cond (hasRoom s out) (endOf true (count s) (run newBench (events s))) notRun
+runOf s out = cond (hasRoom s out) (endOf true (count s) ((runActs newRemembering (acts s)) .bench)) notRun
 
 -- the buffer afterwards: the answers at its front, and the rest as before
 unfoldable pub answered : List ℕ → List ℕ → List ℕ

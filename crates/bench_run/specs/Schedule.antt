@@ -2,7 +2,7 @@
 use Prim.Native.Nat.{ℕ, zero, suc, _+_, _-_, _*_, _/_}
 use mathlib.Core.List.{List, [], _∷_, _++_}
 use lib.ListN.{length}
-use Rattle.model.specs.declared.Event.{Event}
+use Rattle.model.specs.declared.Act.{Act}
 unfoldable pub use Rattle.schedule_reader.specs.Pieces.{pieceAt}
 use Rattle.event_record.specs.Events.{eventLength, readEvent}
 use Rattle.event_record.specs.declared.ReadEvent.{ReadEvent}
@@ -16,14 +16,14 @@ unfoldable pub count : List ℕ → ℕ
 count s = (length s + (eventLength - 1)) / eventLength
 
 -- what reading lets through
-abbrev pub letThrough : ReadEvent → List Event
-letThrough (Read e) = e ∷ []
+abbrev pub letThrough : ReadEvent → List Act
+letThrough (Read a) = a ∷ []
 letThrough (Refused q) = []
 
--- the events of the first k records; and of all: the list that the bytes stand for
-unfoldable pub eventsTo : List ℕ → ℕ → List Event
-eventsTo s zero = []
-eventsTo s (suc k) = eventsTo s k ++ letThrough (readEvent (piece s k))
+-- the acts of the first k records, events and steps back; and of all: the list that the bytes stand for
+unfoldable pub actsTo : List ℕ → ℕ → List Act
+actsTo s zero = []
+actsTo s (suc k) = actsTo s k ++ letThrough (readEvent (piece s k))
 
-abbrev pub events : List ℕ → List Event
-events s = eventsTo s (count s)
+abbrev pub acts : List ℕ → List Act
+acts s = actsTo s (count s)

@@ -1,5 +1,15 @@
 // The run of a schedule on a new bench.
+use crate::Next;
+use crate::Pause;
 use crate::RunResult;
+use crate::memory::PAGE;
+use crate::memory::RING;
+use crate::memory::is_pending;
+use crate::memory::kept_of;
+use crate::memory::next_at;
+use crate::memory::place_of;
+use crate::memory::remembered;
+use crate::memory::step_back;
 use ballot_rules::new_acceptor;
 use ballot_rules::new_row;
 use bench_state::all_undecided;
@@ -47,22 +57,23 @@ use controller_state::cnt_if;
 use controller_state::from_if;
 use controller_state::phase_in;
 use controller_state::set_if;
-use event_record::ReadEvent;
-use event_record::answer_of;
 use ground::LIMIT;
 use ground::insert;
 use ground::up_to_limit;
 use model::Event;
 use model::Kind;
+use protocol::Acceptor;
 use protocol::Acks;
 use protocol::BALLOTS;
+use protocol::BallotRow;
+use protocol::Ballots;
+use protocol::Bench;
 use protocol::Cnt;
 use protocol::Controller;
 use protocol::Shared;
 use protocol::Station;
 use schedule_reader::Reader;
 use schedule_reader::reader_at;
-use schedule_reader::record_at;
 ghost use mathlib.Core.Path.{_≡_};
 ghost use mathlib.Core.Bool.{true, cond};
 ghost use Prim.Native.Nat.{_-_, _≤_, _<_};
@@ -143,6 +154,23 @@ fn locked(m: Shared, n: u8, f: u8, own: bool) -> Shared
     }
 }
 
+// The bench of these parts.
+fn bench_of(
+    shared: Shared,
+    stations: [Station; LIMIT],
+    acceptors: [Acceptor; LIMIT],
+    rows: [BallotRow; BALLOTS],
+) -> Bench
+    ensures { λ r. ⌜ r ≡ record { shared = shared; ballots = record { acceptors = acceptors; rows = rows }; stations = stations } ⌝ }
+{
+    let ballots = Ballots { acceptors, rows };
+    Bench {
+        shared,
+        ballots,
+        stations,
+    }
+}
+
 // Plays what stands from a place of the schedule on. The bench lies in this function's own variables: an event's questions are asked first, and one that
 // is accepted changes one station where it lies. Of an event of ballots the turn asks too, and leaves the acceptor and the row as they are where it is refused.
 // At a lock with an arbiter the ballots stay new.
@@ -157,234 +185,283 @@ fn run_from(s: &[u8], from: usize, answers: &mut [u8]) -> RunResult
     }
     let mut acceptors = [new_acceptor(); LIMIT];
     let mut rows = [new_row(); BALLOTS];
+    let mut even = bench_of(m, stations, acceptors, rows);
+    let mut odd = even;
+    let mut ring = [0usize; RING];
+    let mut remembers = false;
+    let mut left: usize = 0;
+    let mut undoable: usize = 0;
+    let mut noted: usize = 0;
     let mut k: usize = 0;
     while k < count {
-        let r = record_at(s, from + k * Event::LENGTH);
-        let ReadEvent::Read(e) = r else {
-            answers[k] = answer_of(r);
-            k += 1;
-            continue;
-        };
-        match e {
-            Event::Lock { n, f, own } => {
-                let answer = lock_question(m, n, f);
-                answers[k] = answer;
-                k += 1;
-                if answer != 0 {
-                    continue;
+        let here = place_of(&ring, noted, k, left);
+        let pending = is_pending(remembers, noted, k);
+        let next = next_at(s, from + here * Event::LENGTH, pending);
+        match next {
+            Next::Other(pause) => match pause {
+                Pause::Refused(answer) => {
+                    answers[here] = answer;
+                    k += 1;
                 }
-                m = locked(m, n, f, own);
-            }
-            Event::Order { number } => {
-                let answer = order_question(m, may_open(m), number);
-                answers[k] = answer;
-                k += 1;
-                if answer != 0 {
-                    continue;
+                Pause::Back => {
+                    k += 1;
+                    let t = step_back(remembers, m.locked, undoable, left, k);
+                    answers[here] = t.answer;
+                    k = t.k;
+                    noted = t.noted;
+                    left = t.left;
+                    undoable = t.undoable;
+                    remembers = true;
+                    if t.answer != 0 {
+                        continue;
+                    }
+                    let kept = kept_of(left, even, odd);
+                    m = kept.shared;
+                    stations = kept.stations;
+                    acceptors = kept.ballots.acceptors;
+                    rows = kept.ballots.rows;
                 }
-                m = order_opened(m, number);
-                let end = up_to_limit(m.n) as usize;
-                let mut i: usize = 0;
-                while i < end {
-                    stations[i] = renewed(stations[i]);
-                    i += 1;
+                Pause::Note => {
+                    let last = k - 1;
+                    noted = k;
+                    if answers[last] != 0 {
+                        continue;
+                    }
+                    ring[left % RING] = last;
+                    undoable = remembered(undoable, left);
+                    left += 1;
+                    if left % PAGE != 0 {
+                        continue;
+                    }
+                    let now = bench_of(m, stations, acceptors, rows);
+                    if left % RING < PAGE {
+                        even = now;
+                        continue;
+                    }
+                    odd = now;
                 }
-                if !m.own {
-                    continue;
+            },
+            Next::Play(e) => match e {
+                Event::Lock { n, f, own } => {
+                    let answer = lock_question(m, n, f);
+                    answers[here] = answer;
+                    k += 1;
+                    if answer != 0 {
+                        continue;
+                    }
+                    m = locked(m, n, f, own);
                 }
-                acceptors = [new_acceptor(); LIMIT];
-                rows = [new_row(); BALLOTS];
-            }
-            Event::Cast {
-                id,
-                willing,
-                target,
-            } => {
-                let at = seat(id);
-                let answer = cast_question(m, condition_of(stations[at]), id, target);
-                answers[k] = answer;
-                k += 1;
-                if answer != 0 {
-                    continue;
+                Event::Order { number } => {
+                    let answer = order_question(m, may_open(m), number);
+                    answers[here] = answer;
+                    k += 1;
+                    if answer != 0 {
+                        continue;
+                    }
+                    m = order_opened(m, number);
+                    let end = up_to_limit(m.n) as usize;
+                    let mut i: usize = 0;
+                    while i < end {
+                        stations[i] = renewed(stations[i]);
+                        i += 1;
+                    }
+                    if !m.own {
+                        continue;
+                    }
+                    acceptors = [new_acceptor(); LIMIT];
+                    rows = [new_row(); BALLOTS];
                 }
-                stations[at] = cast_turn(m, stations[at], id, willing, target);
-            }
-            Event::Deliver {
-                from: sender,
-                to,
-                kind,
-            } => {
-                let at = seat(to);
-                let origin = seat(sender);
-                let out = outgoing(kind, stations[origin]);
-                let answer = deliver_question(
-                    m,
-                    condition_of(stations[at]),
-                    out.to,
-                    true,
-                    sender,
+                Event::Cast {
+                    id,
+                    willing,
+                    target,
+                } => {
+                    let at = seat(id);
+                    let answer = cast_question(m, condition_of(stations[at]), id, target);
+                    answers[here] = answer;
+                    k += 1;
+                    if answer != 0 {
+                        continue;
+                    }
+                    stations[at] = cast_turn(m, stations[at], id, willing, target);
+                }
+                Event::Deliver {
+                    from: sender,
                     to,
                     kind,
-                );
-                answers[k] = answer;
-                k += 1;
-                if answer != 0 {
-                    continue;
-                }
-                match kind {
-                    Kind::Vote => {
-                        let votes = VoteSet {
-                            known: stations[origin].sent.vote.votes.known,
-                            willing: stations[origin].sent.vote.votes.willing,
-                        };
-                        stations[at] = vote_turn(stations[at], votes);
+                } => {
+                    let at = seat(to);
+                    let origin = seat(sender);
+                    let out = outgoing(kind, stations[origin]);
+                    let answer = deliver_question(
+                        m,
+                        condition_of(stations[at]),
+                        out.to,
+                        true,
+                        sender,
+                        to,
+                        kind,
+                    );
+                    answers[here] = answer;
+                    k += 1;
+                    if answer != 0 {
+                        continue;
                     }
-                    Kind::Ack => {
-                        let condition = condition_of(stations[at]);
-                        let from = stations[at].controller.acks.from;
-                        let waiting = stations[at].controller.help.waiting;
-                        if !takes_ack(condition, from, waiting, sender) {
-                            continue;
+                    match kind {
+                        Kind::Vote => {
+                            let votes = VoteSet {
+                                known: stations[origin].sent.vote.votes.known,
+                                willing: stations[origin].sent.vote.votes.willing,
+                            };
+                            stations[at] = vote_turn(stations[at], votes);
                         }
+                        Kind::Ack => {
+                            let condition = condition_of(stations[at]);
+                            let from = stations[at].controller.acks.from;
+                            let waiting = stations[at].controller.help.waiting;
+                            if !takes_ack(condition, from, waiting, sender) {
+                                continue;
+                            }
+                            let own = stations[at];
+                            let c = own.controller;
+                            let mut sets = c.acks.sets;
+                            sets[origin] = VoteSet {
+                                known: stations[origin].sent.ack.votes.known,
+                                willing: stations[origin].sent.ack.votes.willing,
+                            };
+                            let acks = Acks {
+                                sets,
+                                from: insert(c.acks.from, sender),
+                                cnt: Cnt(bump(c.acks.cnt.0)),
+                            };
+                            let controller = Controller { acks, ..c };
+                            let station = Station { controller, ..own };
+                            stations[at] = station;
+                            if !waiting {
+                                continue;
+                            }
+                            let t = settled_turn(m, stations[at]);
+                            m = t.shared;
+                            let settled = t.station;
+                            stations[at] = settled;
+                        }
+                        Kind::Help => {
+                            stations[at] = help_turn(stations[at], sender);
+                        }
+                        Kind::Helped => {
+                            let out = outgoing(Kind::Helped, stations[origin]);
+                            let t = helped_turn(m, stations[at], sender, out.votes);
+                            m = t.shared;
+                            let station = t.station;
+                            stations[at] = station;
+                        }
+                    }
+                }
+                Event::Timeout { id } => {
+                    let at = seat(id);
+                    let condition = condition_of(stations[at]);
+                    let answer = timeout_question(m, condition, id);
+                    answers[here] = answer;
+                    k += 1;
+                    if answer != 0 {
+                        continue;
+                    }
+                    if phase_in(condition) == 1 {
                         let own = stations[at];
                         let c = own.controller;
+                        let counts = counts_own(m.f, id, c.acks.from);
                         let mut sets = c.acks.sets;
-                        sets[origin] = VoteSet {
-                            known: stations[origin].sent.ack.votes.known,
-                            willing: stations[origin].sent.ack.votes.willing,
-                        };
+                        let votes = c.votes;
+                        let held = sets[at];
+                        sets[at] = set_if(counts, votes, held);
                         let acks = Acks {
                             sets,
-                            from: insert(c.acks.from, sender),
-                            cnt: Cnt(bump(c.acks.cnt.0)),
+                            from: from_if(counts, c.acks.from, id),
+                            cnt: Cnt(cnt_if(counts, c.acks.cnt.0)),
                         };
                         let controller = Controller { acks, ..c };
                         let station = Station { controller, ..own };
-                        stations[at] = station;
-                        if !waiting {
-                            continue;
-                        }
-                        let t = settled_turn(m, stations[at]);
-                        m = t.shared;
-                        let settled = t.station;
-                        stations[at] = settled;
+                        stations[at] = first_turn(m, station, id);
+                        continue;
                     }
-                    Kind::Help => {
-                        stations[at] = help_turn(stations[at], sender);
-                    }
-                    Kind::Helped => {
-                        let out = outgoing(Kind::Helped, stations[origin]);
-                        let t = helped_turn(m, stations[at], sender, out.votes);
-                        m = t.shared;
-                        let station = t.station;
-                        stations[at] = station;
-                    }
+                    let t = second_turn(m, stations[at], id);
+                    m = t.shared;
+                    let station = t.station;
+                    stations[at] = station;
                 }
-            }
-            Event::Timeout { id } => {
-                let at = seat(id);
-                let condition = condition_of(stations[at]);
-                let answer = timeout_question(m, condition, id);
-                answers[k] = answer;
-                k += 1;
-                if answer != 0 {
-                    continue;
+                Event::Decide { id, to_move } => {
+                    let at = seat(id);
+                    let end = ballots_asked(m.own);
+                    let mut chosen = false;
+                    let mut i: usize = 0;
+                    while i < end {
+                        chosen = chosen_at(m.n, rows[i], to_move) | chosen;
+                        i += 1;
+                    }
+                    let may = may_give(m, chosen, to_move);
+                    let answer = decide_question(m, condition_of(stations[at]), may, id);
+                    answers[here] = answer;
+                    k += 1;
+                    if answer != 0 {
+                        continue;
+                    }
+                    let t = decide_turn(m, stations[at], to_move);
+                    m = t.shared;
+                    let station = t.station;
+                    stations[at] = station;
                 }
-                if phase_in(condition) == 1 {
+                Event::Stop { id } => {
+                    let at = seat(id);
+                    let answer = present_question(m, condition_of(stations[at]), id);
+                    answers[here] = answer;
+                    k += 1;
+                    if answer != 0 {
+                        continue;
+                    }
+                    let t = stop_turn(m, stations[at]);
+                    m = t.shared;
+                    let station = t.station;
+                    stations[at] = station;
+                }
+                Event::Save { id } => {
+                    let at = seat(id);
+                    let answer = present_question(m, condition_of(stations[at]), id);
+                    answers[here] = answer;
+                    k += 1;
+                    if answer != 0 {
+                        continue;
+                    }
+                    stations[at] = save_turn(m, stations[at], id);
+                }
+                Event::Restore { id } => {
+                    let at = seat(id);
                     let own = stations[at];
-                    let c = own.controller;
-                    let counts = counts_own(m.f, id, c.acks.from);
-                    let mut sets = c.acks.sets;
-                    let votes = c.votes;
-                    let held = sets[at];
-                    sets[at] = set_if(counts, votes, held);
-                    let acks = Acks {
-                        sets,
-                        from: from_if(counts, c.acks.from, id),
-                        cnt: Cnt(cnt_if(counts, c.acks.cnt.0)),
-                    };
-                    let controller = Controller { acks, ..c };
-                    let station = Station { controller, ..own };
-                    stations[at] = first_turn(m, station, id);
-                    continue;
+                    let answer = restore_question(m, condition_of(own), is_saved(own), id);
+                    answers[here] = answer;
+                    k += 1;
+                    if answer != 0 {
+                        continue;
+                    }
+                    let t = restore_turn(m, stations[at]);
+                    m = t.shared;
+                    let station = t.station;
+                    stations[at] = station;
                 }
-                let t = second_turn(m, stations[at], id);
-                m = t.shared;
-                let station = t.station;
-                stations[at] = station;
-            }
-            Event::Decide { id, to_move } => {
-                let at = seat(id);
-                let end = ballots_asked(m.own);
-                let mut chosen = false;
-                let mut i: usize = 0;
-                while i < end {
-                    chosen = chosen_at(m.n, rows[i], to_move) | chosen;
-                    i += 1;
+                Event::OfBallots { event } => {
+                    let e = rebuilt(event);
+                    let at = seat(subject_of(e));
+                    let place = slot(ballot_of(e));
+                    let last = report_in(e, rows[place]);
+                    let reported = word_in(last, rows[slot_reported(last)]);
+                    let t = ballot_turn(m, stations[at], acceptors[at], rows[place], reported, e);
+                    answers[here] = t.answer;
+                    k += 1;
+                    let acceptor = t.acceptor;
+                    acceptors[at] = acceptor;
+                    let row = t.row;
+                    rows[place] = row;
                 }
-                let may = may_give(m, chosen, to_move);
-                let answer = decide_question(m, condition_of(stations[at]), may, id);
-                answers[k] = answer;
-                k += 1;
-                if answer != 0 {
-                    continue;
-                }
-                let t = decide_turn(m, stations[at], to_move);
-                m = t.shared;
-                let station = t.station;
-                stations[at] = station;
-            }
-            Event::Stop { id } => {
-                let at = seat(id);
-                let answer = present_question(m, condition_of(stations[at]), id);
-                answers[k] = answer;
-                k += 1;
-                if answer != 0 {
-                    continue;
-                }
-                let t = stop_turn(m, stations[at]);
-                m = t.shared;
-                let station = t.station;
-                stations[at] = station;
-            }
-            Event::Save { id } => {
-                let at = seat(id);
-                let answer = present_question(m, condition_of(stations[at]), id);
-                answers[k] = answer;
-                k += 1;
-                if answer != 0 {
-                    continue;
-                }
-                stations[at] = save_turn(m, stations[at], id);
-            }
-            Event::Restore { id } => {
-                let at = seat(id);
-                let own = stations[at];
-                let answer = restore_question(m, condition_of(own), is_saved(own), id);
-                answers[k] = answer;
-                k += 1;
-                if answer != 0 {
-                    continue;
-                }
-                let t = restore_turn(m, stations[at]);
-                m = t.shared;
-                let station = t.station;
-                stations[at] = station;
-            }
-            Event::OfBallots { event } => {
-                let e = rebuilt(event);
-                let at = seat(subject_of(e));
-                let place = slot(ballot_of(e));
-                let last = report_in(e, rows[place]);
-                let reported = word_in(last, rows[slot_reported(last)]);
-                let t = ballot_turn(m, stations[at], acceptors[at], rows[place], reported, e);
-                answers[k] = t.answer;
-                k += 1;
-                let acceptor = t.acceptor;
-                acceptors[at] = acceptor;
-                let row = t.row;
-                rows[place] = row;
-            }
+            },
         }
     }
     ended(true, count, m, stations)

@@ -4,15 +4,15 @@ use mathlib.Core.Path.{_≡_}
 use mathlib.Core.Bool.{Bool, false}
 use native.Mathlib.Omega.{arith}
 use borrow.Author.Tests.{ne-eqb}
-use Rattle.model.specs.declared.Event.{Event}
-use Rattle.model.specs.declared.Event.the-variants.{Lock}
+use Rattle.model.specs.declared.Act.{Act}
+use Rattle.model.specs.declared.Act.the-variants.{Back}
 use Rattle.records.specs.Rows.{row, rowOf}
 use Rattle.event_record.specs.Events.{rows, rowFor}
 use Rattle.event_record.specs.declared.Fields.{Fields}
 
 -- what code answers by the row of a kind, it answers by the table
-pub at-row : (x : Fields) (k : ℕ) → x .kind ≡ k → {listed : Bool} {event : Event}
-    → listed ≡ rowOf (Lock 0 0 false) k (rows x) .listed → event ≡ rowOf (Lock 0 0 false) k (rows x) .value → (listed ≡ rowFor x .listed) × (event ≡ rowFor x .value)
+pub at-row : (x : Fields) (k : ℕ) → x .kind ≡ k → {listed : Bool} {act : Act}
+    → listed ≡ rowOf Back k (rows x) .listed → act ≡ rowOf Back k (rows x) .value → (listed ≡ rowFor x .listed) × (act ≡ rowFor x .value)
 unfolding rowFor rows
 at-row x k e l v = rw e (l, v)
 
@@ -25,10 +25,10 @@ pub above : (m k : ℕ) → NoneOf m k → m ≤ k
 above zero k h = omega arith
 above (suc m) k h = let i : m ≤ k = above m k (h .0) in let n : k ≡ m → ⊥ = h .1 in omega arith
 
--- no kind is above 8, but 10
-pub no-row : (x : Fields) → 8 < x .kind → (x .kind ≡ 10 → ⊥) → rowFor x ≡ row (x .kind) false (Lock 0 0 false)
+-- no kind is above 10
+pub no-row : (x : Fields) → 10 < x .kind → rowFor x ≡ row (x .kind) false Back
 unfolding rowFor rowOf rows
-no-row x h t =
+no-row x h =
     simp (
       ne-eqb (x .kind) 0 (λ e. omega arith),
       ne-eqb (x .kind) 1 (λ e. omega arith),
@@ -39,5 +39,6 @@ no-row x h t =
       ne-eqb (x .kind) 6 (λ e. omega arith),
       ne-eqb (x .kind) 7 (λ e. omega arith),
       ne-eqb (x .kind) 8 (λ e. omega arith),
-      ne-eqb (x .kind) 10 t,
+      ne-eqb (x .kind) 9 (λ e. omega arith),
+      ne-eqb (x .kind) 10 (λ e. omega arith),
     )

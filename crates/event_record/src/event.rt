@@ -2,6 +2,7 @@
 use crate::Fields;
 use crate::ReadEvent;
 use crate::kinds::row_for;
+use model::Act;
 use model::BallotEvent;
 use model::Event;
 use model::ballot_kind_number;
@@ -17,7 +18,7 @@ ghost use lib.ListN.{length};
 ghost use Rattle.model.specs.Questions.{number};
 ghost use Rattle.records.specs.Codec.{fieldsBy, writeReply, writes};
 ghost use Rattle.records.specs.Promises.{Promises, AskedInSequence};
-ghost use Rattle.event_record.specs.Events.{answerOf, fieldsIn, ballotFields, fieldsOf, eventForm, events, eventLength, readEvent, eventBytes};
+ghost use Rattle.event_record.specs.Events.{answerOf, fieldsIn, ballotFields, eventFields, fieldsOf, eventForm, events, eventLength, readEvent, eventBytes};
 
 // The fields as they stand on the record.
 fn fields_in(s: &[u8]) -> Fields
@@ -45,8 +46,8 @@ pub fn read_event(s: &[u8]) -> ReadEvent
     if !row.listed {
         return ReadEvent::Refused(3);
     }
-    let e = row.event;
-    ReadEvent::Read(e)
+    let act = row.act;
+    ReadEvent::Read(act)
 }
 
 const UNUSED: Fields = Fields {
@@ -85,8 +86,8 @@ fn ballot_fields(event: BallotEvent) -> Fields
 }
 
 // The fields of an event.
-pub fn fields_of(e: Event) -> Fields
-    ensures { λ r. ⌜ r ≡ fieldsOf e ⌝ }
+fn event_fields(e: Event) -> Fields
+    ensures { λ r. ⌜ r ≡ eventFields e ⌝ }
 {
     let unused = UNUSED;
     match e {
@@ -149,11 +150,22 @@ pub fn fields_of(e: Event) -> Fields
     }
 }
 
-// The ten bytes of an event.
-fn event_bytes(e: Event) -> [u8; 10]
-    ensures { λ r. ⌜ r ≡ eventBytes e ⌝ }
+// The fields of an act: of its event, or of a step back.
+pub fn fields_of(act: Act) -> Fields
+    ensures { λ r. ⌜ r ≡ fieldsOf act ⌝ }
 {
-    let x = fields_of(e);
+    let unused = UNUSED;
+    match act {
+        Act::Play(e) => event_fields(e),
+        Act::Back => Fields { kind: 9, ..unused },
+    }
+}
+
+// The ten bytes of an act.
+fn event_bytes(act: Act) -> [u8; 10]
+    ensures { λ r. ⌜ r ≡ eventBytes act ⌝ }
+{
+    let x = fields_of(act);
     [
         low_byte(Event::MARK / 256),
         low_byte(Event::MARK),
@@ -169,10 +181,10 @@ fn event_bytes(e: Event) -> [u8; 10]
 }
 
 // Answers 0, or 1 for a buffer of another length, which is then untouched: there is nothing to ask of an event.
-pub fn write_event(out: &mut [u8], e: Event) -> u8
-    ensures { λ r. ⌜ (r ≡ number (writeReply events (now (out .entry)) e)) × (now (out .exit) ≡ writes events (now (out .entry)) e) ⌝ }
+pub fn write_event(out: &mut [u8], act: Act) -> u8
+    ensures { λ r. ⌜ (r ≡ number (writeReply events (now (out .entry)) act)) × (now (out .exit) ≡ writes events (now (out .entry)) act) ⌝ }
 {
-    let content = event_bytes(e);
+    let content = event_bytes(act);
     write_record(out, &content, 0)
 }
 

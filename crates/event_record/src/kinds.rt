@@ -1,5 +1,6 @@
-// The table of kinds at the fields of an event: which values are listed (flags and kinds among them are, and what is not used is 0), and the event that they stand for.
+// The table of kinds at the fields of an event: which values are listed (flags and kinds among them are, and what is not used is 0), and the event, or the step back, that they stand for.
 use crate::Fields;
+use model::Act;
 use model::BallotEvent;
 use model::Event;
 use records::ballot_kind_of;
@@ -84,6 +85,12 @@ fn other_listed(b: u8, c: u8, value: u32) -> bool
     b == 0 && rest_unused(c, value)
 }
 
+fn step_back_listed(a: u8, b: u8, c: u8, value: u32) -> bool
+    ensures { λ r. ⌜ r ≡ (unused a && unused b && unused c && unused value) ⌝ }
+{
+    order_listed(a, b, c) && value == 0
+}
+
 fn opening_listed(b: u8, c: u8) -> bool
     ensures { λ r. ⌜ r ≡ (unused b && unused c) ⌝ }
 {
@@ -98,76 +105,76 @@ fn opening(id: u8, ballot: u32) -> Event
     Event::OfBallots { event }
 }
 
-// What a record's fields stand for: whether they are listed values, and the event if they are.
+// What a record's fields stand for: whether they are listed values, and the act if they are.
 pub(crate) struct Row {
     pub listed: bool,
-    pub event: Event,
+    pub act: Act,
 }
 
 // The row of a record's kind, at its fields. Question 3: is the kind a listed value, and do the other fields suit it?
 pub(crate) fn row_for(x: Fields) -> Row
-    ensures { λ r. ⌜ (r .listed ≡ rowFor x .listed) × (r .event ≡ rowFor x .value) ⌝ }
+    ensures { λ r. ⌜ (r .listed ≡ rowFor x .listed) × (r .act ≡ rowFor x .value) ⌝ }
 {
     let kind = x.kind;
     match kind {
         0 => Row {
             listed: lock_listed(x.c, x.value),
-            event: Event::Lock {
+            act: Act::Play(Event::Lock {
                 n: x.a,
                 f: x.b,
                 own: flag_of(x.c),
-            },
+            }),
         },
         1 => Row {
             listed: order_listed(x.a, x.b, x.c),
-            event: Event::Order { number: x.value },
+            act: Act::Play(Event::Order { number: x.value }),
         },
         2 => Row {
             listed: vote_listed(x.b, x.c),
-            event: Event::Cast {
+            act: Act::Play(Event::Cast {
                 id: x.a,
                 willing: flag_of(x.b),
                 target: x.value,
-            },
+            }),
         },
         3 => Row {
             listed: delivery_listed(x.c, x.value),
-            event: delivery(x.a, x.b, x.c, x.value),
+            act: Act::Play(delivery(x.a, x.b, x.c, x.value)),
         },
         4 => Row {
             listed: other_listed(x.b, x.c, x.value),
-            event: Event::Timeout { id: x.a },
+            act: Act::Play(Event::Timeout { id: x.a }),
         },
         5 => Row {
             listed: decision_listed(x.b, x.c, x.value),
-            event: Event::Decide {
+            act: Act::Play(Event::Decide {
                 id: x.a,
                 to_move: flag_of(x.b),
-            },
+            }),
         },
         6 => Row {
             listed: other_listed(x.b, x.c, x.value),
-            event: Event::Stop { id: x.a },
+            act: Act::Play(Event::Stop { id: x.a }),
         },
         7 => Row {
             listed: other_listed(x.b, x.c, x.value),
-            event: Event::Save { id: x.a },
+            act: Act::Play(Event::Save { id: x.a }),
         },
         8 => Row {
             listed: other_listed(x.b, x.c, x.value),
-            event: Event::Restore { id: x.a },
+            act: Act::Play(Event::Restore { id: x.a }),
+        },
+        9 => Row {
+            listed: step_back_listed(x.a, x.b, x.c, x.value),
+            act: Act::Back,
         },
         10 => Row {
             listed: opening_listed(x.b, x.c),
-            event: opening(x.a, x.value),
+            act: Act::Play(opening(x.a, x.value)),
         },
         _ => Row {
             listed: false,
-            event: Event::Lock {
-                n: 0,
-                f: 0,
-                own: false,
-            },
+            act: Act::Back,
         },
     }
 }

@@ -1,4 +1,4 @@
-// Event records: their reader and writer.
+// Event records: their reader and writer. A record stands for an act: an event, or a step back.
 mod event;
 mod kinds;
 
@@ -8,7 +8,7 @@ pub use event::fields_of;
 pub use event::read_event;
 pub use event::round_trips;
 pub use event::write_event;
-use model::Event;
+use model::Act;
 ghost use Rattle.event_record.specs.ByteForByte.{ByteForByte};
 
 // What stands in an event record after its mark.
@@ -22,11 +22,11 @@ pub struct Fields {
 
 // A record, or the number of the first question that was answered "no".
 pub enum ReadEvent {
-    Read(Event),
+    Read(Act),
     Refused(u8),
 }
 
-// Events of document 02, U14, byte for byte, and bytes with one fault each.
+// Events of document 02, U14, and the step back of U11, byte for byte, and bytes with one fault each.
 pub fn byte_for_byte()
     ensures { λ _. ⌜ ByteForByte ⌝ }
 {}

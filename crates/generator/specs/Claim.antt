@@ -3,6 +3,7 @@ use Prim.Native.Nat.{ℕ, zero, suc, _+_, _*_, _^_, _<_}
 use mathlib.Core.Bool.{false}
 use mathlib.Core.Path.{_≡_}
 use lib.ListN.{length, getD}
+use Rattle.model.specs.declared.Act.the-variants.{Play}
 use Rattle.model.specs.declared.Event.the-variants.{Lock}
 use Rattle.event_record.specs.Events.{eventLength}
 use Rattle.event_record.specs.declared.ReadEvent.the-variants.{Read}
@@ -23,7 +24,7 @@ stateAfter n (suc k) s = stateAfter n k (drawnEvent n s .state)
 pub record Files : Type 0 where
   -- each record reads, and as the event that was written there
   pub reads : (n f count start k : ℕ) → k < recordsIn n count
-      → recordAt (fileOf n f count start) (eventLength * k) ≡ Read (getD (eventsOf n f count start) k (Lock n f false))
+      → recordAt (fileOf n f count start) (eventLength * k) ≡ Read (Play (getD (eventsOf n f count start) k (Lock n f false)))
   -- ten bytes for each record
   pub long : (n f count start : ℕ) → length (fileOf n f count start) ≡ eventLength * recordsIn n count
   -- a state is never 0 again

@@ -4,7 +4,7 @@ use mathlib.Core.Path.{_≡_, refl}
 use lib.Dec.{eqb, ltb}
 use mathlib.Core.Bool.{cond}
 use Rattle.ground.specs.Tests.{by-cond}
-use Rattle.event_record.specs.Events.{fieldsOf}
+use Rattle.event_record.specs.Events.{eventFields}
 use Rattle.model.specs.declared.Event.{Event}
 use Rattle.model.specs.declared.Event.the-variants.{Stop, Save, Restore}
 use Rattle.xorshift.specs.Xorshift.{draw}
@@ -21,16 +21,16 @@ by-chosen P n s a b c d =
     (λ _. by-cond P (ltb (s % 10) 9) (decision n s) (interrupted n (draw s)) (λ _. c) (λ _. d)))
 
 -- what a drawn event writes as value
-interruption-value : (s id : ℕ) → fieldsOf (interruption s id) .value ≡ 0
-unfolding interruption fieldsOf
+interruption-value : (s id : ℕ) → eventFields (interruption s id) .value ≡ 0
+unfolding interruption eventFields
 interruption-value s id =
-    by-cond (λ (e : Event). fieldsOf e .value ≡ 0) (eqb (s % 3) 0) (Stop id) (cond (eqb (s % 3) 1) (Save id) (Restore id)) (λ _. refl)
-    (λ _. by-cond (λ (e : Event). fieldsOf e .value ≡ 0) (eqb (s % 3) 1) (Save id) (Restore id) (λ _. refl) (λ _. refl))
+    by-cond (λ (e : Event). eventFields e .value ≡ 0) (eqb (s % 3) 0) (Stop id) (cond (eqb (s % 3) 1) (Save id) (Restore id)) (λ _. refl)
+    (λ _. by-cond (λ (e : Event). eventFields e .value ≡ 0) (eqb (s % 3) 1) (Save id) (Restore id) (λ _. refl) (λ _. refl))
 
-pub drawn-value : (n s : ℕ) → fieldsOf (drawnEvent n s .event) .value ≡ 0
-unfolding drawnEvent delivery timeout decision interrupted fieldsOf
+pub drawn-value : (n s : ℕ) → eventFields (drawnEvent n s .event) .value ≡ 0
+unfolding drawnEvent delivery timeout decision interrupted eventFields
 drawn-value n s =
-    by-chosen (λ (d : Drawn). fieldsOf (d .event) .value ≡ 0) n (draw s) refl refl refl (interruption-value (draw (draw s)) _)
+    by-chosen (λ (d : Drawn). eventFields (d .event) .value ≡ 0) n (draw s) refl refl refl (interruption-value (draw (draw s)) _)
 
 -- the state after an event, from a state that is not 0
 pub drawn-state : Draws → (n s : ℕ) → 0 < s → s < 2 ^ 32 → (0 < drawnEvent n s .state) × (drawnEvent n s .state < 2 ^ 32)

@@ -1,15 +1,20 @@
 -- The file of a starting number. Document 02, U6.
 use Prim.Native.Nat.{ℕ, zero, suc}
 use mathlib.Core.Bool.{true, false, not, _&&_}
-use mathlib.Core.List.{List, [], _∷_, _++_}
+use mathlib.Core.List.{List, [], _∷_, _++_, map}
 use lib.Dec.{eqb, leb}
 use lib.ListN.{length}
+use Rattle.model.specs.declared.Act.the-variants.{Play}
 use Rattle.model.specs.declared.Event.{Event}
 use Rattle.model.specs.declared.Event.the-variants.{Lock, Order, Cast}
 use Rattle.model.specs.Questions.{Reply, accepted, refused, Question, ask, firstNo}
 use Rattle.model.specs.Ranges.{sizesInRange}
 use Rattle.event_record.specs.Events.{recordsOf}
 use Rattle.generator.specs.Drawing.{drawnEvent}
+
+-- the records of events: no step back is drawn
+abbrev pub eventRecords : List Event → List ℕ
+eventRecords es = recordsOf (map Play es)
 
 -- "all votes willing with target 0 in rising number": those of 1 to k
 unfoldable pub votesTo : ℕ → List Event
@@ -26,7 +31,7 @@ unfoldable pub eventsOf : ℕ → ℕ → ℕ → ℕ → List Event
 eventsOf n f count start = Lock n f false ∷ Order 1 ∷ (votesTo n ++ drawnFrom n count start)
 
 abbrev pub fileOf : ℕ → ℕ → ℕ → ℕ → List ℕ
-fileOf n f count start = recordsOf (eventsOf n f count start)
+fileOf n f count start = eventRecords (eventsOf n f count start)
 
 -- "a wanted count of drawn events, 4,000 at most"
 abbrev pub mostDrawn : ℕ

@@ -1,6 +1,7 @@
 // The file of a starting number, in a lent buffer.
 use crate::drawing::drawn_event;
 use event_record::write_event;
+use model::Act;
 use model::Event;
 use model::sizes_in_range;
 use text::put_bytes;
@@ -8,8 +9,9 @@ ghost use mathlib.Core.Path.{_≡_};
 ghost use Prim.Native.Nat.{_*_, _<_};
 ghost use Rattle.text.specs.Writing.{Put};
 ghost use Rattle.model.specs.Questions.{number};
-ghost use Rattle.event_record.specs.Events.{eventLength, eventBytes, recordsOf};
-ghost use Rattle.generator.specs.File.{votesTo, drawnFrom, fileOf, refusalOf, replyTo, generated};
+ghost use Rattle.model.specs.declared.Act.the-variants.{Play};
+ghost use Rattle.event_record.specs.Events.{eventLength, eventBytes};
+ghost use Rattle.generator.specs.File.{eventRecords, votesTo, drawnFrom, fileOf, refusalOf, replyTo, generated};
 ghost use Rattle.generator.specs.Claim.{recordsIn, Files};
 
 // The most events that are drawn.
@@ -24,16 +26,16 @@ pub fn file_length(n: u8, count: u32) -> usize
 
 // The record of an event, into a buffer from an index on.
 fn put_record(out: &mut [u8], at: usize, e: Event) -> usize
-    ensures { λ r. ⌜ Put (now (out .entry)) (now (out .exit)) at r (eventBytes e) ⌝ }
+    ensures { λ r. ⌜ Put (now (out .entry)) (now (out .exit)) at r (eventBytes (Play e)) ⌝ }
 {
     let mut record = [0u8; Event::LENGTH];
-    write_event(&mut record, e);
+    write_event(&mut record, Act::Play(e));
     put_bytes(&mut *out, at, &record)
 }
 
 // All votes, willing, in rising number.
 fn put_votes(out: &mut [u8], at: usize, n: u8) -> usize
-    ensures { λ r. ⌜ Put (now (out .entry)) (now (out .exit)) at r (recordsOf (votesTo n)) ⌝ }
+    ensures { λ r. ⌜ Put (now (out .entry)) (now (out .exit)) at r (eventRecords (votesTo n)) ⌝ }
 {
     let mut next = at;
     let mut k: u8 = 0;
@@ -52,7 +54,7 @@ fn put_votes(out: &mut [u8], at: usize, n: u8) -> usize
 // The drawn events.
 fn put_drawn(out: &mut [u8], at: usize, n: u8, count: u32, start: u32) -> usize
     requires { ⌜ 0 < n ⌝ }
-    ensures { λ r. ⌜ Put (now (out .entry)) (now (out .exit)) at r (recordsOf (drawnFrom n count start)) ⌝ }
+    ensures { λ r. ⌜ Put (now (out .entry)) (now (out .exit)) at r (eventRecords (drawnFrom n count start)) ⌝ }
 {
     let mut next = at;
     let mut state = start;

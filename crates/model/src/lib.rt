@@ -116,6 +116,12 @@ pub enum Event {
     OfBallots { event: BallotEvent },
 }
 
+// What a schedule has: an event, or a step back (kind 9; document 02, U11). It stands above events: no rule and no question of one knows of it.
+pub enum Act {
+    Play(Event),
+    Back,
+}
+
 impl Telegram {
     // the short forms, for locks of up to so many controllers: of a plain telegram, and of one of a ballot
     pub const SHORT_LIMIT: u8 = 16;

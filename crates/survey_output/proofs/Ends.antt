@@ -1,6 +1,6 @@
 -- What the end of a schedule shows: who is stopped, who ended how, and how many messages at most.
 use Prim.Native.Nat.{ℕ, zero, suc, _+_, _*_, _≤_}
-use mathlib.Core.Path.{_≡_, refl, _∙_, ap}
+use mathlib.Core.Path.{_≡_, refl, sym, _∙_, ap, subst}
 use mathlib.Core.Bool.{true, not}
 use mathlib.Core.List.{List}
 use native.Mathlib.Nat.{suc-mul}
@@ -24,6 +24,10 @@ use Rattle.protocol.proofs.claim.Reach.{controllers-limit}
 use Rattle.protocol.proofs.claim.Reached.{reach}
 use Rattle.bench_report.specs.declared.Row.{Row}
 use Rattle.bench_summary.specs.Summary.{summaryOf, shows}
+use Rattle.generator.specs.File.{fileOf}
+use Rattle.steps_back.specs.Memory.{left}
+use Rattle.steps_back.proofs.Moments.{as-left}
+use Rattle.bench_run.specs.Schedule.{acts}
 use Rattle.survey.specs.Ended.{rowOf, isPresent}
 use Rattle.survey.specs.Surveys.{allKinds}
 use Rattle.survey_output.specs.Schedules.{benchOf, endOf}
@@ -36,9 +40,13 @@ stage-of-stopped (Running p) h = rw (ne-eqb (p .phase) 8 (λ e. omega arith))
 stage-of-stopped Stopped h = refl
 stage-of-stopped (Standby o) h = refl
 
+-- the bench at the end is that of the events left
+stages-of : (n f count g i : ℕ) → phaseIn ((controller (benchOf n f count g) i) .condition) ≤ 3
+stages-of n f count g i = subst (λ (b : Bench). phaseIn ((controller b i) .condition) ≤ 3) (sym (as-left (acts (fileOf n f count g)))) (reach .stages (left (acts (fileOf n f count g))) i)
+
 pub all-shown : AsShown
 all-shown = record {
-  present = λ n f count g i. ap isPresent (shows (benchOf n f count g) i) ∙ stage-of-stopped ((controller (benchOf n f count g) i) .condition) (reach .stages _ i);
+  present = λ n f count g i. ap isPresent (shows (benchOf n f count g) i) ∙ stage-of-stopped ((controller (benchOf n f count g) i) .condition) (stages-of n f count g i);
   ended = λ n f count g i. ap (λ (r : Row). r .outcome) (shows (benchOf n f count g) i);
 }
 
@@ -61,4 +69,4 @@ unfolding summaryOf
 few-messages es = omega (arith, few-of-kind es Vote, few-of-kind es Ack, few-of-kind es Help, few-of-kind es Helped)
 
 pub few-at-end : (n f count g : ℕ) → allKinds (endOf n f count g .messages) ≤ mostOfOne
-few-at-end n f count g = few-messages _
+few-at-end n f count g = subst (λ (b : Bench). allKinds (summaryOf b .messages) ≤ mostOfOne) (sym (as-left (acts (fileOf n f count g)))) (few-messages (left (acts (fileOf n f count g))))

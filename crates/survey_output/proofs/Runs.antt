@@ -17,10 +17,9 @@ use Rattle.generator.specs.Output.{longestOutput}
 use Rattle.generator.specs.OutputLaws.{limits}
 use Rattle.generator.specs.FileLaws.{length-file}
 use Rattle.generator.specs.ReplyLaws.{file-reply}
-use Rattle.protocol.specs.Benches.{newBench}
-use Rattle.protocol.specs.Steps.{run}
+use Rattle.steps_back.specs.Claim.{bench}
 use Rattle.bench_run.specs.declared.RunResult.{RunResult}
-use Rattle.bench_run.specs.Schedule.{count, events}
+use Rattle.bench_run.specs.Schedule.{count, acts}
 use Rattle.bench_run.specs.Runs.{runOf}
 use Rattle.bench_report.specs.Limits.{mostAnswers}
 use Rattle.bench_summary.specs.Summary.{summaryOf}
@@ -49,7 +48,7 @@ module _ (n f c g : ℕ) (ok : refusalOf n f c g ≡ accepted) where
   all-run s out e l =
       let short : length s ≤ longestOutput = file-fits (length s) (ap length e ∙ length-file n f c g) in
       let room : leb (count s) (length out) ≡ true = le-leb (count s) (length out) (omega (arith, short, l)) in
-      rw room (ap (λ (x : List ℕ). summaryOf (run newBench (events x))) e)
+      rw room (ap (λ (x : List ℕ). summaryOf (bench (acts x))) e)
 
 -- the buffer holds the files of an accepted record
 pub buffer-holds : (n f c s k r : ℕ) → Accepted n f c s k → r ≡ eventLength * recordsIn n c → r ≤ longestOutput

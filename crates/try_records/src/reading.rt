@@ -85,10 +85,10 @@ fn checkpoint_line(s: &[u8]) -> Line {
 
 fn event_line(s: &[u8]) -> Line {
     let read = event_record::read_event(s);
-    let ReadEvent::Read(e) = read else {
+    let ReadEvent::Read(act) = read else {
         return refused(event_record::answer_of(read));
     };
-    let x = event_record::fields_of(e);
+    let x = event_record::fields_of(act);
     let mut line = begin(b'=');
     line = put_number(line, x.kind as u32);
     line = put_number(line, x.a as u32);

@@ -119,15 +119,15 @@ fn checkpoint_line(x: &[u8], out: &mut [u8]) -> Line
     written(q, out)
 }
 
-// The fields are those of a record, so reading makes the event of them.
+// The fields are those of a record, so reading makes the event, or the step back, of them.
 fn event_line(x: &[u8], out: &mut [u8]) -> Line
     requires { ⌜ length (now x) ≡ 38 ⌝ }
 {
     let record = [0x4Cu8, 0x45, x[0], x[1], x[2], x[3], x[4], x[5], x[6], x[7]];
-    let ReadEvent::Read(e) = event_record::read_event(&record) else {
+    let ReadEvent::Read(act) = event_record::read_event(&record) else {
         return unlisted();
     };
-    let q = event_record::write_event(out, e);
+    let q = event_record::write_event(out, act);
     written(q, out)
 }
 

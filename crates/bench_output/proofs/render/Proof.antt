@@ -7,17 +7,15 @@ use native.Mathlib.Omega.{arith}
 use lib.ListN.{length, take, replicate, length-replicate}
 use lib.Seq.{length-take-le}
 use borrow.Author.Needs.{needs}
-use Rattle.protocol.specs.Benches.{newBench}
-use Rattle.protocol.specs.Steps.{run}
 use Rattle.bench_run.specs.declared.RunResult.{RunResult}
-use Rattle.bench_run.specs.Schedule.{count, events}
+use Rattle.bench_run.specs.Schedule.{count}
 use Rattle.bench_run.specs.Runs.{answers, endOf}
 use Rattle.text.specs.WritingLaws.{same-fitted, rendered}
 use Rattle.bench_report.specs.declared.Summary.{Summary}
 use Rattle.bench_report.specs.Limits.{mostAnswers, isTooLong}
 use Rattle.bench_report.specs.Report.{reported}
 use Rattle.bench_summary.specs.Summary.{summaryOf}
-use Rattle.bench_output.specs.Output.{outputOf}
+use Rattle.bench_output.specs.Output.{benchAfter, outputOf}
 use Rattle.bench_output.proofs.Texts.{is-too-long, few-answers, few, counted, all-run, all-answered, is-report}
 use Rattle.bench_output.proofs.render.Statement.{statement}
 use Rattle.bench_output.proofs.render.Tie as tie
@@ -57,7 +55,7 @@ short c = sym (c .before .before .before .is-too-long .ensures) ∙ c .before .b
 room : length empty ≡ mostAnswers
 room = length-replicate {A = ℕ} mostAnswers 0
 
-ran : (c : tie.After-run) → c .run .result ≡ endOf true (count (schedule c)) (run newBench (events (schedule c)))
+ran : (c : tie.After-run) → c .run .result ≡ endOf true (count (schedule c)) (benchAfter (schedule c))
 ran c = c .run .ensures .result ∙ all-run (schedule c) (short c) empty room
 
 all-counted : (c : tie.After-run) → c .run .result .count ≡ count (schedule c)
@@ -88,11 +86,11 @@ returns-2 : tie.Need-returns-2
 returns-2 c =
     let r = c .before .before .before .before .before .before .before in
     let s = schedule r in
-    let summary : r .run .result .summary ≡ summaryOf (run newBench (events s)) = ap (λ (x : RunResult). x .summary) (ran r) in
+    let summary : r .run .result .summary ≡ summaryOf (benchAfter s) = ap (λ (x : RunResult). x .summary) (ran r) in
     let text : reported (take (r .run .result .count) (r .run .last .1 .0)) (r .run .result .summary) ≡ outputOf s =
     ap (λ (x : List ℕ). reported x (r .run .result .summary)) (given r)
     ∙ ap (λ (x : Summary). reported (answers s) x) summary
-    ∙ few (answers s) (summaryOf (run newBench (events s))) (few-answers s (short r))
+    ∙ few (answers s) (summaryOf (benchAfter s)) (few-answers s (short r))
     ∙ sym (is-report s (short r)) in
     rendered _ _ (same-fitted _ text (c .before .before .write-report .ensures))
 

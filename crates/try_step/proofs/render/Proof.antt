@@ -1,5 +1,5 @@
--- `render` is safe and ends, and what it answers lies within the buffer: there are at most as many records as answers.
-use Prim.Native.Nat.{_≤_, _-_}
+-- `render` is safe and ends, and what it answers lies within the buffer: there are at most as many records as answers, and each bench is laid at one of the ring's places.
+use Prim.Native.Nat.{_≤_, _<_, _-_}
 use mathlib.Core.Path.{_≡_, sym, _∙_}
 use native.Mathlib.Omega.{arith}
 use lib.ListN.{length}
@@ -12,10 +12,10 @@ use Rattle.try_step.proofs.render.Statement.{statement}
 use Rattle.try_step.proofs.render.Tie as tie
 
 abbrev Inv-loop : tie.InvT-loop
-Inv-loop s out answers₀ b₀ k₀ answers b k = (k ≤ mostAnswers) × (length s ≤ longestSchedule) × (length answers ≡ mostAnswers)
+Inv-loop s out answers₀ b₀ past₀ at₀ count₀ k₀ answers b past at count k = (k ≤ mostAnswers) × (length s ≤ longestSchedule) × (length answers ≡ mostAnswers) × (length past ≡ 65) × (at < 65)
 
 abbrev μ-loop : tie.MeasureT-loop
-μ-loop s out answers₀ b₀ k₀ answers b k = mostAnswers - k
+μ-loop s out answers₀ b₀ past₀ at₀ count₀ k₀ answers b past at count k = mostAnswers - k
 
 is-too-long-requires : tie.Need-is-too-long-requires Inv-loop μ-loop
 is-too-long-requires c κs = search needs
@@ -33,10 +33,25 @@ new-bench-requires : tie.Need-new-bench-requires Inv-loop μ-loop
 new-bench-requires c κs = search needs
 
 loop-holds : tie.Need-loop-holds Inv-loop μ-loop
-loop-holds c = (omega arith, ltb-false longestSchedule _ (unfold isTooLong in (sym (c .before .before .is-too-long .ensures) ∙ c .before .if1 .left)), search needs)
+loop-holds c = (omega arith, ltb-false longestSchedule _ (unfold isTooLong in (sym (c .before .before .is-too-long .ensures) ∙ c .before .if1 .left)), search needs, search needs, omega arith)
 
 mul-loop : tie.Need-mul-loop Inv-loop μ-loop
 mul-loop c = omega arith
+
+mul-past : tie.Need-mul-past Inv-loop μ-loop
+mul-past c = omega arith
+
+array-set-from-past : tie.Need-array-set-from-past Inv-loop μ-loop
+array-set-from-past c = omega arith
+
+place-before-requires : tie.Need-place-before-requires Inv-loop μ-loop
+place-before-requires c κs = search needs
+
+mul-newest : tie.Need-mul-newest Inv-loop μ-loop
+mul-newest c = omega arith
+
+array-copy-out-newest : tie.Need-array-copy-out-newest Inv-loop μ-loop
+array-copy-out-newest c = search needs
 
 mul-record-at : tie.Need-mul-record-at Inv-loop μ-loop
 mul-record-at c = omega arith
@@ -50,6 +65,12 @@ played-requires c κs = search needs
 array-write-answers : tie.Need-array-write-answers Inv-loop μ-loop
 array-write-answers c = omega arith
 
+place-by-requires : tie.Need-place-by-requires Inv-loop μ-loop
+place-by-requires c κs = search needs
+
+count-by-requires : tie.Need-count-by-requires Inv-loop μ-loop
+count-by-requires c κs = search needs
+
 add-k : tie.Need-add-k Inv-loop μ-loop
 add-k c = omega arith
 
@@ -57,7 +78,7 @@ loop-less : tie.Need-loop-less Inv-loop μ-loop
 loop-less c = omega arith
 
 loop-again : tie.Need-loop-again Inv-loop μ-loop
-loop-again c = (omega arith, search needs, search needs)
+loop-again c = (omega arith, search needs, search needs, search needs, search needs)
 
 array-share-prefix-answers : tie.Need-array-share-prefix-answers Inv-loop μ-loop
 array-share-prefix-answers c = omega arith
@@ -90,10 +111,17 @@ render-spec =
     new-bench-requires
     loop-holds
     mul-loop
+    mul-past
+    array-set-from-past
+    place-before-requires
+    mul-newest
+    array-copy-out-newest
     mul-record-at
     record-at-requires
     played-requires
     array-write-answers
+    place-by-requires
+    count-by-requires
     add-k
     loop-less
     loop-again

@@ -46,6 +46,9 @@ other-listed-requires-3 c κs = search needs
 other-listed-requires-4 : tie.Need-other-listed-requires-4
 other-listed-requires-4 c κs = search needs
 
+step-back-listed-requires : tie.Need-step-back-listed-requires
+step-back-listed-requires c κs = search needs
+
 opening-listed-requires : tie.Need-opening-listed-requires
 opening-listed-requires c κs = search needs
 
@@ -66,7 +69,7 @@ returns-3 c = at-row _ 2 (c .before .before .match .keys3) (c .before .vote-list
 
 returns-4 : tie.Need-returns-4
 unfolding rowOf rows
-returns-4 c = at-row _ 3 (c .before .before .match .keys4) (c .before .delivery-listed .ensures) (c .delivery .ensures)
+returns-4 c = at-row _ 3 (c .before .before .match .keys4) (c .before .delivery-listed .ensures) (rw (c .delivery .ensures))
 
 returns-5 : tie.Need-returns-5
 unfolding rowOf rows
@@ -90,10 +93,14 @@ returns-9 c = at-row _ 8 (c .before .match .keys9) (c .other-listed4 .ensures) r
 
 returns-10 : tie.Need-returns-10
 unfolding rowOf rows
-returns-10 c = at-row _ 10 (c .before .before .match .keys10) (c .before .opening-listed .ensures) (c .opening .ensures)
+returns-10 c = at-row _ 9 (c .before .match .keys10) (c .step-back-listed .ensures) refl
 
 returns-11 : tie.Need-returns-11
-returns-11 c = rw (no-row (c .before .args .x) (above 9 (c .before .args .x .kind) (c .match .rest .0)) (c .match .rest .1)) (refl, refl)
+unfolding rowOf rows
+returns-11 c = at-row _ 10 (c .before .before .match .keys11) (c .before .opening-listed .ensures) (rw (c .opening .ensures))
+
+returns-12 : tie.Need-returns-12
+returns-12 c = rw (no-row (c .before .args .x) (above 11 (c .before .args .x .kind) (c .match .rest))) (refl, refl)
 
 pub row-for-spec : {M : Type 1} → statement M
 row-for-spec =
@@ -112,6 +119,7 @@ row-for-spec =
     other-listed-requires-2
     other-listed-requires-3
     other-listed-requires-4
+    step-back-listed-requires
     opening-listed-requires
     opening-requires
     returns
@@ -124,4 +132,5 @@ row-for-spec =
     returns-8
     returns-9
     returns-10
-    returns-11)
+    returns-11
+    returns-12)

@@ -1,14 +1,13 @@
 use native.Mathlib.Omega.{arith}
 use borrow.Author.Needs.{needs}
 use Rattle.text.specs.WritingLaws.{put-length}
-use Rattle.event_record.specs.Events.{recordsOf}
-use Rattle.generator.specs.File.{drawnFrom}
+use Rattle.generator.specs.File.{eventRecords, drawnFrom}
 use Rattle.generator.proofs.Remaining.{Remaining, none-yet, one-more, none-left}
 use Rattle.generator.proofs.file.put_drawn.Statement.{statement}
 use Rattle.generator.proofs.file.put_drawn.Tie as tie
 
 abbrev Inv-loop : tie.InvT-loop
-Inv-loop out₀ at n count start next₀ state₀ left₀ out next state left = Remaining out₀ out at next (recordsOf (drawnFrom n left state)) (recordsOf (drawnFrom n count start))
+Inv-loop out₀ at n count start next₀ state₀ left₀ out next state left = Remaining out₀ out at next (eventRecords (drawnFrom n left state)) (eventRecords (drawnFrom n count start))
 
 abbrev μ-loop : tie.MeasureT-loop
 μ-loop out₀ at n count start next₀ state₀ left₀ out next state left = left

@@ -3,15 +3,14 @@ use native.Mathlib.Omega.{arith}
 use borrow.Author.Needs.{needs}
 use Rattle.text.specs.Writing.{Put}
 use Rattle.text.specs.WritingLaws.{put-then, put-text, put-length}
-use Rattle.event_record.specs.Events.{recordsOf}
-use Rattle.generator.specs.File.{votesTo}
+use Rattle.generator.specs.File.{eventRecords, votesTo}
 use Rattle.generator.specs.FileLaws.{one-vote-more}
 use Rattle.generator.proofs.Votes.{put-no-votes, put-votes-to}
 use Rattle.generator.proofs.file.put_votes.Statement.{statement}
 use Rattle.generator.proofs.file.put_votes.Tie as tie
 
 abbrev Inv-loop : tie.InvT-loop
-Inv-loop out₀ at n next₀ k₀ out next k = (k ≤ n) × Put out₀ out at next (recordsOf (votesTo k))
+Inv-loop out₀ at n next₀ k₀ out next k = (k ≤ n) × Put out₀ out at next (eventRecords (votesTo k))
 
 abbrev μ-loop : tie.MeasureT-loop
 μ-loop out₀ at n next₀ k₀ out next k = n - k

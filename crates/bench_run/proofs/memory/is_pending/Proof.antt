@@ -1,0 +1,19 @@
+use mathlib.Core.Path.{refl, sym, ap, _∙_}
+use borrow.Author.Tests.{not-true, not-false, eq-eqb, ne-eqb, lt-ltb, le-ltb}
+use Rattle.bench_run.specs.Memory.{placeOf}
+use borrow.Author.Needs.{needs}
+use Rattle.bench_run.proofs.memory.is_pending.Statement.{statement}
+use Rattle.bench_run.proofs.memory.is_pending.Tie as tie
+use Rattle.bench_run.proofs.memory.is_pending.Reads as reads
+use Rattle.bench_run.proofs.memory.is_pending.Lts as lts
+
+-- src/memory.rt:36:1
+returns : tie.Need-returns
+returns c = rw (c .if1 .taken) refl
+
+-- src/memory.rt:36:1
+returns-2 : tie.Need-returns-2
+returns-2 c = search needs
+
+pub is-pending-spec : {M : Type 1} → statement M
+is-pending-spec = tie.close (tie.spec returns returns-2)

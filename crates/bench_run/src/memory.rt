@@ -1,0 +1,147 @@
+// What a run remembers, so that steps can be taken back (document 02, U11): the places of the last events that are left, and two benches on the way.
+// A step back sets the bench to the kept one at the front of its page of events, and plays the page again up to the event that is undone.
+use crate::Next;
+use crate::Pause;
+use event_record::ReadEvent;
+use model::Act;
+use protocol::Bench;
+use schedule_reader::record_at;
+ghost use mathlib.Core.Path.{_≡_};
+ghost use mathlib.Core.Bool.{_&&_};
+ghost use Prim.Native.Nat.{_-_, _≤_, _<_};
+ghost use lib.Dec.{ltb};
+ghost use lib.ListN.{length};
+ghost use Rattle.schedule_reader.specs.Pieces.{recordAt};
+ghost use Rattle.bench_run.specs.Memory.{placeOf, nextOf, nextAt, remembered, backNumber, BackTaken, keptOf, ringSize};
+
+// So many events are a page, and so many steps can be taken back.
+pub(crate) const PAGE: usize = 64;
+
+// Two pages of places are kept.
+pub(crate) const RING: usize = 128;
+
+// Where the record lies that is played now: that of an event which is played again, or the next one.
+pub(crate) fn place_of(ring: &[usize], noted: usize, k: usize, left: usize) -> usize
+    requires { ⌜ (length (now ring) ≡ ringSize) × (k < noted → noted - k ≤ left) ⌝ }
+    ensures { λ r. ⌜ r ≡ placeOf (now (ring .entry)) noted k left ⌝ }
+{
+    if k < noted {
+        let i = (left - (noted - k)) % RING;
+        return ring[i];
+    }
+    k
+}
+
+// Is it still to be noted what the record before came to?
+pub(crate) fn is_pending(remembers: bool, noted: usize, k: usize) -> bool
+    ensures { λ r. ⌜ r ≡ (remembers && ltb noted k) ⌝ }
+{
+    remembers && noted < k
+}
+
+fn next_of(read: ReadEvent) -> Next
+    ensures { λ r. ⌜ r ≡ nextOf read ⌝ }
+{
+    match read {
+        ReadEvent::Refused(q) => Next::Other(Pause::Refused(q)),
+        ReadEvent::Read(act) => match act {
+            Act::Play(e) => Next::Play(e),
+            Act::Back => Next::Other(Pause::Back),
+        },
+    }
+}
+
+// What comes next: a note, if one is due, and else the record at a place.
+pub(crate) fn next_at(s: &[u8], at: usize, pending: bool) -> Next
+    ensures { λ r. ⌜ r ≡ nextAt pending (recordAt (now (s .entry)) at) ⌝ }
+{
+    if pending {
+        return Next::Other(Pause::Note);
+    }
+    next_of(record_at(s, at))
+}
+
+// How many steps can be taken back after one more event; the first one is the lock, which none undoes.
+pub(crate) fn remembered(undoable: usize, left: usize) -> usize
+    ensures { λ r. ⌜ r ≡ remembered undoable left ⌝ }
+{
+    if left == 0 {
+        return 0;
+    }
+    if undoable < PAGE {
+        return undoable + 1;
+    }
+    PAGE
+}
+
+// The questions of a step back, in their sequence: 5 and 26.
+pub(crate) fn back_question(locked: bool, undoable: usize) -> u8
+    ensures { λ r. ⌜ r ≡ backNumber locked undoable ⌝ }
+{
+    if !locked {
+        return 5;
+    }
+    if undoable == 0 {
+        return 26;
+    }
+    0
+}
+
+// What a step back leaves of what a run remembers.
+pub(crate) struct Taken {
+    pub answer: u8,
+    pub k: usize,
+    pub noted: usize,
+    pub left: usize,
+    pub undoable: usize,
+}
+
+// A step back, k records being played with it. The first one of a schedule sets the run to the front again, now with a memory. One that is accepted sets it to
+// the front of the page in which the event stood that is undone.
+pub(crate) fn step_back(
+    remembers: bool,
+    locked: bool,
+    undoable: usize,
+    left: usize,
+    k: usize,
+) -> Taken
+    requires { ⌜ (1 ≤ k) × (undoable ≤ left - 1) × (left ≤ k) ⌝ }
+    ensures { λ r. ⌜ BackTaken remembers locked undoable left k (r .answer) (r .k) (r .noted) (r .left) (r .undoable) ⌝ }
+{
+    if !remembers {
+        return Taken {
+            answer: 0,
+            k: 0,
+            noted: 0,
+            left: 0,
+            undoable: 0,
+        };
+    }
+    let answer = back_question(locked, undoable);
+    if answer != 0 {
+        return Taken {
+            answer,
+            k,
+            noted: k - 1,
+            left,
+            undoable,
+        };
+    }
+    Taken {
+        answer,
+        k: k - (left - 1) % PAGE,
+        noted: k,
+        left: left - 1,
+        undoable: undoable - 1,
+    }
+}
+
+// The bench that is kept at the front of a page: pages go to the two in turn.
+pub(crate) fn kept_of(left: usize, even: Bench, odd: Bench) -> Bench
+    ensures { λ r. ⌜ r ≡ keptOf left even odd ⌝ }
+{
+    if left % RING < PAGE {
+        return even;
+    }
+    odd
+}

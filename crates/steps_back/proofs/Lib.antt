@@ -1,0 +1,4 @@
+pub mod Theorem
+pub mod Moments
+pub mod Readings
+pub mod Computed

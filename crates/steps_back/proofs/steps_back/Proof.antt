@@ -1,0 +1,20 @@
+use borrow.Author.Needs.{needs}
+use Rattle.steps_back.proofs.Readings.{all}
+use Rattle.steps_back.proofs.steps_back.Statement.{statement}
+use Rattle.steps_back.proofs.steps_back.Tie as tie
+
+demand-3-requires : tie.Need-demand-3-requires
+demand-3-requires c κs = search needs
+
+termination-requires : tie.Need-termination-requires
+termination-requires c κs = search needs
+
+clean-messages-requires : tie.Need-clean-messages-requires
+clean-messages-requires c κs = search needs
+
+returns : tie.Need-returns
+returns c = all (c .before .before .demand-3 .ensures) (c .before .termination .ensures) (c .clean-messages .ensures)
+
+pub steps-back-spec : {M : Type 1} → statement M
+steps-back-spec =
+    tie.close (tie.spec demand-3-requires termination-requires clean-messages-requires returns)

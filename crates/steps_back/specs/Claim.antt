@@ -1,0 +1,119 @@
+-- STEPS BACK: what is claimed of every list of acts, events and steps back, that a new bench is given, refused ones included. To be held against
+-- document 02, U11. It has no premise. `steps_back` in src/lib.rt has it as its contract; the proof is in proofs/.
+use Prim.Native.Nat.{ℕ, suc, _+_, _*_, _≤_, min}
+use mathlib.Core.Path.{_≡_}
+use mathlib.Core.Bool.{Bool, true, false}
+use mathlib.Core.List.{List, [], _∷_, _++_, map}
+use lib.ListN.{length}
+use Rattle.model.specs.Numbers.{isNone}
+use Rattle.model.specs.Questions.{accepted, refused}
+use Rattle.model.specs.declared.Kind.the-variants.{Vote, Ack, Help, Helped}
+use Rattle.model.specs.declared.Outcome.{Outcome}
+use Rattle.model.specs.declared.Outcome.the-variants.{Stay, Move}
+use Rattle.model.specs.declared.Event.{Event}
+use Rattle.model.specs.declared.Event.the-variants.{Lock, Timeout, Restore}
+use Rattle.protocol.specs.declared.Bench.{Bench}
+use Rattle.protocol.specs.Questions.{reply}
+use Rattle.protocol.specs.Display.{shownOutcome, shownPosition, messageCount}
+use Rattle.protocol.specs.Claim.{after, SameOrder, IsSecondTimeout, Clean, AllWilling, OneUnwilling, WillingVote}
+use Rattle.protocol.specs.Termination.{Premise, Meets, RunsAt}
+use Rattle.protocol.specs.CleanMessages.{CleanEnd}
+use Rattle.steps_back.specs.Memory.{Remembering, newRemembering, answer, runActs, left}
+use Rattle.model.specs.declared.Act.{Act}
+use Rattle.model.specs.declared.Act.the-variants.{Play, Back}
+
+-- A moment is the time after any act: the list of acts up to there. The bench at it, with and without what is remembered; how many events are remembered.
+abbrev pub at : List Act → Remembering
+at acts = runActs newRemembering acts
+
+abbrev pub bench : List Act → Bench
+bench acts = (at acts) .bench
+
+abbrev pub remembers : List Act → ℕ
+remembers acts = length ((at acts) .past)
+
+abbrev pub Accepted : List Act → Act → Type 0
+Accepted acts a = answer (at acts) a ≡ accepted
+
+abbrev pub NoLock : Event → Type 0
+NoLock e = (n f : ℕ) (own : Bool) → e ≡ Lock n f own → ⊥
+
+-- the event e was accepted in these acts, at a moment at which the events es were left
+pub record Came (acts : List Act) (es : List Event) (e : Event) : Type 0 where
+  pub before : List Act
+  pub since : List Act
+  pub parts : acts ≡ before ++ (Play e ∷ since)
+  pub taken : Accepted before (Play e)
+  pub was-left : left before ≡ es
+
+-- what a step back after these acts does: "undoes the last accepted event that is neither a step back nor undone already; lock events cannot be undone";
+-- "The bench after it is equal, the remembered events aside, in every field to the bench before that event"
+pub record Undoes (acts : List Act) : Type 0 where
+  pub rest : List Event
+  pub event : Event
+  pub last : left acts ≡ rest ++ (event ∷ [])
+  pub no-lock : NoLock event
+  pub came : Came acts rest event
+  pub as-before : bench (acts ++ (Back ∷ [])) ≡ bench (came .before)
+  pub now-left : left (acts ++ (Back ∷ [])) ≡ rest
+
+-- what its C line shows at the moment
+pub record Holds (acts : List Act) (i : ℕ) (x : Outcome) : Type 0 where
+  pub shows : shownOutcome (bench acts) i ≡ x
+  pub some : isNone x ≡ false
+
+pub record HoldsSome (acts : List Act) (i : ℕ) : Type 0 where
+  pub outcome : Outcome
+  pub holds : Holds acts i outcome
+
+-- of two moments of a list: none of the events left at the earlier one has been undone up to the later one, and since then the events `more` are left
+pub record Kept (earlier later : List Act) (more : List Event) : Type 0 where
+  pub since : List Act
+  pub parts : later ≡ earlier ++ since
+  pub kept : left later ≡ left earlier ++ more
+
+-- "a gate set back by a step back has not been moved": it moves at an event, put after these acts
+abbrev pub Moves : List Act → Event → ℕ → Type 0
+Moves acts e k = shownPosition (bench (acts ++ (Play e ∷ []))) k ≡ shownPosition (bench acts) k → ⊥
+
+pub record StepsBack : Type 0 where
+  -- THE EVENTS LEFT. At every moment the bench, the remembered events aside, is the one that the events left lead to from a new bench;
+  pub as-left : (acts : List Act) → bench acts ≡ after (left acts)
+  -- each of them was accepted, those before it being left then: so the moments of the list of events left are moments of the list of acts.
+  pub moments : (acts : List Act) (es : List Event) (e : Event) (rest : List Event) → left acts ≡ es ++ (e ∷ rest) → Came acts es e
+  -- Every event is answered as it is after those left;
+  pub answers : (acts : List Act) (e : Event) → answer (at acts) (Play e) ≡ reply (after (left acts)) e
+  -- "a refused event leaves the bench untouched", what is remembered too, and so does a refused step back.
+  pub untouched : (acts : List Act) (a : Act) (q : ℕ) → answer (at acts) a ≡ refused q → at (acts ++ (a ∷ [])) ≡ at acts
+  -- With no step back all is as without a memory.
+  pub plain : (es : List Event) → bench (map Play es) ≡ after es
+  -- A STEP BACK
+  pub undoes : (acts : List Act) → Accepted acts Back → Undoes acts
+  -- "Up to 64 such events are remembered: one more pushes out the oldest, one undone is dropped."
+  pub one-more : (acts : List Act) (e : Event) → Accepted acts (Play e) → NoLock e → remembers (acts ++ (Play e ∷ [])) ≡ min 64 (suc (remembers acts))
+  pub none-at-lock : (acts : List Act) (n f : ℕ) (own : Bool) → Accepted acts (Play (Lock n f own)) → remembers (acts ++ (Play (Lock n f own) ∷ [])) ≡ 0
+  pub one-fewer : (acts : List Act) → Accepted acts Back → suc (remembers (acts ++ (Back ∷ []))) ≡ remembers acts
+  -- "Refused: 26, nothing to undo; after question 5." Nothing else is asked.
+  pub no-lock-yet : (acts : List Act) → (bench acts) .shared .locked ≡ false → answer (at acts) Back ≡ refused 5
+  pub something : (acts : List Act) → (bench acts) .shared .locked ≡ true → 1 ≤ remembers acts → Accepted acts Back
+  pub nothing : (acts : List Act) → (bench acts) .shared .locked ≡ true → remembers acts ≡ 0 → answer (at acts) Back ≡ refused 26
+  -- "All of demand 3, its list now with kind 9 and its clean orders included, and U5 and U10 are then read over the accepted events, without the undone
+  -- ones and the steps back". DEMAND 3:
+  pub agreement : (earlier later : List Act) (more : List Event) (i j : ℕ) (x y : Outcome) → Kept earlier later more → SameOrder (left earlier) more
+      → Holds earlier i x → Holds later j y → x ≡ y
+  pub validity : (acts : List Act) (i : ℕ) → Holds acts i Move → (k : ℕ) → 1 ≤ k → k ≤ (bench acts) .shared .n → WillingVote (left acts) k
+  pub moves-once : (acts : List Act) (e : Event) (later : List Act) (e′ : Event) (more : List Event) (k : ℕ) → Kept (acts ++ (Play e ∷ [])) later more
+      → SameOrder (left (acts ++ (Play e ∷ []))) (more ++ (e′ ∷ [])) → Moves acts e k → Moves later e′ k → ⊥
+  pub still-at-restore : (acts : List Act) (i k : ℕ) → Moves acts (Restore i) k → ⊥
+  pub clean-move : (acts : List Act) (i : ℕ) → Accepted acts (Play (Timeout i)) → IsSecondTimeout ((bench acts) .shared .n) ((bench acts) .shared .f) (left acts) i
+      → Clean ((bench acts) .shared .n) ((bench acts) .shared .f) (left acts ++ (Timeout i ∷ [])) → AllWilling (left acts) → Holds (acts ++ (Play (Timeout i) ∷ [])) i Move
+  pub clean-stay : (acts : List Act) (i : ℕ) → Accepted acts (Play (Timeout i)) → IsSecondTimeout ((bench acts) .shared .n) ((bench acts) .shared .f) (left acts) i
+      → Clean ((bench acts) .shared .n) ((bench acts) .shared .f) (left acts ++ (Timeout i ∷ [])) → OneUnwilling (left acts) → Holds (acts ++ (Play (Timeout i) ∷ [])) i Stay
+  pub at-most-2fn : (acts : List Act) → messageCount (bench acts) Vote + messageCount (bench acts) Ack ≤ 2 * ((bench acts) .shared .f * (bench acts) .shared .n)
+  -- U5
+  pub hears : (acts : List Act) → ((p : Premise) → Meets p (left acts)) → (i : ℕ) → RunsAt (left acts) i → HoldsSome acts i
+  -- U10
+  pub votes : (acts : List Act) → CleanEnd (left acts) → messageCount (bench acts) Vote ≡ (bench acts) .shared .f * (bench acts) .shared .n
+  pub acks : (acts : List Act) → CleanEnd (left acts) → messageCount (bench acts) Ack ≡ (bench acts) .shared .f * (bench acts) .shared .n
+  pub no-help : (acts : List Act) → CleanEnd (left acts) → messageCount (bench acts) Help ≡ 0
+  pub no-helped : (acts : List Act) → CleanEnd (left acts) → messageCount (bench acts) Helped ≡ 0
