@@ -27,7 +27,7 @@
  * When to ring: controllers 1 to f + 1 go from stage 0 to stage 1 at their vote, those above to stage 2. So go by the stage: a wait begins when the stage becomes
  * 1 or 2 and ends with one cabinet_timeout. A wait should be as long as a telegram takes when nothing is late; too short costs telegrams, never agreement.
  *
- * What to send again: all of cabinet_telegram (of ballots the last promise, the last acceptance and the last own ballot), every few waits, until the display shows an outcome, and for some time after: others may still need them. Each of them
+ * What to send again: all of cabinet_telegram (of ballots the last own one, and the last promise and taken for another's), every few waits, until the display shows an outcome, and for some time after: others may still need them. Each of them
  * is what was sent before, byte for byte, and a repeated one changes nothing where it comes in.
  *
  * The word put (CABINET_PUT) goes to the arbiter, whose answer comes in by cabinet_decide. At a lock without arbiter (own = 1) a cabinet that has put a word and has

@@ -6,7 +6,7 @@
 mod cabinet;
 
 use cabinet::{Cabinet, Outcome, OTHER_CARD};
-use reference::ballot::owner;
+use reference::ballot::{is_majority, owner, BallotKind};
 use reference::controller::{Answer, Controller, Reception};
 use reference::group::Group;
 use reference::records::ballot_message::BallotMessage;
@@ -18,17 +18,22 @@ use reference::vote_set::Verdict;
 use std::collections::{BTreeMap, BTreeSet};
 
 /// What was met; a row that is 0 fails.
-const ROWS: [&str; 20] = [
+const ROWS: [&str; 22] = [
     "begun", "order", "order refused", "vote", "vote refused", "receive, changed", "receive, passed over", "receive, refused", "receive, 24", "timeout", "timeout refused", "decide",
     "decide refused", "stop", "save", "wake", "another's card", "open", "open refused", "words put in ballots",
+    "a word settled", "to an older ballot",
 ];
 
 struct Pair {
     own: Cabinet,
     other: Controller,
-    /// what the reference has sent in this order: plain telegrams, and those of ballots
+    /// what the reference has sent in this order: plain telegrams; of each kind of ballots the last: the asks and puts of its last ballot, its last promise, its last taken
     plain: BTreeSet<Vec<u8>>,
-    ballots: BTreeSet<Vec<u8>>,
+    ballots: [BTreeSet<Vec<u8>>; 4],
+    /// its last ballot, the word that it put there, and who is known to have taken it
+    ballot: u8,
+    word: Option<Verdict>,
+    takers: BTreeSet<u8>,
 }
 
 fn written(telegram: Telegram) -> Vec<u8> {
@@ -51,16 +56,40 @@ impl Pair {
             own: Cabinet::begin(group.n, group.f, id, has_ballots, 0).expect("a controller of a lock"),
             other: Controller::of_lock(group, has_ballots, id, 0),
             plain: BTreeSet::new(),
-            ballots: BTreeSet::new(),
+            ballots: Default::default(),
+            ballot: 0,
+            word: None,
+            takers: BTreeSet::new(),
         }
     }
 
     fn forget(&mut self) {
         self.plain.clear();
-        self.ballots.clear();
+        self.ballots = Default::default();
+        self.begin_ballot(0);
     }
 
-    /// What an answer of the reference sent. Those of ballots that it sends now must be among the cabinet's.
+    fn begin_ballot(&mut self, ballot: u8) {
+        (self.ballot, self.word) = (ballot, None);
+        self.takers.clear();
+        self.ballots[BallotKind::Ask.index()].clear();
+        self.ballots[BallotKind::Put.index()].clear();
+    }
+
+    /// "taken" of the word of its last ballot: its sender counts, once.
+    fn count_taken(&mut self, m: &BallotMessage) {
+        let (group, id, order) = (self.other.group(), self.other.id(), self.other.order());
+        let comes = self.other.is_running() && m.group == group && m.order == order && m.to == id && m.from != id;
+        if comes && m.kind == BallotKind::Taken && m.ballot == self.ballot && self.word.is_some() && m.word == self.word {
+            self.takers.insert(m.from);
+        }
+    }
+
+    fn settled(&self) -> Option<Outcome> {
+        outcome(self.word.filter(|_| is_majority(self.other.group(), self.takers.len() as u32)))
+    }
+
+    /// What an answer of the reference sent.
     fn sent(&mut self, answer: &Answer) {
         let (group, from, order) = (self.other.group(), self.other.id(), self.other.order());
         for s in &answer.sent {
@@ -68,13 +97,21 @@ impl Pair {
                 self.plain.insert(written(Telegram::Votes(Message { kind: s.kind, group, from, to, order, votes: s.votes })));
             }
         }
-        let mine: BTreeSet<_> = self.own.telegrams().map(|t| t.bytes().to_vec()).collect();
         for s in &answer.ballots_sent {
-            for to in group.ids().filter(|&to| s.receivers.contains(to)) {
-                let bytes = written(Telegram::Ballot(BallotMessage { kind: s.kind, group, from, to, order, ballot: s.ballot, last: s.last, word: s.word }));
-                assert!(mine.contains(&bytes), "a telegram of a ballot is missing");
-                self.ballots.insert(bytes);
+            if s.kind == BallotKind::Put && s.ballot == self.ballot {
+                self.word = s.word;
             }
+            let telegrams = group.ids().filter(|&to| s.receivers.contains(to));
+            self.ballots[s.kind.index()] = telegrams.map(|to| written(Telegram::Ballot(BallotMessage { kind: s.kind, group, from, to, order, ballot: s.ballot, last: s.last, word: s.word }))).collect();
+        }
+    }
+
+    /// One that took the word of its own last ballot has taken it too.
+    fn took(&mut self, answer: &Answer) {
+        if answer.taking.is_some_and(|t| t.ballot == self.ballot) {
+            self.takers.insert(self.other.id());
+            // its last taken is now the one to itself
+            self.ballots[BallotKind::Taken.index()].clear();
         }
     }
 
@@ -83,6 +120,7 @@ impl Pair {
         let stage = self.other.phase().unwrap_or(if self.other.is_stopped() { 8 } else { 9 });
         assert_eq!((shown.order, shown.stage, shown.position), (self.other.order(), stage, self.other.position()));
         assert_eq!((shown.outcome, shown.put), (outcome(self.other.outcome()), outcome(self.other.proposed())));
+        assert_eq!(shown.settled, self.settled());
         if let Some(ballots) = self.other.ballots() {
             assert_eq!(shown.highest, ballots.highest_promise());
         }
@@ -92,7 +130,7 @@ impl Pair {
         let (plain, ballots): (Vec<_>, Vec<_>) = self.own.telegrams().map(|t| t.bytes().to_vec()).partition(|t| t[2] < 5);
         assert_eq!(plain.len(), self.plain.len());
         assert!(plain.iter().all(|t| self.plain.contains(t)));
-        assert!(ballots.iter().all(|t| self.ballots.contains(t)));
+        assert_eq!(ballots.into_iter().collect::<BTreeSet<_>>(), self.ballots.iter().flatten().cloned().collect());
     }
 
     /// 14 and 15, as every call but a receive asks them.
@@ -130,14 +168,19 @@ fn sequence(rng: &mut Rng, met: &mut dyn FnMut(&'static str)) -> u64 {
     let mut cards: Vec<[u8; 14]> = Vec::new();
     let mut line: Vec<Vec<u8>> = Vec::new();
     let mut order = 0;
-    let count = rng.between(30, 60) as u64;
+    // now and then no telegram comes before the waits are over, so that all put a word, and the rest goes by ballots
+    let by_ballots = has_ballots && rng.chance(1, 3);
+    let count = if by_ballots { rng.between(60, 90) } else { rng.between(30, 60) } as u64;
     // mostly an order that all are in, and have voted in; then anything
     let mut script: Vec<(usize, usize)> = (0..lock.len()).flat_map(|i| [(i, 1), (i, 0)]).collect();
-    script.truncate(if rng.chance(1, 6) { rng.below(script.len()) } else { script.len() });
+    if by_ballots {
+        script.splice(0..0, (0..2 * lock.len()).map(|i| (i / 2, 3)));
+    }
+    script.truncate(if !by_ballots && rng.chance(1, 6) { rng.below(script.len()) } else { script.len() });
     met("begun");
     for _ in 0..count {
         let scripted = script.pop();
-        let (i, call) = scripted.unwrap_or_else(|| (rng.below(lock.len()), rng.weighted(&[1, 1, 60, 8, 2, 1, 2, 1, 8]).expect("a call")));
+        let (i, call) = scripted.unwrap_or_else(|| (rng.below(lock.len()), rng.weighted(if by_ballots { &[0, 0, 60, 0, 1, 1, 1, 0, 6] } else { &[1, 1, 60, 8, 2, 1, 2, 1, 8] }).expect("a call")));
         let p = &mut lock[i];
         let before = p.own.clone();
         match call {
@@ -176,7 +219,7 @@ fn sequence(rng: &mut Rng, met: &mut dyn FnMut(&'static str)) -> u64 {
                     met("vote refused");
                 }
             }
-            2 => receive(rng, p, &mut line, met),
+            2 => receive(rng, p, &mut line, by_ballots, met),
             3 => {
                 let expected = match p.condition(p.other.is_running()) {
                     0 if !matches!(p.other.phase(), Some(1 | 2)) => 16,
@@ -270,7 +313,11 @@ fn sequence(rng: &mut Rng, met: &mut dyn FnMut(&'static str)) -> u64 {
                 if expected == 0 {
                     let answer = p.other.open_ballot(ballot);
                     assert!(answer.is_taken());
+                    p.begin_ballot(ballot);
+                    // its last promise is now the one to itself
+                    p.ballots[BallotKind::Promise.index()].clear();
                     p.sent(&answer);
+                    p.took(&answer);
                     met("open");
                 } else {
                     met("open refused");
@@ -290,11 +337,11 @@ fn sequence(rng: &mut Rng, met: &mut dyn FnMut(&'static str)) -> u64 {
 }
 
 /// One of the telegrams on the line, now and then with a bit turned.
-fn receive(rng: &mut Rng, p: &mut Pair, line: &mut [Vec<u8>], met: &mut dyn FnMut(&'static str)) {
+fn receive(rng: &mut Rng, p: &mut Pair, line: &mut [Vec<u8>], by_ballots: bool, met: &mut dyn FnMut(&'static str)) {
     if line.is_empty() {
         return;
     }
-    let mine: Vec<usize> = (0..line.len()).filter(|&k| line[k][6] == p.other.id()).collect();
+    let mine: Vec<usize> = (0..line.len()).filter(|&k| line[k][6] == p.other.id() && (!by_ballots || line[k][2] >= 5)).collect();
     let k = if mine.is_empty() || rng.chance(1, 10) { rng.below(line.len()) } else { rng.pick(&mine) };
     let mut bytes = line[k].clone();
     match rng.below(12) {
@@ -307,6 +354,11 @@ fn receive(rng: &mut Rng, p: &mut Pair, line: &mut [Vec<u8>], met: &mut dyn FnMu
             let half = (bytes.len() - 12) / 2;
             bytes[12 + half..].fill(0);
         }
+        // a taken of the other word
+        2 if bytes[2] == 8 => {
+            let at = bytes.len() - 2;
+            bytes[at] ^= 3;
+        }
         _ => {}
     }
     let answer = match Telegram::read(&bytes) {
@@ -315,10 +367,19 @@ fn receive(rng: &mut Rng, p: &mut Pair, line: &mut [Vec<u8>], met: &mut dyn FnMu
             met("receive, refused");
             return;
         }
-        // to a ballot of its own that is not its last: the cabinet has no count of it any more
-        Ok(Telegram::Ballot(m)) if p.other.ballots().is_some_and(|b| b.opened().any(|o| o == m.ballot) && b.opened().max() != Some(m.ballot)) => return,
+        // to a ballot of its own that is not its last: the cabinet has no count of it any more, and passes it over
+        Ok(Telegram::Ballot(m)) if p.other.ballots().is_some_and(|b| b.opened().any(|o| o == m.ballot) && b.opened().max() != Some(m.ballot)) => {
+            let before = p.own.clone();
+            assert_eq!(p.own.receive(&bytes), Ok(()));
+            assert!(p.own == before);
+            met("to an older ballot");
+            return;
+        }
         Ok(Telegram::Votes(m)) => p.other.receive(&m),
-        Ok(Telegram::Ballot(m)) => p.other.receive_ballot(&m),
+        Ok(Telegram::Ballot(m)) => {
+            p.count_taken(&m);
+            p.other.receive_ballot(&m)
+        }
     };
     let expected = if answer.reception == Reception::Contradicted { 24 } else { 0 };
     let before = p.own.clone();
@@ -335,4 +396,8 @@ fn receive(rng: &mut Rng, p: &mut Pair, line: &mut [Vec<u8>], met: &mut dyn FnMu
         met("words put in ballots");
     }
     p.sent(&answer);
+    p.took(&answer);
+    if p.settled().is_some() {
+        met("a word settled");
+    }
 }
