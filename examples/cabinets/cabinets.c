@@ -121,6 +121,8 @@ static void store(unsigned id, const uint8_t *card) {
     snprintf(made, sizeof made, "%s.new", path);
     int file = open(made, O_WRONLY | O_CREAT | O_TRUNC, 0600);
     if (file < 0 || write(file, card, CABINET_CARD) != CABINET_CARD || fsync(file) || close(file) || rename(made, path)) fail(path);
+    int folder = open(dir, O_RDONLY | O_DIRECTORY); /* the new name is on disk too */
+    if (folder < 0 || fsync(folder) || close(folder)) fail(dir);
 }
 
 static int load(unsigned id, uint8_t *card) {

@@ -26,10 +26,10 @@ use Rattle.cabinet_state.specs.declared.BallotState.{BallotState}
 use Rattle.cabinet_state.specs.declared.Cabinet.{Cabinet}
 use Rattle.cabinet_state.specs.Tables.{tabulate}
 
--- THE PLACES. Word 0 has the mark, 4C 53, and the version of the encoding. Then the head (identity, controller, what was sent), what is kept of ballots, who is
+-- THE PLACES. Word 0 has the mark, 4C 43, and the version of the encoding. Then the head (identity, controller, what was sent), what is kept of ballots, who is
 -- known on each acknowledgement, who is willing on each, and the check word last.
 abbrev pub markWord : ℕ
-markWord = 0x4C530001
+markWord = 0x4C430001
 
 abbrev pub headWords : ℕ
 headWords = 36

@@ -98,7 +98,7 @@ fn ballots_fit(b: BallotState) -> u8
 }
 
 // What the types say of any cabinet.
-pub fn in_bytes(s: Cabinet) -> u8
+pub fn in_bytes(s: Cabinet)
     ensures { λ _. ⌜ InBytes s ⌝ }
 {
     let c = s.controller;
@@ -106,5 +106,5 @@ pub fn in_bytes(s: Cabinet) -> u8
     acks_fit(c.acks);
     helped_fit(c.helped);
     ballots_fit(s.ballots);
-    phase_in(now)
+    phase_in(now);
 }

@@ -53,7 +53,7 @@ fn head_from(
 {
     let c = s.controller;
     [
-        0x4C530001,
+        0x4C430001,
         n,
         f,
         id,
@@ -275,7 +275,7 @@ pub fn state_refusal(s: &[u32]) -> u8
     if s.len() != 114 {
         return 1;
     }
-    if word(s, 0) != 0x4C530001 {
+    if word(s, 0) != 0x4C430001 {
         return 2;
     }
     if !written_form(s) {
