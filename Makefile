@@ -22,7 +22,9 @@ target/cabinet_from_rust: examples/cabinet_from_rust.rs include/cabinet.rs $(ARC
 
 examples: target/cabinets target/cabinet_tests target/cabinet_from_rust
 
-install: $(ARCHIVE)
+# what `make` has built: rt is not asked again
+install:
+	@test -f $(ARCHIVE) || { echo "make install: run make first" >&2; exit 1; }
 	install -d $(DESTDIR)$(PREFIX)/lib/pkgconfig $(DESTDIR)$(PREFIX)/include
 	install -m 644 $(ARCHIVE) $(DESTDIR)$(PREFIX)/lib/libcabinet.a
 	install -m 644 include/cabinet.h include/cabinet.rs $(DESTDIR)$(PREFIX)/include/
