@@ -4,6 +4,7 @@ use mathlib.Core.Path.{_≡_, refl, sym, _∙_, ap}
 use mathlib.Core.Bool.{Bool, true, false, cond}
 use mathlib.Core.List.{List, [], _∷_}
 use mathlib.Core.Logic.{inl, inr}
+use native.Mathlib.Omega.{arith}
 use Rattle.ground.specs.Tests.{split}
 use Rattle.model.specs.Questions.{Reply, accepted, number, isAccepted, unless, firstNo}
 use Rattle.model.specs.QuestionLaws.{is-accepted}
@@ -16,7 +17,7 @@ use Rattle.protocol.specs.Steps.{step}
 use Rattle.bench_state.proofs.Replies.{zero-accepted}
 use Rattle.bench_step.specs.declared.Stepped.{Stepped}
 use Rattle.bench_step.specs.Steps.{stepped}
-use Rattle.steps_back.specs.Memory.{Remembering, canBeUndone, pastAfter, setBack, answer, done, next}
+use Rattle.steps_back.specs.Memory.{Remembering, canBeUndone, pastAfter, setBack, backReply, answer, done, next}
 use Rattle.steps_back.proofs.Moments.{plain-one}
 use Rattle.bench_back.specs.declared.Recall.{Recall}
 use Rattle.bench_back.specs.declared.Recall.the-variants.{Same, More, Fewer, Nothing}
@@ -57,22 +58,33 @@ module _ (b : Bench) (e : Event) (past : List Bench) (d : Stepped) (given : d �
     pub not-remembered : canBeUndone e ≡ false → _≡_ {A = Acted} (record { answer = d .answer; bench = d .bench; recall = Nothing }) (acted s (Play e))
     not-remembered u = played Nothing (sym (taken ∙ ap (λ (t : Bool). cond t More Nothing) u))
 
--- a step back
-module _ (b newest : Bench) (older : List Bench) where
-  pub no-lock : (remembers : Bool) → b .shared .locked ≡ false
-      → _≡_ {A = Acted} (record { answer = 5; bench = b; recall = Same }) (acted (rememberingOf b remembers newest older) Back)
-  unfolding recallOf next answer firstNo unless
-  no-lock remembers l = rw l refl
+-- a step back: by the number that its questions gave
+module _ (b newest : Bench) (older : List Bench) (remembers : Bool) (q : ℕ) (e : q ≡ number (backReply (b .shared .locked) remembers)) where
+  abbrev gives : Bench → Recall → Type 0
+  gives bench recall = _≡_ {A = Acted} (record { answer = q; bench = bench; recall = recall }) (acted (rememberingOf b remembers newest older) Back)
 
-  pub nothing : (remembers : Bool) → b .shared .locked ≡ true → remembers ≡ false
-      → _≡_ {A = Acted} (record { answer = 26; bench = b; recall = Same }) (acted (rememberingOf b remembers newest older) Back)
-  unfolding recallOf next answer firstNo unless
-  nothing remembers l r = rw (l, r) refl
+  is : (l r : Bool) → b .shared .locked ≡ l → remembers ≡ r → q ≡ number (backReply l r)
+  is l r x y = e ∙ ap (λ (t : Bool). number (backReply t remembers)) x ∙ ap (λ (t : Bool). number (backReply l t)) y
 
-  pub undone : (remembers : Bool) → b .shared .locked ≡ true → remembers ≡ true
-      → _≡_ {A = Acted} (record { answer = 0; bench = newest; recall = Fewer }) (acted (rememberingOf b remembers newest older) Back)
+  pub kept : (q ≡ 0 → ⊥) → gives b Same
+  unfolding recallOf next answer firstNo unless
+  kept n = elim (split (b .shared .locked)) [
+    | inr x ↦ rw (is false remembers x refl, x) refl
+    | inl x ↦ elim (split remembers) [
+      | inr y ↦ rw (is true false x y, x, y) refl
+      | inl y ↦ absurd (n (is true true x y))
+    ]
+  ]
+
+  pub undone : q ≡ 0 → gives newest Fewer
   unfolding recallOf next done setBack answer firstNo unless
-  undone remembers l r = rw (l, r) refl
+  undone z = elim (split (b .shared .locked)) [
+    | inr x ↦ let w : q ≡ 5 = is false remembers x refl in absurd (omega (arith, w, z))
+    | inl x ↦ elim (split remembers) [
+      | inr y ↦ let w : q ≡ 26 = is true false x y in absurd (omega (arith, w, z))
+      | inl y ↦ rw (z, x, y) refl
+    ]
+  ]
 
 -- what is remembered
 one-fewer : (s : Remembering) (past : List Bench) → s .past ≡ past → (setBack s past) .past ≡ recalled Fewer (record { bench = s .bench; past = past })

@@ -4,23 +4,14 @@ use bench_step::step;
 use model::Act;
 use model::Event;
 use protocol::Bench;
+use steps_back::back_question;
 ghost use mathlib.Core.Path.{_≡_};
 ghost use mathlib.Core.List.{List};
 ghost use Rattle.model.specs.declared.Act.the-variants.{Play, Back};
-ghost use Rattle.steps_back.specs.Memory.{canBeUndone, mostRemembered};
+ghost use Rattle.steps_back.specs.Memory.{canBeUndone};
 ghost use Rattle.bench_back.specs.Recalls.{rememberingOf, acted, Recalls};
 
-// The most events that are remembered.
-pub const MOST_REMEMBERED: usize = 64;
-
-// The constant is the definition's.
-pub fn most_remembered() -> usize
-    ensures { λ r. ⌜ r ≡ mostRemembered ⌝ }
-{
-    MOST_REMEMBERED
-}
-
-// What is remembered after an act: what was before; the bench before the act too, and no more benches than `MOST_REMEMBERED`; all but the newest; nothing.
+// What is remembered after an act: what was before; the bench before the act too, and no more benches than `steps_back::MOST_REMEMBERED`; all but the newest; nothing.
 pub enum Recall {
     Same,
     More,
@@ -82,22 +73,16 @@ fn play(b: Bench, e: Event) -> Acted
 fn back(b: Bench, remembers: bool, newest: Bench) -> Acted
     ensures { λ r. ⌜ ((older : List Bench) → r ≡ acted (rememberingOf b remembers newest older) Back) ⌝ }
 {
-    if !b.shared.locked {
+    let answer = back_question(b.shared.locked, remembers);
+    if answer != 0 {
         return Acted {
-            answer: 5,
-            bench: b,
-            recall: Recall::Same,
-        };
-    }
-    if !remembers {
-        return Acted {
-            answer: 26,
+            answer,
             bench: b,
             recall: Recall::Same,
         };
     }
     Acted {
-        answer: 0,
+        answer,
         bench: newest,
         recall: Recall::Fewer,
     }

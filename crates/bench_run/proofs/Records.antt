@@ -74,7 +74,7 @@ pub record Playing (t : Task) (x : Notes) (k : ℕ) (b : Bench) (out : List ℕ)
 pub record Replaying (t : Task) (x : Notes) (k : ℕ) (b : Bench) (out : List ℕ) : Type 0 where
   pub on : x .on ≡ true
   pub behind : k < x .noted
-  pub page : x .noted - k ≤ x .count % 64
+  pub page : x .noted - k ≤ x .count % 128
   pub bench : b ≡ after (take (x .count - (x .noted - k)) (leftTo (t .s) (x .noted)))
   pub answers : take (x .noted) out ≡ answersTo (t .s) (x .noted)
 
@@ -92,7 +92,7 @@ pub record Upto (t : Task) (x : Notes) (k : ℕ) (b : Bench) (out : List ℕ) : 
   pub room : t .all ≤ length (t .out)
   pub long : length out ≡ length (t .out)
   pub rest : drop (t .all) out ≡ drop (t .all) (t .out)
-  pub slots : length (x .ring) ≡ 128
+  pub slots : length (x .ring) ≡ 256
   pub list : List Event
   pub here : b ≡ run newBench list
   pub mode : Playing t x k b out ⊎ Replaying t x k b out
@@ -222,16 +222,16 @@ zero-taken b e z = reply-accepted _ 0 (all-numbered _ e) (sym z) refl
 
 -- a step back that is accepted has something to undo
 pub some : (locked : Bool) (undoable : ℕ) → backNumber locked undoable ≡ 0 → 1 ≤ undoable
-unfolding backNumber
+unfolding firstNo unless
 some true zero e = let z : _≡_ {A = ℕ} 26 0 = e in omega arith
 some true (suc n) e = omega arith
 some false n e = let z : _≡_ {A = ℕ} 5 0 = e in omega arith
 
 -- a bench is kept for its page
 same-kept : (i : ℕ) (even odd : Bench) → keptFor i even odd ≡ keptOf i even odd
-same-kept i even odd = elim (split (ltb (i % 128) 64)) [
-  | inl y ↦ rw (y, lt-ltb (front i % 128) 64 (omega (arith, ltb-true (i % 128) 64 y))) refl
-  | inr y ↦ rw (y, le-ltb (front i % 128) 64 (omega (arith, ltb-false (i % 128) 64 y))) refl
+same-kept i even odd = elim (split (ltb (i % 256) 128)) [
+  | inl y ↦ rw (y, lt-ltb (front i % 256) 128 (omega (arith, ltb-true (i % 256) 128 y))) refl
+  | inr y ↦ rw (y, le-ltb (front i % 256) 128 (omega (arith, ltb-false (i % 256) 128 y))) refl
 ]
 
 -- a turn --------------------------------------------------------------------
@@ -447,7 +447,7 @@ module _ (t : Task) (x : Notes) (k : ℕ) (b : Bench) (out : List ℕ) (p : Upto
               | inr y ↦ y
             ]
 
-        pub back-taken : q ≡ 0 → (count′ undoable′ k′ : ℕ) → count′ ≡ x .count - 1 → undoable′ ≡ x .undoable - 1 → k′ ≡ k + 1 - count′ % 64 → (b′ : Bench) → b′ ≡ keptOf count′ (x .even) (x .odd)
+        pub back-taken : q ≡ 0 → (count′ undoable′ k′ : ℕ) → count′ ≡ x .count - 1 → undoable′ ≡ x .undoable - 1 → k′ ≡ k + 1 - count′ % 128 → (b′ : Bench) → b′ ≡ keptOf count′ (x .even) (x .odd)
             → Upto t (record { on = true; noted = k + 1; count = count′; undoable = undoable′; ring = x .ring; even = x .even; odd = x .odd }) k′ b′ (set out w q)
         back-taken z count′ undoable′ k′ e1 e2 e3 b′ e4 = record {
           upto = omega (arith, h, e3);
@@ -459,18 +459,18 @@ module _ (t : Task) (x : Notes) (k : ℕ) (b : Bench) (out : List ℕ) (p : Upto
           slots = p .slots;
           list = take (front count′) (leftTo (t .s) (k + 1));
           here = at-front;
-          mode = elim (split (ltb 0 (count′ % 64))) [
+          mode = elim (split (ltb 0 (count′ % 128))) [
             | inl y ↦ inr (record {
               on = refl;
-              behind = omega (arith, e3, ltb-true 0 (count′ % 64) y, few-left);
+              behind = omega (arith, e3, ltb-true 0 (count′ % 128) y, few-left);
               page = omega (arith, e3, few-left);
-              bench = at-front ∙ ap (λ (j : ℕ). after (take j (leftTo (t .s) (k + 1)))) (so-many (ltb-true 0 (count′ % 64) y));
+              bench = at-front ∙ ap (λ (j : ℕ). after (take j (leftTo (t .s) (k + 1)))) (so-many (ltb-true 0 (count′ % 128) y));
               answers = put;
             })
             | inr y ↦ inl (record {
-              past = omega (arith, e3, ltb-false 0 (count′ % 64) y);
-              bench = at-front ∙ ap after (whole-page (omega (arith, ltb-false 0 (count′ % 64) y)));
-              answers = subst (λ (j : ℕ). take j (set out w q) ≡ answersTo (t .s) j) (omega (arith, e3, ltb-false 0 (count′ % 64) y)) put;
+              past = omega (arith, e3, ltb-false 0 (count′ % 128) y);
+              bench = at-front ∙ ap after (whole-page (omega (arith, ltb-false 0 (count′ % 128) y)));
+              answers = subst (λ (j : ℕ). take j (set out w q) ≡ answersTo (t .s) j) (omega (arith, e3, ltb-false 0 (count′ % 128) y)) put;
               ahead = λ _. omega (arith, e3);
               event = λ _ l _. absurd (omega (arith, e3, l));
             })
@@ -492,10 +492,10 @@ module _ (t : Task) (x : Notes) (k : ℕ) (b : Bench) (out : List ℕ) (p : Upto
             at-front : b′ ≡ after (take (front count′) (leftTo (t .s) (k + 1)))
             at-front = e4 ∙ now .pages count′ (omega arith) (omega arith)
 
-            so-many : 0 < count′ % 64 → front count′ ≡ count′ - (k + 1 - k′)
+            so-many : 0 < count′ % 128 → front count′ ≡ count′ - (k + 1 - k′)
             so-many y = omega (arith, e3, few-left)
 
-            whole-page : count′ % 64 ≡ 0 → take (front count′) (leftTo (t .s) (k + 1)) ≡ leftTo (t .s) k′
+            whole-page : count′ % 128 ≡ 0 → take (front count′) (leftTo (t .s) (k + 1)) ≡ leftTo (t .s) k′
             whole-page y = take-all (front count′) (leftTo (t .s) (k + 1)) (omega (arith, y, now .size)) ∙ ap (leftTo (t .s)) (omega (arith, e3, y))
 
       -- the first one: from the front again, and now with a memory
@@ -545,7 +545,7 @@ module _ (t : Task) (x : Notes) (k : ℕ) (b : Bench) (out : List ℕ) (p : Upto
         stepped-taken z b′ e = elim (split (x .on)) [
           | inl o ↦ let r = g .taken o z in
               subst (λ (j : ℕ). Upto t (record { on = true; noted = j; count = l′; undoable = u′; ring = x .ring; even = x .even; odd = x .odd }) k′ b′ (set out w a)) (sym (r .1))
-              (back-taken o a (g .asked o) z l′ u′ k′ (r .2) (r .3) (r .0 ∙ ap (λ (c : ℕ). k + 1 - c % 64) (sym (r .2))) b′ (e ∙ same-kept l′ (x .even) (x .odd)))
+              (back-taken o a (g .asked o) z l′ u′ k′ (r .2) (r .3) (r .0 ∙ ap (λ (c : ℕ). k + 1 - c % 128) (sym (r .2))) b′ (e ∙ same-kept l′ (x .even) (x .odd)))
           | inr f ↦ let r = g .first f in
               subst (λ (j : ℕ). Upto t (record { on = true; noted = n′; count = l′; undoable = u′; ring = x .ring; even = x .even; odd = x .odd }) j b′ (set out w a)) (sym (r .1))
               (subst (λ (y : Notes). Upto t y 0 b′ (set out w a))
@@ -622,26 +622,26 @@ module _ (t : Task) (x : Notes) (k : ℕ) (b : Bench) (out : List ℕ) (p : Upto
       bench-now = waiting .bench ∙ ap (λ (j : ℕ). after (leftTo (t .s) j)) (sym last-is)
 
       abbrev ring-now : List ℕ
-      ring-now = set (x .ring) (x .count % 128) last
+      ring-now = set (x .ring) (x .count % 256) last
 
       abbrev notesWith : Bench → Bench → Notes
       notesWith even odd = record { on = true; noted = k; count = x .count + 1; undoable = remembered (x .undoable) (x .count); ring = ring-now; even = even; odd = odd }
 
-      settle : (even odd : Bench) → Memory (t .s) (x .noted + 1) (x .count + 1) (remembered (x .undoable) (x .count)) (set (x .ring) (x .count % 128) (x .noted)) even odd → Upto t (notesWith even odd) k b out
+      settle : (even odd : Bench) → Memory (t .s) (x .noted + 1) (x .count + 1) (remembered (x .undoable) (x .count)) (set (x .ring) (x .count % 256) (x .noted)) even odd → Upto t (notesWith even odd) k b out
       settle even odd m = noted-with (x .count + 1) (remembered (x .undoable) (x .count)) ring-now even odd
-          (subst (λ (j : ℕ). Memory (t .s) k (x .count + 1) (remembered (x .undoable) (x .count)) (set (x .ring) (x .count % 128) j) even odd) same-place
-          (subst (λ (j : ℕ). Memory (t .s) j (x .count + 1) (remembered (x .undoable) (x .count)) (set (x .ring) (x .count % 128) (x .noted)) even odd) last-is m))
+          (subst (λ (j : ℕ). Memory (t .s) k (x .count + 1) (remembered (x .undoable) (x .count)) (set (x .ring) (x .count % 256) j) even odd) same-place
+          (subst (λ (j : ℕ). Memory (t .s) j (x .count + 1) (remembered (x .undoable) (x .count)) (set (x .ring) (x .count % 256) (x .noted)) even odd) last-is m))
         where
           same-place : x .noted ≡ last
           same-place = omega (arith, last-is, l)
 
-      pub note-within : ((x .count + 1) % 64 ≡ 0 → ⊥) → Upto t (notesWith (x .even) (x .odd)) k b out
+      pub note-within : ((x .count + 1) % 128 ≡ 0 → ⊥) → Upto t (notesWith (x .even) (x .odd)) k b out
       note-within n = settle (x .even) (x .odd) (within-page (t .s) (x .noted) (x .count) (x .undoable) (x .ring) (x .even) (x .odd) (p .memory o) (found .event) (found .read) was-taken ok n)
 
-      pub note-even : (x .count + 1) % 64 ≡ 0 → (x .count + 1) % 128 < 64 → (y : Bench) → y ≡ b → Upto t (notesWith y (x .odd)) k b out
+      pub note-even : (x .count + 1) % 128 ≡ 0 → (x .count + 1) % 256 < 128 → (y : Bench) → y ≡ b → Upto t (notesWith y (x .odd)) k b out
       note-even n i y is = settle y (x .odd) (even-page (t .s) (x .noted) (x .count) (x .undoable) (x .ring) (x .even) (x .odd) (p .memory o) (found .event) (found .read) was-taken ok n i y (is ∙ bench-now))
 
-      pub note-odd : (x .count + 1) % 64 ≡ 0 → ((x .count + 1) % 128 < 64 → ⊥) → (y : Bench) → y ≡ b → Upto t (notesWith (x .even) y) k b out
+      pub note-odd : (x .count + 1) % 128 ≡ 0 → ((x .count + 1) % 256 < 128 → ⊥) → (y : Bench) → y ≡ b → Upto t (notesWith (x .even) y) k b out
       note-odd n i y is = settle (x .even) y (odd-page (t .s) (x .noted) (x .count) (x .undoable) (x .ring) (x .even) (x .odd) (p .memory o) (found .event) (found .read) was-taken ok n i y (is ∙ bench-now))
 
 pub next-from : (s : List ℕ) (from w : ℕ) (t : Bool) (n : Next) → t ≡ false → n ≡ nextAt t (recordAt s (from + w * 10)) → n ≡ nextOf (readEvent (piece (drop from s) w))
@@ -650,12 +650,12 @@ next-from s from w t n f e = e ∙ ap (λ (y : Bool). nextAt y (recordAt s (from
 
 -- where the record lies that is played now
 module _ (t : Task) (x : Notes) (k : ℕ) (b : Bench) (out : List ℕ) (p : Upto t x k b out) where
-  pub place-safe : (length (x .ring) ≡ 128) × (k < x .noted → x .noted - k ≤ x .count)
+  pub place-safe : (length (x .ring) ≡ 256) × (k < x .noted → (x .on ≡ true) × (x .noted - k ≤ x .count))
   place-safe = (
     p .slots,
     λ l. elim (p .mode) [
       | inl a ↦ absurd (omega (arith, a .past, l))
-      | inr a ↦ omega (arith, a .page)
+      | inr a ↦ (a .on, omega (arith, a .page))
     ],
   )
 
@@ -668,7 +668,7 @@ module _ (t : Task) (x : Notes) (k : ℕ) (b : Bench) (out : List ℕ) (p : Upto
     where
       first : Playing t x k b out → w < t .all
       first a =
-          let here : w ≡ k = e ∙ ap (λ (y : Bool). cond y (getD (x .ring) ((x .count - (x .noted - k)) % 128) 0) k) (le-ltb k (x .noted) (a .past)) in
+          let here : w ≡ k = e ∙ ap (λ (y : Bool). cond y (getD (x .ring) ((x .count - (x .noted - k)) % 256) 0) k) (le-ltb k (x .noted) (a .past)) in
           omega (arith, here, h)
 
       no-note : Replaying t x k b out → (x .on && ltb (x .noted) k) ≡ false
@@ -728,10 +728,10 @@ module _ (s : List ℕ) (from w : ℕ) (t : Bool) (n : Next) (e : n ≡ nextAt t
   due-note on noted k is p = let d : (on && ltb noted k) ≡ true = sym is ∙ note-due p in (and-l on (ltb noted k) d, ltb-true noted k (and-r on (ltb noted k) d))
 
 -- the beginning and the end ---------------------------------------------------
-pub start : (s out : List ℕ) (all : ℕ) (b even odd : Bench) (ring : List ℕ) → all ≡ count s → all ≤ length out → length ring ≡ 128 → b ≡ newBench → even ≡ newBench
-    → Upto (record { s = s; out = out; all = all }) (record { on = false; noted = 0; count = 0; undoable = 0; ring = ring; even = even; odd = odd }) 0 b out
+pub start : (s out : List ℕ) (all : ℕ) (b even odd : Bench) (ring : List ℕ) (on : Bool) → all ≡ count s → all ≤ length out → length ring ≡ 256 → b ≡ newBench → even ≡ newBench
+    → Upto (record { s = s; out = out; all = all }) (record { on = on; noted = 0; count = 0; undoable = 0; ring = ring; even = even; odd = odd }) 0 b out
 unfolding actsTo leftFrom answersTo run
-start s out all b even odd ring w r l e f = record {
+start s out all b even odd ring on w r l e f = record {
   upto = omega arith;
   done = omega arith;
   whole = w;
@@ -742,7 +742,7 @@ start s out all b even odd ring w r l e f = record {
   list = [];
   here = e;
   mode = inl (record { past = omega arith; bench = e; answers = refl; ahead = λ _. omega arith; event = λ _ i _. absurd (omega arith) });
-  memory = λ o. absurd (false≢true o);
+  memory = λ _. none-noted s ring even odd l f;
   plain = λ _. record { noted = refl; count = refl; undoable = refl; even = f };
 }
 
@@ -794,15 +794,15 @@ module _ (t : Task) (x : Notes) (k : ℕ) (b : Bench) (out : List ℕ) (p : Upto
     with-u c ring even odd y = still-on k c u ring even odd (subst (λ (v : ℕ). Upto t (record { on = true; noted = k; count = c; undoable = v; ring = ring; even = even; odd = odd }) k b out) (sym is-u) y)
 
     abbrev ring′ : List ℕ
-    ring′ = set (x .ring) (x .count % 128) last
+    ring′ = set (x .ring) (x .count % 256) last
 
-    pub noted-within : ((x .count + 1) % 64 ≡ 0 → ⊥) → Upto t (record { on = x .on; noted = k; count = x .count + 1; undoable = u; ring = ring′; even = x .even; odd = x .odd }) k b out
+    pub noted-within : ((x .count + 1) % 128 ≡ 0 → ⊥) → Upto t (record { on = x .on; noted = k; count = x .count + 1; undoable = u; ring = ring′; even = x .even; odd = x .odd }) k b out
     noted-within n = with-u (x .count + 1) ring′ (x .even) (x .odd) (note-within t x k b out p h o due (getD out last 0) (ap (λ (j : ℕ). getD out j 0) is-last) z last l n)
 
-    pub noted-even : (x .count + 1) % 64 ≡ 0 → (x .count + 1) % 128 < 64 → (y : Bench) → y ≡ b → Upto t (record { on = x .on; noted = k; count = x .count + 1; undoable = u; ring = ring′; even = y; odd = x .odd }) k b out
+    pub noted-even : (x .count + 1) % 128 ≡ 0 → (x .count + 1) % 256 < 128 → (y : Bench) → y ≡ b → Upto t (record { on = x .on; noted = k; count = x .count + 1; undoable = u; ring = ring′; even = y; odd = x .odd }) k b out
     noted-even n i y is = with-u (x .count + 1) ring′ y (x .odd) (note-even t x k b out p h o due (getD out last 0) (ap (λ (j : ℕ). getD out j 0) is-last) z last l n i y is)
 
-    pub noted-odd : (x .count + 1) % 64 ≡ 0 → 64 ≤ (x .count + 1) % 128 → (y : Bench) → y ≡ b → Upto t (record { on = x .on; noted = k; count = x .count + 1; undoable = u; ring = ring′; even = x .even; odd = y }) k b out
+    pub noted-odd : (x .count + 1) % 128 ≡ 0 → 128 ≤ (x .count + 1) % 256 → (y : Bench) → y ≡ b → Upto t (record { on = x .on; noted = k; count = x .count + 1; undoable = u; ring = ring′; even = x .even; odd = y }) k b out
     noted-odd n i y is = with-u (x .count + 1) ring′ (x .even) y (note-odd t x k b out p h o due (getD out last 0) (ap (λ (j : ℕ). getD out j 0) is-last) z last l n (λ g. absurd (omega (arith, g, i))) y is)
 
 -- a record of what stands from a place on: it lies within the schedule, and is read at that place

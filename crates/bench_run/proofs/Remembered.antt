@@ -1,7 +1,7 @@
 -- What a run's memory stands for (document 02, U11): the events left, by the places of their records, and a bench at the front of each page of them.
 use Prim.Native.Nat.{ℕ, zero, suc, _+_, _-_, _%_, _≤_, _<_, min}
 use mathlib.Core.Path.{_≡_, refl, sym, ap, subst, _∙_}
-use mathlib.Core.Bool.{Bool, true, false, cond, false≢true, true≢false}
+use mathlib.Core.Bool.{Bool, true, false, cond, not, false≢true, true≢false}
 use mathlib.Core.List.{List, [], _∷_, _++_, append-nil}
 use mathlib.Core.Logic.{_⊎_, inl, inr}
 use native.Mathlib.Omega.{arith}
@@ -12,7 +12,7 @@ use lib.Seq.{take-all, take-take, take-append-le, take-at, getD-set-same, getD-s
 use borrow.Author.Tests.{eqb-true, eqb-false, eq-eqb, ne-eqb, ltb-true, ltb-false, lt-ltb, le-ltb}
 use Rattle.ground.specs.Tests.{split, by-cond}
 use Rattle.model.specs.QuestionLaws.{is-accepted, all-yes}
-use Rattle.model.specs.Questions.{Reply, accepted, isAccepted, ask, firstNo, unless, number}
+use Rattle.model.specs.Questions.{Reply, accepted, isAccepted, number}
 use Rattle.model.specs.declared.Act.{Act}
 use Rattle.model.specs.declared.Act.the-variants.{Play, Back}
 use Rattle.model.specs.declared.Event.{Event}
@@ -27,13 +27,13 @@ use Rattle.protocol.specs.Steps.{perform, step, run}
 use Rattle.protocol.specs.Claim.{after}
 use Rattle.protocol.proofs.claim.Moments.{step-locked, lock-refused}
 use Rattle.protocol.proofs.claim.Start.{unlocked}
-use Rattle.steps_back.specs.Memory.{Remembering, newRemembering, canBeUndone, mostRemembered, pastAfter, isSome, answer, done, next, runActs, withoutLast, leftBy, leftFrom, left}
+use Rattle.steps_back.specs.Memory.{Remembering, newRemembering, canBeUndone, mostRemembered, pastAfter, isSome, backReply, answer, done, next, runActs, withoutLast, leftBy, leftFrom, left}
 use Rattle.steps_back.specs.Claim.{at, bench, remembers}
 use Rattle.steps_back.proofs.Theorem.{without-snoc, run-snoc, Found, find, inv, left-taken, at-taken, left-refused, at-refused}
 use Rattle.steps_back.proofs.Moments.{as-left, one-more, one-fewer}
 use Rattle.bench_run.specs.Schedule.{piece, letThrough, actsTo}
 use Rattle.bench_run.specs.Runs.{answerAt}
-use Rattle.bench_run.specs.Memory.{pageSize, ringSize, remembered, backNumber}
+use Rattle.bench_run.specs.Memory.{remembered, backNumber}
 
 -- the events left after the first k records
 abbrev pub leftTo : List ℕ → ℕ → List Event
@@ -41,10 +41,10 @@ leftTo s k = left (actsTo s k)
 
 -- where the page of an event begins; the bench that is kept there
 abbrev pub front : ℕ → ℕ
-front i = i - i % 64
+front i = i - i % 128
 
 abbrev pub keptOf : ℕ → Bench → Bench → Bench
-keptOf i even odd = cond (ltb (front i % 128) 64) even odd
+keptOf i even odd = cond (ltb (front i % 256) 128) even odd
 
 -- event i of a list, whose record stands at q; it was accepted by the bench of those before it
 pub record Placed (s : List ℕ) (noted : ℕ) (es : List Event) (i q : ℕ) : Type 0 where
@@ -61,14 +61,14 @@ pub record Memory (s : List ℕ) (noted count undoable : ℕ) (ring : List ℕ) 
   pub held : undoable ≡ remembers (actsTo s noted)
   pub low : undoable ≤ count - 1
   pub most : undoable ≤ 64
-  pub slots : length ring ≡ 128
+  pub slots : length ring ≡ 256
   pub few : count ≤ noted
-  pub events : (i : ℕ) → i < count → count < undoable + front i + 64 → Placed s noted (leftTo s noted) i (getD ring (i % 128) 0)
-  pub pages : (i : ℕ) → i ≤ count → count < undoable + front i + 64 → keptOf i even odd ≡ after (take (front i) (leftTo s noted))
+  pub events : (i : ℕ) → i < count → count < undoable + front i + 128 → Placed s noted (leftTo s noted) i (getD ring (i % 256) 0)
+  pub pages : (i : ℕ) → i ≤ count → count < undoable + front i + 128 → keptOf i even odd ≡ after (take (front i) (leftTo s noted))
   pub locked : (i : ℕ) → 1 ≤ i → i ≤ count → (after (take i (leftTo s noted))) .shared .locked ≡ true
 
 -- nothing noted yet
-pub none-noted : (s ring : List ℕ) (even odd : Bench) → length ring ≡ 128 → even ≡ newBench → Memory s 0 0 0 ring even odd
+pub none-noted : (s ring : List ℕ) (even odd : Bench) → length ring ≡ 256 → even ≡ newBench → Memory s 0 0 0 ring even odd
 unfolding actsTo leftFrom runActs run
 none-noted s ring even odd r e = record {
   size = refl;
@@ -240,7 +240,7 @@ module _ (s : List ℕ) (k count undoable : ℕ) (ring : List ℕ) (even odd : B
         | inr h ↦ rw h (omega (arith, ltb-false undoable 64 h))
       ]
 
-      by-count : length (cond (cond (eqb count 0) false true) (take mostRemembered (at (actsTo s k) .bench ∷ at (actsTo s k) .past)) []) ≡ cond (eqb count 0) 0 (cond (ltb undoable pageSize) (undoable + 1) pageSize)
+      by-count : length (cond (cond (eqb count 0) false true) (take mostRemembered (at (actsTo s k) .bench ∷ at (actsTo s k) .past)) []) ≡ cond (eqb count 0) 0 (cond (ltb undoable mostRemembered) (undoable + 1) mostRemembered)
       by-count = elim (split (eqb count 0)) [
         | inl c ↦ rw c refl
         | inr c ↦ rw c (length-take 64 (at (actsTo s k) .bench ∷ at (actsTo s k) .past) ∙ ap (λ (n : ℕ). min 64 (suc n)) (sym (m .held)) ∙ least)
@@ -267,14 +267,14 @@ module _ (s : List ℕ) (k count undoable : ℕ) (ring : List ℕ) (even odd : B
   ]
 
   pub one-more-noted : (even′ odd′ : Bench)
-      → ((i : ℕ) → i ≤ count + 1 → count + 1 < remembered undoable count + front i + 64 → keptOf i even′ odd′ ≡ after (take (front i) (leftTo s (k + 1))))
-      → Memory s (k + 1) (count + 1) (remembered undoable count) (set ring (count % 128) k) even′ odd′
+      → ((i : ℕ) → i ≤ count + 1 → count + 1 < remembered undoable count + front i + 128 → keptOf i even′ odd′ ≡ after (take (front i) (leftTo s (k + 1))))
+      → Memory s (k + 1) (count + 1) (remembered undoable count) (set ring (count % 256) k) even′ odd′
   one-more-noted even′ odd′ pages = record {
     size = sym (ap length now-left ∙ simp length-append (omega (arith, long)));
     held = now-held;
     low = omega (arith, bounds .2);
     most = bounds .1;
-    slots = length-set ring (count % 128) k ∙ m .slots;
+    slots = length-set ring (count % 256) k ∙ m .slots;
     few = omega (arith, m .few);
     events = λ i h o. elim (split (eqb i count)) [
       | inl y ↦ newest i (eqb-true i count y)
@@ -287,19 +287,19 @@ module _ (s : List ℕ) (k count undoable : ℕ) (ring : List ℕ) (even odd : B
     ];
   }
     where
-      written : getD (set ring (count % 128) k) (count % 128) 0 ≡ k
-      written = getD-set-same ring (count % 128) k 0 (omega (arith, m .slots))
+      written : getD (set ring (count % 256) k) (count % 256) 0 ≡ k
+      written = getD-set-same ring (count % 256) k 0 (omega (arith, m .slots))
 
       -- two events of open pages stand at different places
-      apart : (i : ℕ) → i < count → count + 1 < remembered undoable count + front i + 64 → i % 128 ≡ count % 128 → ⊥
+      apart : (i : ℕ) → i < count → count + 1 < remembered undoable count + front i + 128 → i % 256 ≡ count % 256 → ⊥
       apart i h o x = absurd (omega (arith, o, bounds .1, x, h))
 
       locked-now : (i : ℕ) → i ≡ count + 1 → (after (take i (leftTo s (k + 1)))) .shared .locked ≡ true
       locked-now i y = ap (λ (j : ℕ). (after (take j (leftTo s (k + 1)))) .shared .locked) y ∙ ap (λ (j : ℕ). (after (take j (leftTo s (k + 1)))) .shared .locked) (add-one count) ∙ ap (λ (l : List Event). (after l) .shared .locked) whole-now
           ∙ ap (λ (b : Bench). b .shared .locked) (run-snoc es e newBench) ∙ set-up
 
-      newest : (i : ℕ) → i ≡ count → Placed s (k + 1) (leftTo s (k + 1)) i (getD (set ring (count % 128) k) (i % 128) 0)
-      newest i y = subst (λ (j : ℕ). Placed s (k + 1) (leftTo s (k + 1)) j (getD (set ring (count % 128) k) (j % 128) 0)) (sym y) (record {
+      newest : (i : ℕ) → i ≡ count → Placed s (k + 1) (leftTo s (k + 1)) i (getD (set ring (count % 256) k) (i % 256) 0)
+      newest i y = subst (λ (j : ℕ). Placed s (k + 1) (leftTo s (k + 1)) j (getD (set ring (count % 256) k) (j % 256) 0)) (sym y) (record {
         before = subst (λ (q : ℕ). q < k + 1) (sym written) (omega arith);
         event = e;
         there = whole-now ∙ ap (λ (l : List Event). l ++ (e ∷ [])) (sym (earlier count (omega arith) ∙ all-there));
@@ -308,10 +308,10 @@ module _ (s : List ℕ) (k count undoable : ℕ) (ring : List ℕ) (even odd : B
         answered = ap (answerAt s) written ∙ z;
       })
 
-      older : (i : ℕ) → i < count → count + 1 < remembered undoable count + front i + 64 → Placed s (k + 1) (leftTo s (k + 1)) i (getD (set ring (count % 128) k) (i % 128) 0)
+      older : (i : ℕ) → i < count → count + 1 < remembered undoable count + front i + 128 → Placed s (k + 1) (leftTo s (k + 1)) i (getD (set ring (count % 256) k) (i % 256) 0)
       older i h o =
           let p = m .events i h (omega (arith, o, bounds .0)) in
-          let same : getD (set ring (count % 128) k) (i % 128) 0 ≡ getD ring (i % 128) 0 = getD-set-other ring (count % 128) (i % 128) k 0 (apart i h o) in
+          let same : getD (set ring (count % 256) k) (i % 256) 0 ≡ getD ring (i % 256) 0 = getD-set-other ring (count % 256) (i % 256) k 0 (apart i h o) in
           record {
             before = subst (λ (q : ℕ). q < k + 1) (sym same) (omega (arith, p .before));
             event = p .event;
@@ -327,15 +327,15 @@ module _ (s : List ℕ) (k count undoable : ℕ) (ring : List ℕ) (even odd : B
   abbrev held-now : ℕ
   held-now = remembered undoable count
 
-  old-page : (even′ odd′ : Bench) (i : ℕ) → i ≤ count → count + 1 < held-now + front i + 64 → keptOf i even′ odd′ ≡ keptOf i even odd
+  old-page : (even′ odd′ : Bench) (i : ℕ) → i ≤ count → count + 1 < held-now + front i + 128 → keptOf i even′ odd′ ≡ keptOf i even odd
       → keptOf i even′ odd′ ≡ after (take (front i) (leftTo s (k + 1)))
   old-page even′ odd′ i h o same = same ∙ m .pages i h (omega (arith, o, bounds s k count undoable ring even odd m e r z ok .0))
       ∙ ap after (sym (earlier s k count undoable ring even odd m e r z ok (front i) (omega (arith, h))))
 
-  pub within-page : ((count + 1) % 64 ≡ 0 → ⊥) → Memory s (k + 1) (count + 1) held-now (set ring (count % 128) k) even odd
+  pub within-page : ((count + 1) % 128 ≡ 0 → ⊥) → Memory s (k + 1) (count + 1) held-now (set ring (count % 256) k) even odd
   within-page n = one-more-noted s k count undoable ring even odd m e r z ok even odd (λ i h o. elim (split (ltb count i)) [
     | inl y ↦ subst (λ (j : ℕ). keptOf i even odd ≡ after (take j (leftTo s (k + 1)))) (sym (same-front i (omega (arith, h, ltb-true count i y))))
-        (subst (λ (j : ℕ). cond (ltb (j % 128) 64) even odd ≡ after (take (front count) (leftTo s (k + 1)))) (sym (same-front i (omega (arith, h, ltb-true count i y))))
+        (subst (λ (j : ℕ). cond (ltb (j % 256) 128) even odd ≡ after (take (front count) (leftTo s (k + 1)))) (sym (same-front i (omega (arith, h, ltb-true count i y))))
         (old-page even odd count (omega arith) (omega (arith, o, same-front i (omega (arith, h, ltb-true count i y)))) refl))
     | inr y ↦ old-page even odd i (ltb-false count i y) o refl
   ])
@@ -346,9 +346,9 @@ module _ (s : List ℕ) (k count undoable : ℕ) (ring : List ℕ) (even odd : B
   abbrev now-bench : Bench
   now-bench = after (leftTo s (k + 1))
 
-  full-page : (even′ odd′ : Bench) → (count + 1) % 64 ≡ 0 → keptOf (count + 1) even′ odd′ ≡ now-bench
-      → ((i : ℕ) → (front i % 128 ≡ (count + 1) % 128 → ⊥) → keptOf i even′ odd′ ≡ keptOf i even odd)
-      → Memory s (k + 1) (count + 1) held-now (set ring (count % 128) k) even′ odd′
+  full-page : (even′ odd′ : Bench) → (count + 1) % 128 ≡ 0 → keptOf (count + 1) even′ odd′ ≡ now-bench
+      → ((i : ℕ) → (front i % 256 ≡ (count + 1) % 256 → ⊥) → keptOf i even′ odd′ ≡ keptOf i even odd)
+      → Memory s (k + 1) (count + 1) held-now (set ring (count % 256) k) even′ odd′
   full-page even′ odd′ n kept other = one-more-noted s k count undoable ring even odd m e r z ok even′ odd′ (λ i h o. elim (split (ltb count i)) [
     | inl y ↦ newest i (omega (arith, h, ltb-true count i y))
     | inr y ↦ old-page even′ odd′ i (ltb-false count i y) o (other i (λ x. absurd (omega (arith, x, n, o, ltb-false count i y, bounds s k count undoable ring even odd m e r z ok .1))))
@@ -361,25 +361,25 @@ module _ (s : List ℕ) (k count undoable : ℕ) (ring : List ℕ) (even odd : B
       newest i y = subst (λ (j : ℕ). keptOf j even′ odd′ ≡ after (take (front j) (leftTo s (k + 1)))) (sym y)
           (kept ∙ ap after (sym (ap (λ (j : ℕ). take j (leftTo s (k + 1))) at-front ∙ whole-now s k count undoable ring even odd m e r z ok ∙ sym (now-left s k count undoable ring even odd m e r z ok))))
 
-  pub even-page : (count + 1) % 64 ≡ 0 → (count + 1) % 128 < 64 → (b : Bench) → b ≡ now-bench → Memory s (k + 1) (count + 1) held-now (set ring (count % 128) k) b odd
-  even-page n h b is = full-page b odd n (rw (lt-ltb (front (count + 1) % 128) 64 (omega (arith, n, h))) is)
-      (λ i x. rw (le-ltb (front i % 128) 64 (omega (arith, n, h, x))) refl)
+  pub even-page : (count + 1) % 128 ≡ 0 → (count + 1) % 256 < 128 → (b : Bench) → b ≡ now-bench → Memory s (k + 1) (count + 1) held-now (set ring (count % 256) k) b odd
+  even-page n h b is = full-page b odd n (rw (lt-ltb (front (count + 1) % 256) 128 (omega (arith, n, h))) is)
+      (λ i x. rw (le-ltb (front i % 256) 128 (omega (arith, n, h, x))) refl)
 
-  pub odd-page : (count + 1) % 64 ≡ 0 → ((count + 1) % 128 < 64 → ⊥) → (b : Bench) → b ≡ now-bench → Memory s (k + 1) (count + 1) held-now (set ring (count % 128) k) even b
-  odd-page n h b is = full-page even b n (rw (le-ltb (front (count + 1) % 128) 64 (omega (arith, n, h))) is)
-      (λ i x. rw (lt-ltb (front i % 128) 64 (omega (arith, n, h, x))) refl)
+  pub odd-page : (count + 1) % 128 ≡ 0 → ((count + 1) % 256 < 128 → ⊥) → (b : Bench) → b ≡ now-bench → Memory s (k + 1) (count + 1) held-now (set ring (count % 256) k) even b
+  odd-page n h b is = full-page even b n (rw (le-ltb (front (count + 1) % 256) 128 (omega (arith, n, h))) is)
+      (λ i x. rw (lt-ltb (front i % 256) 128 (omega (arith, n, h, x))) refl)
 
 -- one fewer ---------------------------------------------------------------
 module _ (s : List ℕ) (k count undoable : ℕ) (ring : List ℕ) (even odd : Bench) (m : Memory s k count undoable ring even odd) where
   -- the questions of a step back
   pub back-number : (b : Bench) → b ≡ after (leftTo s k) → (q : ℕ) → q ≡ backNumber (b .shared .locked) undoable → q ≡ number (answer (at (actsTo s k)) Back)
-  unfolding backNumber answer firstNo unless
-  back-number b is q e = e ∙ ap (λ (x : Bench). backNumber (x .shared .locked) undoable) (is ∙ sym (as-left (actsTo s k))) ∙ ap (backNumber (bench (actsTo s k) .shared .locked)) (m .held) ∙ asked (bench (actsTo s k) .shared .locked) (at (actsTo s k) .past)
+  unfolding answer
+  back-number b is q e = e ∙ ap (λ (x : Bench). backNumber (x .shared .locked) undoable) (is ∙ sym (as-left (actsTo s k))) ∙ ap (backNumber (bench (actsTo s k) .shared .locked)) (m .held)
+      ∙ ap (λ (t : Bool). number (backReply (bench (actsTo s k) .shared .locked) t)) (some-past (at (actsTo s k) .past))
     where
-      asked : (t : Bool) (past : List Bench) → cond t (cond (eqb (length past) 0) 26 0) 5 ≡ number (firstNo (ask 5 t ∷ ask 26 (isSome past) ∷ []))
-      asked true [] = refl
-      asked true (x ∷ past) = rw (ne-eqb (suc (length past)) 0 (λ h. omega (arith, h))) refl
-      asked false past = refl
+      some-past : (past : List Bench) → not (eqb (length past) 0) ≡ isSome past
+      some-past [] = refl
+      some-past (x ∷ past) = rw (ne-eqb (suc (length past)) 0 (λ h. omega (arith, h))) refl
 
   module _ (r : readEvent (piece s k) ≡ Read Back) (ok : answer (at (actsTo s k)) Back ≡ accepted) where
     found : Found (at (actsTo s k)) (leftTo s k)

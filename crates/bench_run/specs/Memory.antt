@@ -1,24 +1,26 @@
 -- What a run remembers, so that steps can be taken back: which record it plays next, and how many steps can be taken back. Document 02, U11.
 use Prim.Native.Nat.{ℕ, _+_, _-_, _%_}
 use mathlib.Core.Path.{_≡_}
-use mathlib.Core.Bool.{Bool, true, false, cond}
+use mathlib.Core.Bool.{Bool, true, false, cond, not}
 use mathlib.Core.List.{List}
 use lib.Dec.{eqb, ltb}
 use lib.ListN.{getD}
 use Rattle.model.specs.declared.Act.the-variants.{Play, Back}
 use Rattle.event_record.specs.declared.ReadEvent.{ReadEvent}
 use Rattle.event_record.specs.declared.ReadEvent.the-variants.{Read, Refused}
+use Rattle.model.specs.Questions.{number}
 use Rattle.protocol.specs.declared.Bench.{Bench}
+use Rattle.steps_back.specs.Memory.{mostRemembered, backReply}
 use Rattle.bench_run.specs.declared.Next.{Next}
 use Rattle.bench_run.specs.declared.Next.the-variants.{Play as Plays, Other}
 use Rattle.bench_run.specs.declared.Pause.the-variants.{Refused as Unread, Back as StepBack, Note}
 
 -- so many events are a page, and the places of two pages are kept
 abbrev pub pageSize : ℕ
-pageSize = 64
+pageSize = 128
 
 abbrev pub ringSize : ℕ
-ringSize = 128
+ringSize = 256
 
 -- where the record lies that is played now: of an event that is played again, or the next one
 unfoldable pub placeOf : List ℕ → ℕ → ℕ → ℕ → ℕ
@@ -35,11 +37,11 @@ nextAt pending r = cond pending (Other Note) (nextOf r)
 
 -- how many steps can be taken back after one more event
 unfoldable pub remembered : ℕ → ℕ → ℕ
-remembered undoable left = cond (eqb left 0) 0 (cond (ltb undoable pageSize) (undoable + 1) pageSize)
+remembered undoable left = cond (eqb left 0) 0 (cond (ltb undoable mostRemembered) (undoable + 1) mostRemembered)
 
 -- the number of a step back's answer
-unfoldable pub backNumber : Bool → ℕ → ℕ
-backNumber locked undoable = cond locked (cond (eqb undoable 0) 26 0) 5
+abbrev pub backNumber : Bool → ℕ → ℕ
+backNumber locked undoable = number (backReply locked (not (eqb undoable 0)))
 
 -- what a step back leaves, k records being played with it: the first one of a schedule begins again; one that is refused changes nothing; one that is accepted
 -- goes to the front of the page in which the event stood that is undone

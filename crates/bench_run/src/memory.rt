@@ -4,27 +4,57 @@ use crate::Next;
 use crate::Pause;
 use event_record::ReadEvent;
 use model::Act;
+use model::Event;
 use protocol::Bench;
 use schedule_reader::record_at;
+use steps_back::MOST_REMEMBERED;
+use steps_back::back_question;
 ghost use mathlib.Core.Path.{_≡_};
-ghost use mathlib.Core.Bool.{_&&_};
+ghost use mathlib.Core.Bool.{_&&_, true};
 ghost use Prim.Native.Nat.{_-_, _≤_, _<_};
 ghost use lib.Dec.{ltb};
 ghost use lib.ListN.{length};
 ghost use Rattle.schedule_reader.specs.Pieces.{recordAt};
-ghost use Rattle.bench_run.specs.Memory.{placeOf, nextOf, nextAt, remembered, backNumber, BackTaken, keptOf, ringSize};
+ghost use Rattle.bench_run.specs.Memory.{placeOf, nextOf, nextAt, remembered, BackTaken, keptOf, ringSize};
 
-// So many events are a page, and so many steps can be taken back.
-pub(crate) const PAGE: usize = 64;
+// So many events are a page: the longer, the fewer benches are kept, and the more events a step back plays again.
+pub(crate) const PAGE: usize = 128;
 
 // Two pages of places are kept.
-pub(crate) const RING: usize = 128;
+pub(crate) const RING: usize = 256;
+
+// Is there a record that looks like a step back? This decides the speed alone: a run that meets one without a memory begins again.
+pub(crate) fn looks_back(s: &[u8], from: usize) -> bool {
+    if s.len() < Event::LENGTH {
+        return false;
+    }
+    let end = s.len() - (Event::LENGTH - 1);
+    let mut at = from;
+    while at < end {
+        if s[at + 2] == 9 {
+            if s[at + 3] == 0 {
+                return true;
+            }
+        }
+        at += Event::LENGTH;
+    }
+    false
+}
 
 // Where the record lies that is played now: that of an event which is played again, or the next one.
-pub(crate) fn place_of(ring: &[usize], noted: usize, k: usize, left: usize) -> usize
-    requires { ⌜ (length (now ring) ≡ ringSize) × (k < noted → noted - k ≤ left) ⌝ }
+pub(crate) fn place_of(
+    remembers: bool,
+    ring: &[usize],
+    noted: usize,
+    k: usize,
+    left: usize,
+) -> usize
+    requires { ⌜ (length (now ring) ≡ ringSize) × (k < noted → (remembers ≡ true) × (noted - k ≤ left)) ⌝ }
     ensures { λ r. ⌜ r ≡ placeOf (now (ring .entry)) noted k left ⌝ }
 {
+    if !remembers {
+        return k;
+    }
     if k < noted {
         let i = (left - (noted - k)) % RING;
         return ring[i];
@@ -68,23 +98,10 @@ pub(crate) fn remembered(undoable: usize, left: usize) -> usize
     if left == 0 {
         return 0;
     }
-    if undoable < PAGE {
+    if undoable < MOST_REMEMBERED {
         return undoable + 1;
     }
-    PAGE
-}
-
-// The questions of a step back, in their sequence: 5 and 26.
-pub(crate) fn back_question(locked: bool, undoable: usize) -> u8
-    ensures { λ r. ⌜ r ≡ backNumber locked undoable ⌝ }
-{
-    if !locked {
-        return 5;
-    }
-    if undoable == 0 {
-        return 26;
-    }
-    0
+    MOST_REMEMBERED
 }
 
 // What a step back leaves of what a run remembers.
@@ -117,7 +134,7 @@ pub(crate) fn step_back(
             undoable: 0,
         };
     }
-    let answer = back_question(locked, undoable);
+    let answer = back_question(locked, undoable != 0);
     if answer != 0 {
         return Taken {
             answer,

@@ -6,6 +6,7 @@ use crate::memory::PAGE;
 use crate::memory::RING;
 use crate::memory::is_pending;
 use crate::memory::kept_of;
+use crate::memory::looks_back;
 use crate::memory::next_at;
 use crate::memory::place_of;
 use crate::memory::remembered;
@@ -188,13 +189,13 @@ fn run_from(s: &[u8], from: usize, answers: &mut [u8]) -> RunResult
     let mut even = bench_of(m, stations, acceptors, rows);
     let mut odd = even;
     let mut ring = [0usize; RING];
-    let mut remembers = false;
+    let mut remembers = looks_back(s, from);
     let mut left: usize = 0;
     let mut undoable: usize = 0;
     let mut noted: usize = 0;
     let mut k: usize = 0;
     while k < count {
-        let here = place_of(&ring, noted, k, left);
+        let here = place_of(remembers, &ring, noted, k, left);
         let pending = is_pending(remembers, noted, k);
         let next = next_at(s, from + here * Event::LENGTH, pending);
         match next {

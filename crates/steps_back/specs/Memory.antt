@@ -51,9 +51,12 @@ abbrev pub isSome : List Bench → Bool
 isSome [] = false
 isSome (b ∷ bs) = true
 
+abbrev pub backReply : Bool → Bool → Reply
+backReply locked some = firstNo (ask 5 locked ∷ ask 26 some ∷ [])
+
 unfoldable pub answer : Remembering → Act → Reply
 answer s (Play e) = reply (s .bench) e
-answer s Back = firstNo (ask 5 (s .bench .shared .locked) ∷ ask 26 (isSome (s .past)) ∷ [])
+answer s Back = backReply (s .bench .shared .locked) (isSome (s .past))
 
 -- what an accepted act does; and any
 unfoldable pub done : Remembering → Act → Remembering

@@ -1,6 +1,5 @@
 // Plays the schedule on standard input as the bench program does, but record by record, by the step by value; steps back too. For comparison with another implementation.
 use bench_back::Acted;
-use bench_back::MOST_REMEMBERED;
 use bench_back::Recall;
 use bench_back::act;
 use bench_report::LONGEST_OUTPUT;
@@ -15,6 +14,7 @@ use event_record::ReadEvent;
 use model::Event;
 use protocol::Bench;
 use schedule_reader::record_at;
+use steps_back::MOST_REMEMBERED;
 use streams::read_input;
 use streams::write_output;
 ghost use Prim.Native.Nat.{_≤_, _<_};

@@ -8,11 +8,11 @@ use Rattle.bench_run.proofs.memory.kept_of.Lts as lts
 
 -- src/memory.rt:144:9
 returns : tie.Need-returns
-returns c = rw (lt-ltb _ 64 (c .if1 .taken)) refl
+returns c = rw (lt-ltb _ 128 (c .if1 .taken)) refl
 
 -- src/memory.rt:140:1
 returns-2 : tie.Need-returns-2
-returns-2 c = rw (le-ltb _ 64 (c .if1 .left)) refl
+returns-2 c = rw (le-ltb _ 128 (c .if1 .left)) refl
 
 pub kept-of-spec : {M : Type 1} → statement M
 kept-of-spec = tie.close (tie.spec returns returns-2)

@@ -1,6 +1,10 @@
-use mathlib.Core.Path.{refl}
+use mathlib.Core.Path.{refl, sym, _∙_}
+use mathlib.Core.Bool.{true≢false}
+use mathlib.Core.Logic.{inl, inr}
+use lib.Dec.{ltb}
+use Rattle.ground.specs.Tests.{split}
 use native.Mathlib.Omega.{arith}
-use borrow.Author.Tests.{lt-ltb, le-ltb}
+use borrow.Author.Tests.{not-true, ltb-true, lt-ltb, le-ltb}
 use Rattle.bench_run.specs.Memory.{placeOf}
 use borrow.Author.Needs.{needs}
 use Rattle.bench_run.proofs.memory.place_of.Statement.{statement}
@@ -8,32 +12,33 @@ use Rattle.bench_run.proofs.memory.place_of.Tie as tie
 use Rattle.bench_run.proofs.memory.place_of.Reads as reads
 use Rattle.bench_run.proofs.memory.place_of.Lts as lts
 
--- src/memory.rt:29:26
+returns : tie.Need-returns
+unfolding placeOf
+returns c = let x = c .before .args in elim (split (ltb (x .k) (x .noted))) [
+  | inl y ↦ absurd (true≢false (sym (c .before .pre .1 (ltb-true (x .k) (x .noted) y) .0) ∙ not-true (x .remembers) (c .if1 .taken)))
+  | inr y ↦ rw y refl
+]
+
 sub-i : tie.Need-sub-i
 sub-i c = search needs
 
--- src/memory.rt:29:18
 sub-i-2 : tie.Need-sub-i-2
-sub-i-2 c = omega (arith, c .before .pre .1 (c .if1 .taken))
+sub-i-2 c = omega (arith, c .before .before .pre .1 (c .if2 .taken) .1)
 
--- src/memory.rt:30:16
 mul-result : tie.Need-mul-result
 mul-result c = search needs
 
--- src/memory.rt:30:16
 shared-slice-read-result : tie.Need-shared-slice-read-result
-shared-slice-read-result c = omega (arith, c .before .before .pre .0)
+shared-slice-read-result c = omega (arith, c .before .before .before .pre .0)
 
--- src/memory.rt:30:9
-returns : tie.Need-returns
-unfolding placeOf
-returns c = rw (lt-ltb _ _ (c .before .if1 .taken)) refl
-
--- src/memory.rt:24:1
 returns-2 : tie.Need-returns-2
 unfolding placeOf
-returns-2 c = rw (le-ltb _ _ (c .if1 .left)) refl
+returns-2 c = rw (lt-ltb _ _ (c .before .if2 .taken)) refl
+
+returns-3 : tie.Need-returns-3
+unfolding placeOf
+returns-3 c = rw (le-ltb _ _ (c .if2 .left)) refl
 
 pub place-of-spec : {M : Type 1} → statement M
 place-of-spec =
-    tie.close (tie.spec sub-i sub-i-2 mul-result shared-slice-read-result returns returns-2)
+    tie.close (tie.spec returns sub-i sub-i-2 mul-result shared-slice-read-result returns-2 returns-3)

@@ -8,7 +8,6 @@ use Rattle.bench_run.proofs.memory.step_back.Statement.{statement}
 use Rattle.bench_run.proofs.memory.step_back.Tie as tie
 use Rattle.bench_run.proofs.memory.step_back.Reads as reads
 use Rattle.bench_run.proofs.memory.step_back.Lts as lts
-use Rattle.bench_run.proofs.memory.back_question.Reads as back-question-reads
 
 -- src/memory.rt:112:9
 returns : tie.Need-returns
@@ -28,7 +27,7 @@ returns-2 c = record { first = λ f. absurd (false≢true (sym f ∙ not-false _
 
 -- src/memory.rt:132:17
 sub-t9 : tie.Need-sub-t9
-sub-t9 c = omega (arith, some _ _ (sym (c .before .back-question .ensures) ∙ c .if2 .left), c .before .before .before .pre .1)
+sub-t9 c = omega (arith, some (c .before .before .before .args .locked) (c .before .before .before .args .undoable) (sym (c .before .back-question .ensures) ∙ c .if2 .left), c .before .before .before .pre .1)
 
 -- src/memory.rt:132:12
 sub-t11 : tie.Need-sub-t11
@@ -36,11 +35,11 @@ sub-t11 c = omega (arith, c .before .before .before .pre .2)
 
 -- src/memory.rt:134:15
 sub-t12 : tie.Need-sub-t12
-sub-t12 c = omega (arith, some _ _ (sym (c .before .back-question .ensures) ∙ c .if2 .left), c .before .before .before .pre .1)
+sub-t12 c = omega (arith, some (c .before .before .before .args .locked) (c .before .before .before .args .undoable) (sym (c .before .back-question .ensures) ∙ c .if2 .left), c .before .before .before .pre .1)
 
 -- src/memory.rt:135:19
 sub-t13 : tie.Need-sub-t13
-sub-t13 c = omega (arith, some _ _ (sym (c .before .back-question .ensures) ∙ c .if2 .left))
+sub-t13 c = omega (arith, some (c .before .before .before .args .locked) (c .before .before .before .args .undoable) (sym (c .before .back-question .ensures) ∙ c .if2 .left))
 
 -- src/memory.rt:101:1
 returns-3 : tie.Need-returns-3

@@ -71,8 +71,11 @@ new-row-requires c κs = search needs
 bench-of-requires : tie.Need-bench-of-requires Inv-loop2 μ-loop2 Inv-loop3 μ-loop3 Inv-loop μ-loop
 bench-of-requires c κs = search needs
 
+looks-back-requires : tie.Need-looks-back-requires Inv-loop2 μ-loop2 Inv-loop3 μ-loop3 Inv-loop μ-loop
+looks-back-requires c κs = search needs
+
 loop-holds : tie.Need-loop-holds Inv-loop2 μ-loop2 Inv-loop3 μ-loop3 Inv-loop μ-loop
-loop-holds c = start _ _ _ _ _ _ _ (c .before .before .before .before .before .before .count-from .ensures) (c .before .before .before .if1 .left) (length-replicate {A = ℕ} 128 0) (new-parts _ _ _ _ (c .before .before .before .before .before .new-shared .ensures) (c .before .before .before .before .fresh-station .ensures) (c .before .before .new-acceptor .ensures) (c .before .new-row .ensures)) (c .bench-of .ensures ∙ new-parts _ _ _ _ (c .before .before .before .before .before .new-shared .ensures) (c .before .before .before .before .fresh-station .ensures) (c .before .before .new-acceptor .ensures) (c .before .new-row .ensures))
+loop-holds c = start _ _ _ _ _ _ _ _ (c .before .before .before .before .before .before .before .count-from .ensures) (c .before .before .before .before .if1 .left) (length-replicate {A = ℕ} 256 0) (new-parts _ _ _ _ (c .before .before .before .before .before .before .new-shared .ensures) (c .before .before .before .before .before .fresh-station .ensures) (c .before .before .before .new-acceptor .ensures) (c .before .before .new-row .ensures)) (c .before .bench-of .ensures ∙ new-parts _ _ _ _ (c .before .before .before .before .before .before .new-shared .ensures) (c .before .before .before .before .before .fresh-station .ensures) (c .before .before .before .new-acceptor .ensures) (c .before .before .new-row .ensures))
 
 slice-aggregate-place-of : tie.Need-slice-aggregate-place-of Inv-loop2 μ-loop2 Inv-loop3 μ-loop3 Inv-loop μ-loop
 slice-aggregate-place-of c = search needs
@@ -85,14 +88,14 @@ is-pending-requires c κs = search needs
 
 mul-next-at : tie.Need-mul-next-at Inv-loop2 μ-loop2 Inv-loop3 μ-loop3 Inv-loop μ-loop
 mul-next-at c =
-    let a = c .before .before .before .before .before .before .before .before .before .before .before .before .before .before in
-    let p = place-within (a .args .s .now) (a .args .from) (c .before .before .before .before .before .before .before .before .before .before .before .count-from .result) (c .before .place-of .result) (c .before .before .before .before .loop .inv .whole) (place-all _ _ _ _ _ (c .before .before .before .before .loop .inv) (c .before .before .before .loop-test .taken) _ (c .before .place-of .ensures)) in
+    let a = c .before .before .before .before .before .before .before .before .before .before .before .before .before .before .before in
+    let p = place-within (a .args .s .now) (a .args .from) (c .before .before .before .before .before .before .before .before .before .before .before .before .count-from .result) (c .before .place-of .result) (c .before .before .before .before .loop .inv .whole) (place-all _ _ _ _ _ (c .before .before .before .before .loop .inv) (c .before .before .before .loop-test .taken) _ (c .before .place-of .ensures)) in
     omega (arith, p, a .good .0 .0)
 
 add-next-at : tie.Need-add-next-at Inv-loop2 μ-loop2 Inv-loop3 μ-loop3 Inv-loop μ-loop
 add-next-at c =
-    let a = c .before .before .before .before .before .before .before .before .before .before .before .before .before .before in
-    let p = place-within (a .args .s .now) (a .args .from) (c .before .before .before .before .before .before .before .before .before .before .before .count-from .result) (c .before .place-of .result) (c .before .before .before .before .loop .inv .whole) (place-all _ _ _ _ _ (c .before .before .before .before .loop .inv) (c .before .before .before .loop-test .taken) _ (c .before .place-of .ensures)) in
+    let a = c .before .before .before .before .before .before .before .before .before .before .before .before .before .before .before in
+    let p = place-within (a .args .s .now) (a .args .from) (c .before .before .before .before .before .before .before .before .before .before .before .before .count-from .result) (c .before .place-of .result) (c .before .before .before .before .loop .inv .whole) (place-all _ _ _ _ _ (c .before .before .before .before .loop .inv) (c .before .before .before .loop-test .taken) _ (c .before .place-of .ensures)) in
     omega (arith, p, a .good .0 .0)
 
 next-at-requires : tie.Need-next-at-requires Inv-loop2 μ-loop2 Inv-loop3 μ-loop3 Inv-loop μ-loop
@@ -109,8 +112,8 @@ slice-write-answers c = omega (arith, in-room _ _ _ _ _ (c .before .before .befo
 
 add-k : tie.Need-add-k Inv-loop2 μ-loop2 Inv-loop3 μ-loop3 Inv-loop μ-loop
 add-k c =
-    let a = c .before .before .before .before .before .before .before .before .before .before .before .before .before .before .before .before .before .before .before .before .before in
-    let p = place-within (a .args .s .now) (a .args .from) (c .before .before .before .before .before .before .before .before .before .before .before .before .before .before .before .before .before .before .count-from .result) (c .before .before .before .before .before .before .before .before .before .before .before .loop .k) (c .before .before .before .before .before .before .before .before .before .before .before .loop .inv .whole) (c .before .before .before .before .before .before .before .before .before .before .loop-test .taken) in
+    let a = c .before .before .before .before .before .before .before .before .before .before .before .before .before .before .before .before .before .before .before .before .before .before in
+    let p = place-within (a .args .s .now) (a .args .from) (c .before .before .before .before .before .before .before .before .before .before .before .before .before .before .before .before .before .before .before .count-from .result) (c .before .before .before .before .before .before .before .before .before .before .before .loop .k) (c .before .before .before .before .before .before .before .before .before .before .before .loop .inv .whole) (c .before .before .before .before .before .before .before .before .before .before .loop-test .taken) in
     omega (arith, p, a .good .0 .0)
 
 loop-less : tie.Need-loop-less Inv-loop2 μ-loop2 Inv-loop3 μ-loop3 Inv-loop μ-loop
@@ -124,8 +127,8 @@ enum-told c = search needs
 
 add-k-2 : tie.Need-add-k-2 Inv-loop2 μ-loop2 Inv-loop3 μ-loop3 Inv-loop μ-loop
 add-k-2 c =
-    let a = c .before .before .before .before .before .before .before .before .before .before .before .before .before .before .before .before .before .before .before .before in
-    let p = place-within (a .args .s .now) (a .args .from) (c .before .before .before .before .before .before .before .before .before .before .before .before .before .before .before .before .before .count-from .result) (c .before .before .before .before .before .before .before .before .before .before .loop .k) (c .before .before .before .before .before .before .before .before .before .before .loop .inv .whole) (c .before .before .before .before .before .before .before .before .before .loop-test .taken) in
+    let a = c .before .before .before .before .before .before .before .before .before .before .before .before .before .before .before .before .before .before .before .before .before in
+    let p = place-within (a .args .s .now) (a .args .from) (c .before .before .before .before .before .before .before .before .before .before .before .before .before .before .before .before .before .before .count-from .result) (c .before .before .before .before .before .before .before .before .before .before .loop .k) (c .before .before .before .before .before .before .before .before .before .before .loop .inv .whole) (c .before .before .before .before .before .before .before .before .before .loop-test .taken) in
     omega (arith, p, a .good .0 .0)
 
 step-back-requires : tie.Need-step-back-requires Inv-loop2 μ-loop2 Inv-loop3 μ-loop3 Inv-loop μ-loop
@@ -179,8 +182,8 @@ remembered-requires c κs = search needs
 add-left : tie.Need-add-left Inv-loop2 μ-loop2 Inv-loop3 μ-loop3 Inv-loop μ-loop
 add-left c =
     let f = note-few _ _ _ _ _ (c .before .before .before .before .before .before .before .before .before .before .before .before .before .loop .inv) (c .before .before .before .before .before .before .before .before .before .before .before .before .loop-test .taken) ((due-note _ _ _ _ _ (c .before .before .before .before .before .before .before .before .next-at .ensures) (c .before .before .before .before .before .before .before .before .before .before .before .before .before .loop .remembers) (c .before .before .before .before .before .before .before .before .before .before .before .before .before .loop .noted) (c .before .before .before .before .before .before .before .before .before .before .before .before .before .loop .k) (c .before .before .before .before .before .before .before .before .before .is-pending .ensures) (c .before .before .before .before .before .before .next .given .1 ∙ ap Other (c .before .before .before .enum-told2 .given .1))) .0) ((due-note _ _ _ _ _ (c .before .before .before .before .before .before .before .before .next-at .ensures) (c .before .before .before .before .before .before .before .before .before .before .before .before .before .loop .remembers) (c .before .before .before .before .before .before .before .before .before .before .before .before .before .loop .noted) (c .before .before .before .before .before .before .before .before .before .before .before .before .before .loop .k) (c .before .before .before .before .before .before .before .before .before .is-pending .ensures) (c .before .before .before .before .before .before .next .given .1 ∙ ap Other (c .before .before .before .enum-told2 .given .1))) .1) _ refl in
-    let a = c .before .before .before .before .before .before .before .before .before .before .before .before .before .before .before .before .before .before .before .before .before .before .before in
-    let p = place-within (a .args .s .now) (a .args .from) (c .before .before .before .before .before .before .before .before .before .before .before .before .before .before .before .before .before .before .before .before .count-from .result) (c .before .before .before .before .before .before .before .before .before .before .before .before .before .loop .k) (c .before .before .before .before .before .before .before .before .before .before .before .before .before .loop .inv .whole) (c .before .before .before .before .before .before .before .before .before .before .before .before .loop-test .taken) in
+    let a = c .before .before .before .before .before .before .before .before .before .before .before .before .before .before .before .before .before .before .before .before .before .before .before .before in
+    let p = place-within (a .args .s .now) (a .args .from) (c .before .before .before .before .before .before .before .before .before .before .before .before .before .before .before .before .before .before .before .before .before .count-from .result) (c .before .before .before .before .before .before .before .before .before .before .before .before .before .loop .k) (c .before .before .before .before .before .before .before .before .before .before .before .before .before .loop .inv .whole) (c .before .before .before .before .before .before .before .before .before .before .before .before .loop-test .taken) in
     omega (arith, f, p, a .good .0 .0)
 
 loop-less-5 : tie.Need-loop-less-5 Inv-loop2 μ-loop2 Inv-loop3 μ-loop3 Inv-loop μ-loop
@@ -221,8 +224,8 @@ slice-write-answers-3 c = omega (arith, in-place _ _ _ _ _ _ _ _ _ (reading _ _ 
 
 add-k-3 : tie.Need-add-k-3 Inv-loop2 μ-loop2 Inv-loop3 μ-loop3 Inv-loop μ-loop
 add-k-3 c =
-    let a = c .before .before .before .before .before .before .before .before .before .before .before .before .before .before .before .before .before .before .before .before .before .before in
-    let p = place-within (a .args .s .now) (a .args .from) (c .before .before .before .before .before .before .before .before .before .before .before .before .before .before .before .before .before .before .before .count-from .result) (c .before .before .before .before .before .before .before .before .before .before .before .before .loop .k) (c .before .before .before .before .before .before .before .before .before .before .before .before .loop .inv .whole) (c .before .before .before .before .before .before .before .before .before .before .before .loop-test .taken) in
+    let a = c .before .before .before .before .before .before .before .before .before .before .before .before .before .before .before .before .before .before .before .before .before .before .before in
+    let p = place-within (a .args .s .now) (a .args .from) (c .before .before .before .before .before .before .before .before .before .before .before .before .before .before .before .before .before .before .before .before .count-from .result) (c .before .before .before .before .before .before .before .before .before .before .before .before .loop .k) (c .before .before .before .before .before .before .before .before .before .before .before .before .loop .inv .whole) (c .before .before .before .before .before .before .before .before .before .before .before .loop-test .taken) in
     omega (arith, p, a .good .0 .0)
 
 loop-less-8 : tie.Need-loop-less-8 Inv-loop2 μ-loop2 Inv-loop3 μ-loop3 Inv-loop μ-loop
@@ -258,8 +261,8 @@ slice-write-answers-4 c = omega (arith, in-place _ _ _ _ _ _ _ _ _ (reading _ _ 
 
 add-k-4 : tie.Need-add-k-4 Inv-loop2 μ-loop2 Inv-loop3 μ-loop3 Inv-loop μ-loop
 add-k-4 c =
-    let a = c .before .before .before .before .before .before .before .before .before .before .before .before .before .before .before .before .before .before .before .before .before .before .before in
-    let p = place-within (a .args .s .now) (a .args .from) (c .before .before .before .before .before .before .before .before .before .before .before .before .before .before .before .before .before .before .before .before .count-from .result) (c .before .before .before .before .before .before .before .before .before .before .before .before .before .loop .k) (c .before .before .before .before .before .before .before .before .before .before .before .before .before .loop .inv .whole) (c .before .before .before .before .before .before .before .before .before .before .before .before .loop-test .taken) in
+    let a = c .before .before .before .before .before .before .before .before .before .before .before .before .before .before .before .before .before .before .before .before .before .before .before .before in
+    let p = place-within (a .args .s .now) (a .args .from) (c .before .before .before .before .before .before .before .before .before .before .before .before .before .before .before .before .before .before .before .before .before .count-from .result) (c .before .before .before .before .before .before .before .before .before .before .before .before .before .loop .k) (c .before .before .before .before .before .before .before .before .before .before .before .before .before .loop .inv .whole) (c .before .before .before .before .before .before .before .before .before .before .before .before .loop-test .taken) in
     omega (arith, p, a .good .0 .0)
 
 loop-less-10 : tie.Need-loop-less-10 Inv-loop2 μ-loop2 Inv-loop3 μ-loop3 Inv-loop μ-loop
@@ -358,8 +361,8 @@ slice-write-answers-5 c = omega (arith, in-place _ _ _ _ _ _ _ _ _ (reading _ _ 
 
 add-k-5 : tie.Need-add-k-5 Inv-loop2 μ-loop2 Inv-loop3 μ-loop3 Inv-loop μ-loop
 add-k-5 c =
-    let a = c .before .before .before .before .before .before .before .before .before .before .before .before .before .before .before .before .before .before .before .before .before .before .before .before .before in
-    let p = place-within (a .args .s .now) (a .args .from) (c .before .before .before .before .before .before .before .before .before .before .before .before .before .before .before .before .before .before .before .before .before .before .count-from .result) (c .before .before .before .before .before .before .before .before .before .before .before .before .before .before .before .loop .k) (c .before .before .before .before .before .before .before .before .before .before .before .before .before .before .before .loop .inv .whole) (c .before .before .before .before .before .before .before .before .before .before .before .before .before .before .loop-test .taken) in
+    let a = c .before .before .before .before .before .before .before .before .before .before .before .before .before .before .before .before .before .before .before .before .before .before .before .before .before .before in
+    let p = place-within (a .args .s .now) (a .args .from) (c .before .before .before .before .before .before .before .before .before .before .before .before .before .before .before .before .before .before .before .before .before .before .before .count-from .result) (c .before .before .before .before .before .before .before .before .before .before .before .before .before .before .before .loop .k) (c .before .before .before .before .before .before .before .before .before .before .before .before .before .before .before .loop .inv .whole) (c .before .before .before .before .before .before .before .before .before .before .before .before .before .before .loop-test .taken) in
     omega (arith, p, a .good .0 .0)
 
 loop-less-13 : tie.Need-loop-less-13 Inv-loop2 μ-loop2 Inv-loop3 μ-loop3 Inv-loop μ-loop
@@ -432,8 +435,8 @@ slice-write-answers-6 c = omega (arith, in-place _ _ _ _ _ _ _ _ _ (reading _ _ 
 
 add-k-6 : tie.Need-add-k-6 Inv-loop2 μ-loop2 Inv-loop3 μ-loop3 Inv-loop μ-loop
 add-k-6 c =
-    let a = c .before .before .before .before .before .before .before .before .before .before .before .before .before .before .before .before .before .before .before .before .before .before .before .before .before .before .before .before in
-    let p = place-within (a .args .s .now) (a .args .from) (c .before .before .before .before .before .before .before .before .before .before .before .before .before .before .before .before .before .before .before .before .before .before .before .before .before .count-from .result) (c .before .before .before .before .before .before .before .before .before .before .before .before .before .before .before .before .before .before .loop .k) (c .before .before .before .before .before .before .before .before .before .before .before .before .before .before .before .before .before .before .loop .inv .whole) (c .before .before .before .before .before .before .before .before .before .before .before .before .before .before .before .before .before .loop-test .taken) in
+    let a = c .before .before .before .before .before .before .before .before .before .before .before .before .before .before .before .before .before .before .before .before .before .before .before .before .before .before .before .before .before in
+    let p = place-within (a .args .s .now) (a .args .from) (c .before .before .before .before .before .before .before .before .before .before .before .before .before .before .before .before .before .before .before .before .before .before .before .before .before .before .count-from .result) (c .before .before .before .before .before .before .before .before .before .before .before .before .before .before .before .before .before .before .loop .k) (c .before .before .before .before .before .before .before .before .before .before .before .before .before .before .before .before .before .before .loop .inv .whole) (c .before .before .before .before .before .before .before .before .before .before .before .before .before .before .before .before .before .loop-test .taken) in
     omega (arith, p, a .good .0 .0)
 
 loop-less-15 : tie.Need-loop-less-15 Inv-loop2 μ-loop2 Inv-loop3 μ-loop3 Inv-loop μ-loop
@@ -682,8 +685,8 @@ slice-write-answers-7 c = omega (arith, in-place _ _ _ _ _ _ _ _ _ (reading _ _ 
 
 add-k-7 : tie.Need-add-k-7 Inv-loop2 μ-loop2 Inv-loop3 μ-loop3 Inv-loop μ-loop
 add-k-7 c =
-    let a = c .before .before .before .before .before .before .before .before .before .before .before .before .before .before .before .before .before .before .before .before .before .before .before .before .before in
-    let p = place-within (a .args .s .now) (a .args .from) (c .before .before .before .before .before .before .before .before .before .before .before .before .before .before .before .before .before .before .before .before .before .before .count-from .result) (c .before .before .before .before .before .before .before .before .before .before .before .before .before .before .before .loop .k) (c .before .before .before .before .before .before .before .before .before .before .before .before .before .before .before .loop .inv .whole) (c .before .before .before .before .before .before .before .before .before .before .before .before .before .before .loop-test .taken) in
+    let a = c .before .before .before .before .before .before .before .before .before .before .before .before .before .before .before .before .before .before .before .before .before .before .before .before .before .before in
+    let p = place-within (a .args .s .now) (a .args .from) (c .before .before .before .before .before .before .before .before .before .before .before .before .before .before .before .before .before .before .before .before .before .before .before .count-from .result) (c .before .before .before .before .before .before .before .before .before .before .before .before .before .before .before .loop .k) (c .before .before .before .before .before .before .before .before .before .before .before .before .before .before .before .loop .inv .whole) (c .before .before .before .before .before .before .before .before .before .before .before .before .before .before .loop-test .taken) in
     omega (arith, p, a .good .0 .0)
 
 loop-less-22 : tie.Need-loop-less-22 Inv-loop2 μ-loop2 Inv-loop3 μ-loop3 Inv-loop μ-loop
@@ -824,8 +827,8 @@ slice-write-answers-8 c = omega (arith, in-place _ _ _ _ _ _ _ _ _ (reading _ _ 
 
 add-k-8 : tie.Need-add-k-8 Inv-loop2 μ-loop2 Inv-loop3 μ-loop3 Inv-loop μ-loop
 add-k-8 c =
-    let a = c .before .before .before .before .before .before .before .before .before .before .before .before .before .before .before .before .before .before .before .before .before .before .before .before .before .before .before .before .before in
-    let p = place-within (a .args .s .now) (a .args .from) (c .before .before .before .before .before .before .before .before .before .before .before .before .before .before .before .before .before .before .before .before .before .before .before .before .before .before .count-from .result) (c .before .before .before .before .before .before .before .before .before .before .before .before .before .before .before .before .before .before .before .loop .k) (c .before .before .before .before .before .before .before .before .before .before .before .before .before .before .before .before .before .before .before .loop .inv .whole) (c .before .before .before .before .before .before .before .before .before .before .before .before .before .before .before .before .before .before .loop-test .taken) in
+    let a = c .before .before .before .before .before .before .before .before .before .before .before .before .before .before .before .before .before .before .before .before .before .before .before .before .before .before .before .before .before .before in
+    let p = place-within (a .args .s .now) (a .args .from) (c .before .before .before .before .before .before .before .before .before .before .before .before .before .before .before .before .before .before .before .before .before .before .before .before .before .before .before .count-from .result) (c .before .before .before .before .before .before .before .before .before .before .before .before .before .before .before .before .before .before .before .loop .k) (c .before .before .before .before .before .before .before .before .before .before .before .before .before .before .before .before .before .before .before .loop .inv .whole) (c .before .before .before .before .before .before .before .before .before .before .before .before .before .before .before .before .before .before .loop-test .taken) in
     omega (arith, p, a .good .0 .0)
 
 loop-less-25 : tie.Need-loop-less-25 Inv-loop2 μ-loop2 Inv-loop3 μ-loop3 Inv-loop μ-loop
@@ -886,8 +889,8 @@ slice-write-answers-9 c = omega (arith, in-place _ _ _ _ _ _ _ _ _ (reading _ _ 
 
 add-k-9 : tie.Need-add-k-9 Inv-loop2 μ-loop2 Inv-loop3 μ-loop3 Inv-loop μ-loop
 add-k-9 c =
-    let a = c .before .before .before .before .before .before .before .before .before .before .before .before .before .before .before .before .before .before .before .before .before .before .before .before .before in
-    let p = place-within (a .args .s .now) (a .args .from) (c .before .before .before .before .before .before .before .before .before .before .before .before .before .before .before .before .before .before .before .before .before .before .count-from .result) (c .before .before .before .before .before .before .before .before .before .before .before .before .before .before .before .loop .k) (c .before .before .before .before .before .before .before .before .before .before .before .before .before .before .before .loop .inv .whole) (c .before .before .before .before .before .before .before .before .before .before .before .before .before .before .loop-test .taken) in
+    let a = c .before .before .before .before .before .before .before .before .before .before .before .before .before .before .before .before .before .before .before .before .before .before .before .before .before .before in
+    let p = place-within (a .args .s .now) (a .args .from) (c .before .before .before .before .before .before .before .before .before .before .before .before .before .before .before .before .before .before .before .before .before .before .before .count-from .result) (c .before .before .before .before .before .before .before .before .before .before .before .before .before .before .before .loop .k) (c .before .before .before .before .before .before .before .before .before .before .before .before .before .before .before .loop .inv .whole) (c .before .before .before .before .before .before .before .before .before .before .before .before .before .before .loop-test .taken) in
     omega (arith, p, a .good .0 .0)
 
 loop-less-27 : tie.Need-loop-less-27 Inv-loop2 μ-loop2 Inv-loop3 μ-loop3 Inv-loop μ-loop
@@ -948,8 +951,8 @@ slice-write-answers-10 c = omega (arith, in-place _ _ _ _ _ _ _ _ _ (reading _ _
 
 add-k-10 : tie.Need-add-k-10 Inv-loop2 μ-loop2 Inv-loop3 μ-loop3 Inv-loop μ-loop
 add-k-10 c =
-    let a = c .before .before .before .before .before .before .before .before .before .before .before .before .before .before .before .before .before .before .before .before .before .before .before .before .before in
-    let p = place-within (a .args .s .now) (a .args .from) (c .before .before .before .before .before .before .before .before .before .before .before .before .before .before .before .before .before .before .before .before .before .before .count-from .result) (c .before .before .before .before .before .before .before .before .before .before .before .before .before .before .before .loop .k) (c .before .before .before .before .before .before .before .before .before .before .before .before .before .before .before .loop .inv .whole) (c .before .before .before .before .before .before .before .before .before .before .before .before .before .before .loop-test .taken) in
+    let a = c .before .before .before .before .before .before .before .before .before .before .before .before .before .before .before .before .before .before .before .before .before .before .before .before .before .before in
+    let p = place-within (a .args .s .now) (a .args .from) (c .before .before .before .before .before .before .before .before .before .before .before .before .before .before .before .before .before .before .before .before .before .before .before .count-from .result) (c .before .before .before .before .before .before .before .before .before .before .before .before .before .before .before .loop .k) (c .before .before .before .before .before .before .before .before .before .before .before .before .before .before .before .loop .inv .whole) (c .before .before .before .before .before .before .before .before .before .before .before .before .before .before .loop-test .taken) in
     omega (arith, p, a .good .0 .0)
 
 loop-less-29 : tie.Need-loop-less-29 Inv-loop2 μ-loop2 Inv-loop3 μ-loop3 Inv-loop μ-loop
@@ -1013,8 +1016,8 @@ slice-write-answers-11 c = omega (arith, in-place _ _ _ _ _ _ _ _ _ (reading _ _
 
 add-k-11 : tie.Need-add-k-11 Inv-loop2 μ-loop2 Inv-loop3 μ-loop3 Inv-loop μ-loop
 add-k-11 c =
-    let a = c .before .before .before .before .before .before .before .before .before .before .before .before .before .before .before .before .before .before .before .before .before .before .before .before .before .before in
-    let p = place-within (a .args .s .now) (a .args .from) (c .before .before .before .before .before .before .before .before .before .before .before .before .before .before .before .before .before .before .before .before .before .before .before .count-from .result) (c .before .before .before .before .before .before .before .before .before .before .before .before .before .before .before .before .loop .k) (c .before .before .before .before .before .before .before .before .before .before .before .before .before .before .before .before .loop .inv .whole) (c .before .before .before .before .before .before .before .before .before .before .before .before .before .before .before .loop-test .taken) in
+    let a = c .before .before .before .before .before .before .before .before .before .before .before .before .before .before .before .before .before .before .before .before .before .before .before .before .before .before .before in
+    let p = place-within (a .args .s .now) (a .args .from) (c .before .before .before .before .before .before .before .before .before .before .before .before .before .before .before .before .before .before .before .before .before .before .before .before .count-from .result) (c .before .before .before .before .before .before .before .before .before .before .before .before .before .before .before .before .loop .k) (c .before .before .before .before .before .before .before .before .before .before .before .before .before .before .before .before .loop .inv .whole) (c .before .before .before .before .before .before .before .before .before .before .before .before .before .before .before .loop-test .taken) in
     omega (arith, p, a .good .0 .0)
 
 loop-less-31 : tie.Need-loop-less-31 Inv-loop2 μ-loop2 Inv-loop3 μ-loop3 Inv-loop μ-loop
@@ -1117,8 +1120,8 @@ slice-write-answers-12 c = omega (arith, in-place _ _ _ _ _ _ _ _ _ (reading _ _
 
 add-k-12 : tie.Need-add-k-12 Inv-loop2 μ-loop2 Inv-loop3 μ-loop3 Inv-loop μ-loop
 add-k-12 c =
-    let a = c .before .before .before .before .before .before .before .before .before .before .before .before .before .before .before .before .before .before .before .before .before .before .before .before .before .before .before .before .before .before .before .before .before .before .before in
-    let p = place-within (a .args .s .now) (a .args .from) (c .before .before .before .before .before .before .before .before .before .before .before .before .before .before .before .before .before .before .before .before .before .before .before .before .before .before .before .before .before .before .before .before .count-from .result) (c .before .before .before .before .before .before .before .before .before .before .before .before .before .before .before .before .before .before .before .before .before .before .before .before .before .loop .k) (c .before .before .before .before .before .before .before .before .before .before .before .before .before .before .before .before .before .before .before .before .before .before .before .before .before .loop .inv .whole) (c .before .before .before .before .before .before .before .before .before .before .before .before .before .before .before .before .before .before .before .before .before .before .before .before .loop-test .taken) in
+    let a = c .before .before .before .before .before .before .before .before .before .before .before .before .before .before .before .before .before .before .before .before .before .before .before .before .before .before .before .before .before .before .before .before .before .before .before .before in
+    let p = place-within (a .args .s .now) (a .args .from) (c .before .before .before .before .before .before .before .before .before .before .before .before .before .before .before .before .before .before .before .before .before .before .before .before .before .before .before .before .before .before .before .before .before .count-from .result) (c .before .before .before .before .before .before .before .before .before .before .before .before .before .before .before .before .before .before .before .before .before .before .before .before .before .loop .k) (c .before .before .before .before .before .before .before .before .before .before .before .before .before .before .before .before .before .before .before .before .before .before .before .before .before .loop .inv .whole) (c .before .before .before .before .before .before .before .before .before .before .before .before .before .before .before .before .before .before .before .before .before .before .before .before .loop-test .taken) in
     omega (arith, p, a .good .0 .0)
 
 mul-acceptors : tie.Need-mul-acceptors Inv-loop2 μ-loop2 Inv-loop3 μ-loop3 Inv-loop μ-loop
@@ -1172,6 +1175,7 @@ run-from-spec =
     new-acceptor-requires
     new-row-requires
     bench-of-requires
+    looks-back-requires
     loop-holds
     slice-aggregate-place-of
     place-of-requires
