@@ -1,14 +1,14 @@
 -- The moments of the list of events left are moments of the list of acts; what a step back undoes; how many are remembered.
-use Prim.Native.Nat.{ℕ, zero, suc, _≤_, min}
+use Prim.Native.Nat.{ℕ, suc, _≤_, min}
 use mathlib.Core.Path.{_≡_, refl, sym, _∙_, ap, subst}
 use mathlib.Core.Bool.{Bool, true, false, cond, false≢true}
 use mathlib.Core.List.{List, [], _∷_, _++_, map, append-assoc, append-nil, head-eq-of-cons-eq, tail-eq-of-cons-eq, nil≢cons}
 use mathlib.Core.Logic.{_⊎_, inl, inr}
 use native.Mathlib.Omega.{arith}
 use lib.ListN.{take, length, length-take}
-use Rattle.ground.specs.Tests.{split, by-cond}
+use Rattle.ground.specs.Tests.{split}
 use Rattle.model.specs.QuestionLaws.{is-accepted, all-yes, yes-all}
-use Rattle.model.specs.Questions.{Reply, accepted, refused, isAccepted, ask, unless, firstNo}
+use Rattle.model.specs.Questions.{accepted, refused, isAccepted, unless, firstNo}
 use Rattle.model.specs.declared.Event.{Event}
 use Rattle.model.specs.declared.Event.the-variants.{Lock, Order, Cast, Deliver, Timeout, Decide, Stop, Save, Restore, OfBallots}
 use Rattle.protocol.specs.declared.Bench.{Bench}
@@ -16,11 +16,12 @@ use Rattle.protocol.specs.Benches.{newBench}
 use Rattle.protocol.specs.Questions.{reply}
 use Rattle.protocol.specs.Steps.{step, run}
 use Rattle.protocol.specs.Claim.{after}
-use Rattle.steps_back.specs.Memory.{Remembering, newRemembering, canBeUndone, mostRemembered, pastAfter, setBack, isSome, answer, done, next, runActs, withoutLast, leftBy, leftFrom, left}
+use Rattle.steps_back.specs.Memory.{Remembering, newRemembering, canBeUndone, mostRemembered, pastAfter, setBack, isSome, answer, done, next, runActs, withoutLast, leftFrom, left}
 use Rattle.steps_back.specs.Claim.{at, bench, remembers, Accepted, NoLock, Came, Undoes}
 use Rattle.model.specs.declared.Act.{Act}
 use Rattle.model.specs.declared.Act.the-variants.{Play, Back}
-use Rattle.steps_back.proofs.Theorem.{without-snoc, Found, find, Inv, inv, left-taken, at-taken, left-refused, at-refused}
+use Rattle.protocol.proofs.claim.Moments.{step-locked}
+use Rattle.steps_back.proofs.Theorem.{without-snoc, run-snoc, Found, found, find, inv, left-taken, at-taken, left-refused, at-refused}
 
 -- where an element of a list with one more at its end stands: it is that one, or it stands in the list
 record Last (l : List Event) (x : Event) (es : List Event) (e : Event) : Type 0 where
@@ -180,9 +181,34 @@ none-there : (past : List Bench) → length past ≡ 0 → isSome past ≡ false
 none-there [] h = refl
 none-there (b ∷ past) h = absurd (omega arith)
 
-pub something : (acts : List Act) → (bench acts) .shared .locked ≡ true → 1 ≤ remembers acts → Accepted acts Back
+-- a lock is set up where an event is remembered: that was asked of it
+has-lock : (b : Bench) (e : Event) → canBeUndone e ≡ true → reply b e ≡ accepted → b .shared .locked ≡ true
+unfolding reply
+has-lock b (Lock n f own) u ok = absurd (false≢true u)
+has-lock b (Order o) u ok = all-yes _ ok .0
+has-lock b (Cast i willing target) u ok = all-yes _ ok .0
+has-lock b (Deliver i j kind) u ok = all-yes _ ok .0
+has-lock b (Timeout i) u ok = all-yes _ ok .0
+has-lock b (Decide i move) u ok = all-yes _ ok .0
+has-lock b (Stop i) u ok = all-yes _ ok .0
+has-lock b (Save i) u ok = all-yes _ ok .0
+has-lock b (Restore i) u ok = all-yes _ ok .0
+has-lock b (OfBallots e) u ok = all-yes _ ok .0
+
+lock-there : (acts : List Act) → isSome (at acts .past) ≡ true → (bench acts) .shared .locked ≡ true
+lock-there acts some =
+    let f : Found (at acts) (left acts) = found (at acts .bench) (at acts .past) (left acts) (inv acts .past) some in
+    let k : Came acts (f .rest) (f .event) = moments acts (f .rest) (f .event) [] (f .parts) in
+    let ok : reply (after (f .rest)) (f .event) ≡ accepted = ap (λ (es : List Event). reply (after es) (f .event)) (sym (k .was-left)) ∙ sym (answers (k .before) (f .event)) ∙ k .taken in
+    let now : bench acts ≡ step (after (f .rest)) (f .event) = as-left acts ∙ ap after (f .parts) ∙ run-snoc (f .rest) (f .event) newBench in
+    subst (λ (b : Bench). b .shared .locked ≡ true) (sym now) (step-locked (after (f .rest)) (f .event) (has-lock (after (f .rest)) (f .event) (f .no-lock) ok))
+
+can : (acts : List Act) → isSome (at acts .past) ≡ true → Accepted acts Back
 unfolding answer
-something acts l h = yes-all _ (l, (some-there (at acts .past) h, tt))
+can acts some = yes-all _ (lock-there acts some, (some, tt))
+
+pub something : (acts : List Act) → 1 ≤ remembers acts → Accepted acts Back
+something acts h = can acts (some-there (at acts .past) h)
 
 pub no-lock-yet : (acts : List Act) → (bench acts) .shared .locked ≡ false → answer (at acts) Back ≡ refused 5
 unfolding answer firstNo unless
@@ -191,3 +217,17 @@ no-lock-yet acts l = rw l refl
 pub nothing : (acts : List Act) → (bench acts) .shared .locked ≡ true → remembers acts ≡ 0 → answer (at acts) Back ≡ refused 26
 unfolding answer firstNo unless
 nothing acts l h = rw (l, none-there (at acts .past) h) refl
+
+-- an event, and a step back right after it
+module _ (acts : List Act) (e : Event) (ok : Accepted acts (Play e)) (h : NoLock e) where
+  some-then : isSome (at (acts ++ (Play e ∷ [])) .past) ≡ true
+  unfolding done pastAfter
+  some-then = ap (λ (s : Remembering). isSome (s .past)) (at-taken acts (Play e) ok)
+      ∙ ap (λ (t : Bool). isSome (cond t (take mostRemembered (at acts .bench ∷ at acts .past)) [])) (undoable e h)
+
+  pub tried-left : left (acts ++ (Play e ∷ Back ∷ [])) ≡ left acts
+  tried-left = ap left (sym (append-assoc acts (Play e ∷ []) (Back ∷ []))) ∙ left-taken (acts ++ (Play e ∷ [])) Back (can (acts ++ (Play e ∷ [])) some-then)
+      ∙ ap withoutLast (left-taken acts (Play e) ok) ∙ without-snoc (left acts) e
+
+  pub tried : bench (acts ++ (Play e ∷ Back ∷ [])) ≡ bench acts
+  tried = as-left (acts ++ (Play e ∷ Back ∷ [])) ∙ ap after tried-left ∙ sym (as-left acts)

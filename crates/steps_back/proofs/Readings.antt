@@ -23,8 +23,8 @@ use Rattle.steps_back.specs.Memory.{Remembering, answer, left}
 use Rattle.steps_back.specs.Claim.{at, bench, Accepted, Holds, HoldsSome, Kept, Moves, StepsBack}
 use Rattle.model.specs.declared.Act.{Act}
 use Rattle.model.specs.declared.Act.the-variants.{Play, Back}
-use Rattle.steps_back.proofs.Theorem.{left-taken, at-refused}
-use Rattle.steps_back.proofs.Moments.{as-left, moments, answers, untouched, plain, undoes, one-more, none-at-lock, one-fewer, no-lock-yet, something, nothing}
+use Rattle.steps_back.proofs.Theorem.{left-taken, left-refused, at-refused}
+use Rattle.steps_back.proofs.Moments.{as-left, moments, answers, untouched, plain, undoes, tried, tried-left, one-more, none-at-lock, one-fewer, no-lock-yet, something, nothing}
 
 -- what holds of the bench after the events left holds of the bench
 here : (P : Bench → Type 0) (acts : List Act) → P (after (left acts)) → P (bench acts)
@@ -97,12 +97,16 @@ module _ (d : Demand3) (t : Termination) (u : CleanMessages) where
 
   pub all : StepsBack
   all = record {
+    stays = λ acts e ok. left-taken acts (Play e) ok;
+    passed = λ acts a q r. left-refused acts a (ap isAccepted r);
     as-left = as-left;
     moments = moments;
     answers = answers;
     untouched = untouched;
     plain = plain;
     undoes = undoes;
+    tried = tried;
+    tried-left = tried-left;
     one-more = one-more;
     none-at-lock = none-at-lock;
     one-fewer = one-fewer;

@@ -71,7 +71,7 @@ pub record Found (s : Remembering) (es : List Event) : Type 0 where
   pub no-lock : canBeUndone event ≡ true
   pub inv : Inv (done s Back) rest
 
-found : (b : Bench) (past : List Bench) (es : List Event) → Trace past es → isSome past ≡ true → Found (record { bench = b; past = past }) es
+pub found : (b : Bench) (past : List Bench) (es : List Event) → Trace past es → isSome past ≡ true → Found (record { bench = b; past = past }) es
 unfolding Trace done setBack
 found b [] es t some = absurd (false≢true some)
 found b (old ∷ older) es t some = record { rest = t .rest; event = t .event; parts = t .parts; no-lock = t .no-lock; inv = record { bench = t .is; past = t .older } }

@@ -77,7 +77,11 @@ abbrev pub Moves : List Act → Event → ℕ → Type 0
 Moves acts e k = shownPosition (bench (acts ++ (Play e ∷ []))) k ≡ shownPosition (bench acts) k → ⊥
 
 pub record StepsBack : Type 0 where
-  -- THE EVENTS LEFT. At every moment the bench, the remembered events aside, is the one that the events left lead to from a new bench;
+  -- THE EVENTS LEFT, "the accepted events, without the undone ones and the steps back". An event that is accepted is left from then on,
+  pub stays : (acts : List Act) (e : Event) → Accepted acts (Play e) → left (acts ++ (Play e ∷ [])) ≡ left acts ++ (e ∷ [])
+  -- what is refused changes nothing of them, and a step back takes the last of them away (`undoes`, below).
+  pub passed : (acts : List Act) (a : Act) (q : ℕ) → answer (at acts) a ≡ refused q → left (acts ++ (a ∷ [])) ≡ left acts
+  -- At every moment the bench, the remembered events aside, is the one that they lead to from a new bench;
   pub as-left : (acts : List Act) → bench acts ≡ after (left acts)
   -- each of them was accepted, those before it being left then: so the moments of the list of events left are moments of the list of acts.
   pub moments : (acts : List Act) (es : List Event) (e : Event) (rest : List Event) → left acts ≡ es ++ (e ∷ rest) → Came acts es e
@@ -89,13 +93,16 @@ pub record StepsBack : Type 0 where
   pub plain : (es : List Event) → bench (map Play es) ≡ after es
   -- A STEP BACK
   pub undoes : (acts : List Act) → Accepted acts Back → Undoes acts
+  -- "take back an event and try another": right after an event that it can undo, all is as if that had not been put.
+  pub tried : (acts : List Act) (e : Event) → Accepted acts (Play e) → NoLock e → bench (acts ++ (Play e ∷ Back ∷ [])) ≡ bench acts
+  pub tried-left : (acts : List Act) (e : Event) → Accepted acts (Play e) → NoLock e → left (acts ++ (Play e ∷ Back ∷ [])) ≡ left acts
   -- "Up to 64 such events are remembered: one more pushes out the oldest, one undone is dropped."
   pub one-more : (acts : List Act) (e : Event) → Accepted acts (Play e) → NoLock e → remembers (acts ++ (Play e ∷ [])) ≡ min 64 (suc (remembers acts))
   pub none-at-lock : (acts : List Act) (n f : ℕ) (own : Bool) → Accepted acts (Play (Lock n f own)) → remembers (acts ++ (Play (Lock n f own) ∷ [])) ≡ 0
   pub one-fewer : (acts : List Act) → Accepted acts Back → suc (remembers (acts ++ (Back ∷ []))) ≡ remembers acts
   -- "Refused: 26, nothing to undo; after question 5." Nothing else is asked.
   pub no-lock-yet : (acts : List Act) → (bench acts) .shared .locked ≡ false → answer (at acts) Back ≡ refused 5
-  pub something : (acts : List Act) → (bench acts) .shared .locked ≡ true → 1 ≤ remembers acts → Accepted acts Back
+  pub something : (acts : List Act) → 1 ≤ remembers acts → Accepted acts Back
   pub nothing : (acts : List Act) → (bench acts) .shared .locked ≡ true → remembers acts ≡ 0 → answer (at acts) Back ≡ refused 26
   -- "All of demand 3, its list now with kind 9 and its clean orders included, and U5 and U10 are then read over the accepted events, without the undone
   -- ones and the steps back". DEMAND 3:
