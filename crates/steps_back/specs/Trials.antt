@@ -22,7 +22,7 @@ use Rattle.protocol.specs.declared.Bench.{Bench}
 use Rattle.protocol.specs.Counts.{openGates}
 use Rattle.protocol.specs.Rows.{Line, each, lineOf, messageCountsOf, wordsPut, same, sameLine, sameOutcome}
 use Rattle.protocol.specs.RowWords.{C, T, minus, allAccepted, AllPass}
-use Rattle.protocol.specs.Trials.{listing, undelivered, helped}
+use Rattle.protocol.specs.Trials.{listing, helped}
 use Rattle.steps_back.specs.Memory.{Remembering, newRemembering, answer, next, runActs}
 
 pub record BackTrial : Type 0 where
@@ -67,9 +67,16 @@ carries kind b i j = OfBallots (Carry i j kind b)
 abbrev voted : List Event
 voted = Lock 2 1 false ∷ Order 1 ∷ Cast 1 true 500 ∷ Cast 2 true 250 ∷ []
 
--- and have acknowledged all votes; 1 holds its own acknowledgement
+-- the votes come, and both acknowledge them; 1 holds its own acknowledgement
+abbrev votesIn : List Event
+votesIn = Deliver 1 2 Vote ∷ Deliver 2 1 Vote ∷ Timeout 1 ∷ Timeout 2 ∷ []
+
 abbrev acknowledged : List Event
-acknowledged = voted ++ (Deliver 1 2 Vote ∷ Deliver 2 1 Vote ∷ Timeout 1 ∷ Timeout 2 ∷ [])
+acknowledged = voted ++ votesIn
+
+-- what follows two votes where nothing is late
+abbrev allIn : List Event
+allIn = votesIn ++ (Deliver 1 2 Ack ∷ Deliver 2 1 Ack ∷ Timeout 1 ∷ Timeout 2 ∷ [])
 
 -- at a lock without an arbiter, all willing: the votes reach 1 alone, so 1 puts Move, 2 and 3 put Stay
 abbrev wordsPut3 : List Event
@@ -117,6 +124,8 @@ eachKind =
     (C 1 None 0 ∷ C 1 None 0 ∷ []) (T 2 0 0 0) [] 2
     -- and the second, which moved the gate: "positions"
     ∷ row (plays (listing true) ++ (Back ∷ [])) (allAccepted 13) (C 3 Move 500 ∷ C 2 None 0 ∷ []) (T 2 2 0 0) [] 1
+    -- "a gate set back by a step back has not been moved": both are, up to 2's vote, and move again in the same order, 2's to another target
+    ∷ row (plays (listing true) ++ (replicate 9 Back ++ plays (Cast 2 true 700 ∷ allIn))) (allAccepted 30) (C 3 Move 500 ∷ C 3 Move 700 ∷ []) (T 2 2 0 0) [] 0
     -- THE ARBITER's word: the gate is back, and the other word may be given
     ∷ row (plays (helped ++ (Deliver 1 2 Ack ∷ Decide 2 true ∷ Decide 3 false ∷ [])) ++ (Back ∷ plays (Decide 3 false ∷ Decide 2 true ∷ []))) (allAccepted 15 ++ (18 ∷ 0 ∷ 0 ∷ 18 ∷ []))
     (C 2 None 0 ∷ C 3 None 0 ∷ C 3 Stay 0 ∷ []) (T 3 3 2 1) (Move ∷ Stay ∷ []) 2
@@ -156,11 +165,18 @@ remembered =
     -- "that is neither a step back nor undone already": the second step back undoes the first stop, and not the first step back; "one undone is dropped"
     ∷ row (plays (Lock 2 1 false ∷ Order 1 ∷ Stop 1 ∷ Stop 2 ∷ []) ++ (Back ∷ Back ∷ [])) (allAccepted 6) (C 0 None 0 ∷ C 0 None 0 ∷ []) (T 0 0 0 0) [] 2
     ∷ row (plays (Lock 2 1 false ∷ Order 1 ∷ Stop 1 ∷ []) ++ (Back ∷ Play (Stop 2) ∷ Back ∷ Back ∷ Back ∷ [])) (allAccepted 7 ++ (26 ∷ [])) (C 0 None 0 ∷ C 0 None 0 ∷ []) (T 0 0 0 0) [] 2
+    -- the last one may be of the order before
+    ∷ row (plays (listing true ++ (Order 2 ∷ [])) ++ (Back ∷ Back ∷ [])) (allAccepted 15) (C 3 Move 500 ∷ C 2 None 0 ∷ []) (T 2 2 0 0) [] 1
     -- a step back, another event in the place of the one undone, and on
-    ∷ row (plays (Lock 2 1 false ∷ Order 1 ∷ Cast 1 true 500 ∷ []) ++ (Back ∷ plays (Cast 1 false 20 ∷ Cast 2 true 250 ∷ Deliver 1 2 Vote ∷ Deliver 2 1 Vote ∷ Timeout 1 ∷ Timeout 2
-    ∷ Deliver 1 2 Ack ∷ Deliver 2 1 Ack ∷ Timeout 1 ∷ Timeout 2 ∷ []))) (allAccepted 14) (C 3 Stay 0 ∷ C 3 Stay 0 ∷ []) (T 2 2 0 0) [] 0
+    ∷ row (plays (Lock 2 1 false ∷ Order 1 ∷ Cast 1 true 500 ∷ []) ++ (Back ∷ plays (Cast 1 false 20 ∷ Cast 2 true 250 ∷ allIn))) (allAccepted 14)
+    (C 3 Stay 0 ∷ C 3 Stay 0 ∷ []) (T 2 2 0 0) [] 0
+    -- "its clean orders included": a stop, and a bell before the votes were in, are undone, and all second bells decide
+    ∷ row (plays voted ++ (undone (Stop 2) ++ (undone (Timeout 1) ++ plays allIn))) (allAccepted 16) (C 3 Move 500 ∷ C 3 Move 250 ∷ []) (T 2 2 0 0) [] 0
     -- "Up to 64 such events are remembered": the order and 63 more can all be undone
     ∷ row (plays (Lock 2 1 false ∷ Order 1 ∷ []) ++ (replicate 63 (Play (Save 1)) ++ replicate 65 Back)) (allAccepted 129 ++ (26 ∷ [])) (C 0 None 0 ∷ C 0 None 0 ∷ []) (T 0 0 0 0) [] 2
+    -- "one undone is dropped", and makes room: the one after it pushes out none
+    ∷ row (plays (Lock 2 1 false ∷ Order 1 ∷ []) ++ (replicate 63 (Play (Save 1)) ++ (Back ∷ Play (Save 2) ∷ replicate 65 Back))) (allAccepted 131 ++ (26 ∷ []))
+    (C 0 None 0 ∷ C 0 None 0 ∷ []) (T 0 0 0 0) [] 2
     -- "one more pushes out the oldest", and it stays out: with one more the order is not undone, and 2 may vote
     ∷ row (plays (Lock 2 1 false ∷ Order 1 ∷ []) ++ (replicate 64 (Play (Save 1)) ++ (replicate 65 Back ++ (Play (Cast 2 true 250) ∷ Back ∷ Back ∷ [])))) (allAccepted 130 ++ (26 ∷ 0 ∷ 0 ∷ 26 ∷ []))
     (C 0 None 0 ∷ C 0 None 0 ∷ []) (T 0 0 0 0) [] 2
