@@ -1,7 +1,6 @@
 -- Demand 3, U5 and U10, read over the events left: the bench at a moment is the one after them.
 use Prim.Native.Nat.{ℕ, _+_, _*_, _≤_}
 use mathlib.Core.Path.{_≡_, refl, sym, _∙_, ap, subst}
-use mathlib.Core.Bool.{Bool, true, false}
 use mathlib.Core.List.{List, [], _∷_, _++_, append-assoc}
 use mathlib.Core.Logic.{inl, inr}
 use Rattle.ground.specs.Tests.{split}
@@ -18,7 +17,7 @@ use Rattle.protocol.specs.Display.{shownOutcome, shownPosition, messageCount}
 use Rattle.protocol.specs.Claim.{after, SameOrder, IsSecondTimeout, Clean, AllWilling, OneUnwilling, WillingVote, Demand3}
 use Rattle.protocol.specs.Claim as events
 use Rattle.protocol.specs.Termination.{Premise, Meets, RunsAt, Termination}
-use Rattle.protocol.specs.CleanMessages.{CleanEnd, CleanMessages}
+use Rattle.protocol.specs.CleanMessages.{CleanMessages}
 use Rattle.steps_back.specs.Memory.{Remembering, answer, left}
 use Rattle.steps_back.specs.Claim.{at, bench, Accepted, Holds, HoldsSome, Kept, Moves, StepsBack}
 use Rattle.model.specs.declared.Act.{Act}
@@ -59,7 +58,7 @@ module _ (d : Demand3) (t : Termination) (u : CleanMessages) where
   agreement : (earlier later : List Act) (more : List Event) (i j : ℕ) (x y : Outcome) → Kept earlier later more → SameOrder (left earlier) more
       → Holds earlier i x → Holds later j y → x ≡ y
   agreement earlier later more i j x y k same h h′ =
-      d .agreement (left earlier) more i j x y same (over earlier i x h) (subst (λ (es : List Event). events.Holds es j y) (k .kept) (over later j y h′))
+      d .agreement (left earlier) more i j x y same (over earlier i x h) (subst (λ (es : List Event). events.Holds es j y) k (over later j y h′))
 
   validity : (acts : List Act) (i : ℕ) → Holds acts i Move → (k : ℕ) → 1 ≤ k → k ≤ (bench acts) .shared .n → WillingVote (left acts) k
   validity acts i h k low high = d .validity (left acts) i (over acts i Move h) k low (there (λ (b : Bench). k ≤ b .shared .n) acts high)
@@ -68,7 +67,7 @@ module _ (d : Demand3) (t : Termination) (u : CleanMessages) where
       → SameOrder (left (acts ++ (Play e ∷ []))) (more ++ (e′ ∷ [])) → Moves acts e k → Moves later e′ k → ⊥
   moves-once acts e later e′ more k kept same m m′ =
       let now : left (acts ++ (Play e ∷ [])) ≡ left acts ++ (e ∷ []) = left-taken acts (Play e) (moved acts e k m) in
-      let then : left later ≡ left acts ++ (e ∷ more) = kept .kept ∙ ap (λ (es : List Event). es ++ more) now ∙ append-assoc (left acts) (e ∷ []) more in
+      let then : left later ≡ left acts ++ (e ∷ more) = kept ∙ ap (λ (es : List Event). es ++ more) now ∙ append-assoc (left acts) (e ∷ []) more in
       d .moves-once (left acts) e more e′ k (subst (λ (es : List Event). SameOrder es (more ++ (e′ ∷ []))) now same) (moves-over acts e k m)
       (subst (λ (es : List Event). events.Moves es e′ k) then (moves-over later e′ k m′))
 

@@ -7,15 +7,14 @@ use mathlib.Core.Logic.{inl, inr}
 use lib.ListN.{take}
 use Rattle.ground.specs.Tests.{split, by-cond}
 use Rattle.model.specs.QuestionLaws.{is-accepted, all-yes}
-use Rattle.model.specs.Questions.{Reply, accepted, refused, isAccepted, ask, firstNo}
+use Rattle.model.specs.Questions.{Reply, accepted, isAccepted}
 use Rattle.model.specs.declared.Event.{Event}
 use Rattle.protocol.specs.declared.Bench.{Bench}
 use Rattle.protocol.specs.Benches.{newBench}
-use Rattle.protocol.specs.Questions.{reply}
 use Rattle.protocol.specs.Steps.{step, run}
 use Rattle.protocol.specs.Claim.{after}
 use Rattle.steps_back.specs.Memory.{Remembering, newRemembering, canBeUndone, mostRemembered, pastAfter, setBack, isSome, answer, done, next, runActs, withoutLast, leftBy, leftFrom, left}
-use Rattle.steps_back.specs.Claim.{at, bench, StepsBack}
+use Rattle.steps_back.specs.Claim.{at}
 use Rattle.model.specs.declared.Act.{Act}
 use Rattle.model.specs.declared.Act.the-variants.{Play, Back}
 

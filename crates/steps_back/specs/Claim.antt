@@ -66,11 +66,10 @@ pub record HoldsSome (acts : List Act) (i : ℕ) : Type 0 where
   pub outcome : Outcome
   pub holds : Holds acts i outcome
 
--- of two moments of a list: none of the events left at the earlier one has been undone up to the later one, and since then the events `more` are left
-pub record Kept (earlier later : List Act) (more : List Event) : Type 0 where
-  pub since : List Act
-  pub parts : later ≡ earlier ++ since
-  pub kept : left later ≡ left earlier ++ more
+-- of two moments: the events left at the later one are those left at the earlier one, so that none of these has been undone, and `more`. That it comes later
+-- in one list need not be said.
+abbrev pub Kept : List Act → List Act → List Event → Type 0
+Kept earlier later more = left later ≡ left earlier ++ more
 
 -- "a gate set back by a step back has not been moved": it moves at an event, put after these acts
 abbrev pub Moves : List Act → Event → ℕ → Type 0
