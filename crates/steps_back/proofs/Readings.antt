@@ -120,6 +120,7 @@ module _ (d : Demand3) (t : Termination) (u : CleanMessages) where
     clean-stay = clean-stay;
     at-most-2fn = λ acts. here (λ (b : Bench). messageCount b Vote + messageCount b Ack ≤ 2 * (b .shared .f * b .shared .n)) acts (d .at-most-2fn (left acts));
     hears = hears;
+    exactly-2fn = λ acts e. here (λ (b : Bench). messageCount b Vote + messageCount b Ack ≡ 2 * (b .shared .f * b .shared .n)) acts (u .exactly-2fn (left acts) e);
     votes = λ acts e. here (λ (b : Bench). messageCount b Vote ≡ b .shared .f * b .shared .n) acts (u .votes (left acts) e);
     acks = λ acts e. here (λ (b : Bench). messageCount b Ack ≡ b .shared .f * b .shared .n) acts (u .acks (left acts) e);
     no-help = λ acts e. here (λ (b : Bench). messageCount b Help ≡ 0) acts (u .no-help (left acts) e);

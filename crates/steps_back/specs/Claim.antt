@@ -32,6 +32,13 @@ bench acts = (at acts) .bench
 abbrev pub remembers : List Act → ℕ
 remembers acts = length ((at acts) .past)
 
+-- its lock's n and f
+abbrev pub n-at : List Act → ℕ
+n-at acts = (bench acts) .shared .n
+
+abbrev pub f-at : List Act → ℕ
+f-at acts = (bench acts) .shared .f
+
 abbrev pub Accepted : List Act → Act → Type 0
 Accepted acts a = answer (at acts) a ≡ accepted
 
@@ -104,22 +111,28 @@ pub record StepsBack : Type 0 where
   pub something : (acts : List Act) → 1 ≤ remembers acts → Accepted acts Back
   pub nothing : (acts : List Act) → (bench acts) .shared .locked ≡ true → remembers acts ≡ 0 → answer (at acts) Back ≡ refused 26
   -- "All of demand 3, its list now with kind 9 and its clean orders included, and U5 and U10 are then read over the accepted events, without the undone
-  -- ones and the steps back". DEMAND 3:
+  -- ones and the steps back". DEMAND 3: "any two outcomes held for one order, by whichever controllers and at whichever moments of it, are the same;
   pub agreement : (earlier later : List Act) (more : List Event) (i j : ℕ) (x y : Outcome) → Kept earlier later more → SameOrder (left earlier) more
       → Holds earlier i x → Holds later j y → x ≡ y
-  pub validity : (acts : List Act) (i : ℕ) → Holds acts i Move → (k : ℕ) → 1 ≤ k → k ≤ (bench acts) .shared .n → WillingVote (left acts) k
+  -- none is Move unless every controller's willing vote was accepted before in that order;
+  pub validity : (acts : List Act) (i : ℕ) → Holds acts i Move → (k : ℕ) → 1 ≤ k → k ≤ n-at acts → WillingVote (left acts) k
+  -- a gate moves at most once in an order,
   pub moves-once : (acts : List Act) (e : Event) (later : List Act) (e′ : Event) (more : List Event) (k : ℕ) → Kept (acts ++ (Play e ∷ [])) later more
       → SameOrder (left (acts ++ (Play e ∷ []))) (more ++ (e′ ∷ [])) → Moves acts e k → Moves later e′ k → ⊥
+  -- and at no restore;
   pub still-at-restore : (acts : List Act) (i k : ℕ) → Moves acts (Restore i) k → ⊥
-  pub clean-move : (acts : List Act) (i : ℕ) → Accepted acts (Play (Timeout i)) → IsSecondTimeout ((bench acts) .shared .n) ((bench acts) .shared .f) (left acts) i
-      → Clean ((bench acts) .shared .n) ((bench acts) .shared .f) (left acts ++ (Timeout i ∷ [])) → AllWilling (left acts) → Holds (acts ++ (Play (Timeout i) ∷ [])) i Move
-  pub clean-stay : (acts : List Act) (i : ℕ) → Accepted acts (Play (Timeout i)) → IsSecondTimeout ((bench acts) .shared .n) ((bench acts) .shared .f) (left acts) i
-      → Clean ((bench acts) .shared .n) ((bench acts) .shared .f) (left acts ++ (Timeout i ∷ [])) → OneUnwilling (left acts) → Holds (acts ++ (Play (Timeout i) ∷ [])) i Stay
-  pub at-most-2fn : (acts : List Act) → messageCount (bench acts) Vote + messageCount (bench acts) Ack ≤ 2 * ((bench acts) .shared .f * (bench acts) .shared .n)
-  -- U5
+  -- and in every clean order each second bell leaves its controller holding Move if all are willing, Stay if not."
+  pub clean-move : (acts : List Act) (i : ℕ) → Accepted acts (Play (Timeout i)) → IsSecondTimeout (n-at acts) (f-at acts) (left acts) i
+      → Clean (n-at acts) (f-at acts) (left acts ++ (Timeout i ∷ [])) → AllWilling (left acts) → Holds (acts ++ (Play (Timeout i) ∷ [])) i Move
+  pub clean-stay : (acts : List Act) (i : ℕ) → Accepted acts (Play (Timeout i)) → IsSecondTimeout (n-at acts) (f-at acts) (left acts) i
+      → Clean (n-at acts) (f-at acts) (left acts ++ (Timeout i ∷ [])) → OneUnwilling (left acts) → Holds (acts ++ (Play (Timeout i) ∷ [])) i Stay
+  -- "In any order, kinds 1 and 2 together are at most 2fn telegrams."
+  pub at-most-2fn : (acts : List Act) → messageCount (bench acts) Vote + messageCount (bench acts) Ack ≤ 2 * (f-at acts * n-at acts)
+  -- U5: "each running controller has an outcome"
   pub hears : (acts : List Act) → ((p : Premise) → Meets p (left acts)) → (i : ℕ) → RunsAt (left acts) i → HoldsSome acts i
-  -- U10
-  pub votes : (acts : List Act) → CleanEnd (left acts) → messageCount (bench acts) Vote ≡ (bench acts) .shared .f * (bench acts) .shared .n
-  pub acks : (acts : List Act) → CleanEnd (left acts) → messageCount (bench acts) Ack ≡ (bench acts) .shared .f * (bench acts) .shared .n
+  -- U10: "For a clean order that has ended everywhere, the figure is to be exactly 2fn, fn of each kind, with no help call and no answer"
+  pub exactly-2fn : (acts : List Act) → CleanEnd (left acts) → messageCount (bench acts) Vote + messageCount (bench acts) Ack ≡ 2 * (f-at acts * n-at acts)
+  pub votes : (acts : List Act) → CleanEnd (left acts) → messageCount (bench acts) Vote ≡ f-at acts * n-at acts
+  pub acks : (acts : List Act) → CleanEnd (left acts) → messageCount (bench acts) Ack ≡ f-at acts * n-at acts
   pub no-help : (acts : List Act) → CleanEnd (left acts) → messageCount (bench acts) Help ≡ 0
   pub no-helped : (acts : List Act) → CleanEnd (left acts) → messageCount (bench acts) Helped ≡ 0
