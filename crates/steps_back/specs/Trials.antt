@@ -138,6 +138,8 @@ eachKind =
     (C 9 None 500 ∷ C 2 None 0 ∷ []) (T 2 2 0 0) [] 1
     -- A RESTORE: it is stopped, and its card is there
     ∷ row (plays (voted ++ (Save 1 ∷ Stop 1 ∷ [])) ++ (undone (Restore 1) ++ plays (Timeout 1 ∷ Stop 1 ∷ []))) (allAccepted 8 ++ (15 ∷ 15 ∷ [])) (C 8 None 0 ∷ C 1 None 0 ∷ []) (T 2 0 0 0) [] 1
+    -- THE SECOND BELL at a lock without an arbiter: 3 has put no word, and may open no ballot (29)
+    ∷ ballotRow (Back ∷ plays (opens 3 3 ∷ [])) (0 ∷ 29 ∷ []) (C 3 None 0 ∷ C 3 None 0 ∷ C 2 None 0 ∷ []) 3
     -- A BALLOT OPENED: its ask was not sent, and it may be opened again, once (28)
     ∷ ballotRow (plays (opens 1 1 ∷ opens 1 1 ∷ []) ++ (Back ∷ plays (carries Prepare 1 1 2 ∷ opens 1 1 ∷ opens 1 1 ∷ []))) (0 ∷ 28 ∷ 0 ∷ 17 ∷ 0 ∷ 28 ∷ []) nobody3 3
     -- AN ASK DELIVERED: 2 has promised nothing, and may open its ballot 2 though it had promised ballot 4
