@@ -117,8 +117,9 @@ eachKind =
     -- and one that comes early is not kept: 2 answers nobody at its second timeout
     ∷ row (plays (Lock 3 1 false ∷ Order 1 ∷ Cast 2 true 20 ∷ Cast 3 true 30 ∷ Timeout 3 ∷ []) ++ (undone (Deliver 3 2 Help) ++ plays (Timeout 2 ∷ Timeout 2 ∷ [])))
     (allAccepted 9) (C 0 None 0 ∷ C 3 None 0 ∷ C 3 None 0 ∷ []) (T 2 1 2 0) [] 3
-    -- A HELP ANSWER DELIVERED: 3, which put Stay by it in trial 5, waits
+    -- A HELP ANSWER DELIVERED: 3, which put Stay by it in trial 5, waits; it puts it when the answer comes again
     ∷ row (plays helped ++ (Back ∷ [])) (allAccepted 14) (C 2 None 0 ∷ C 3 None 0 ∷ C 3 None 0 ∷ []) (T 3 3 2 1) [] 3
+    ∷ row (plays helped ++ (Back ∷ plays (Deliver 2 3 Helped ∷ []))) (allAccepted 15) (C 2 None 0 ∷ C 3 None 0 ∷ C 3 None 0 ∷ []) (T 3 3 2 1) (Stay ∷ []) 3
     -- A BELL, the first: the acknowledgements were not sent
     ∷ row (plays (voted ++ (Deliver 1 2 Vote ∷ Deliver 2 1 Vote ∷ Timeout 1 ∷ [])) ++ (undone (Timeout 2) ++ (Back ∷ plays (Deliver 1 2 Ack ∷ [])))) (allAccepted 10 ++ (17 ∷ []))
     (C 1 None 0 ∷ C 1 None 0 ∷ []) (T 2 0 0 0) [] 2
@@ -131,6 +132,8 @@ eachKind =
     (C 2 None 0 ∷ C 3 None 0 ∷ C 3 Stay 0 ∷ []) (T 3 3 2 1) (Move ∷ Stay ∷ []) 2
     -- A STOP of one that held acknowledgements: it holds them again, and decides
     ∷ row (plays (acknowledged ++ (Deliver 2 1 Ack ∷ [])) ++ (undone (Stop 1) ++ plays (Timeout 1 ∷ []))) (allAccepted 12) (C 3 Move 500 ∷ C 2 None 0 ∷ []) (T 2 2 0 0) [] 1
+    -- it is present: a new order finds both undecided
+    ∷ row (plays (listing true) ++ (undone (Stop 1) ++ plays (Order 2 ∷ []))) (allAccepted 15) (C 0 None 500 ∷ C 0 None (minus 250) ∷ []) (T 0 0 0 0) [] 2
     -- A SAVE: there is no card (19)
     ∷ row (plays voted ++ (undone (Save 1) ++ plays (Stop 1 ∷ Restore 1 ∷ []))) (allAccepted 7 ++ (19 ∷ [])) (C 8 None 0 ∷ C 1 None 0 ∷ []) (T 2 0 0 0) [] 1
     -- or the one of before is the newest again: 1 was saved without outcome, and then with Move
