@@ -1,11 +1,13 @@
 -- Demand 3, U5 and U10, read over the events left: the bench at a moment is the one after them.
 use Prim.Native.Nat.{ℕ, _+_, _*_, _≤_}
 use mathlib.Core.Path.{_≡_, refl, sym, _∙_, ap, subst}
+use mathlib.Core.Bool.{Bool, true, false}
 use mathlib.Core.List.{List, [], _∷_, _++_, append-assoc}
+use native.Mathlib.Omega.{arith}
 use mathlib.Core.Logic.{inl, inr}
 use Rattle.ground.specs.Tests.{split}
 use Rattle.model.specs.QuestionLaws.{is-accepted}
-use Rattle.model.specs.Questions.{accepted, isAccepted}
+use Rattle.model.specs.Questions.{accepted, refused, number, isAccepted, ask, unless, firstNo}
 use Rattle.model.specs.declared.Kind.the-variants.{Vote, Ack, Help, Helped}
 use Rattle.model.specs.declared.Outcome.{Outcome}
 use Rattle.model.specs.declared.Outcome.the-variants.{Stay, Move}
@@ -18,7 +20,10 @@ use Rattle.protocol.specs.Claim.{after, SameOrder, IsSecondTimeout, Clean, AllW
 use Rattle.protocol.specs.Claim as events
 use Rattle.protocol.specs.Termination.{Premise, Meets, RunsAt, Termination}
 use Rattle.protocol.specs.CleanMessages.{CleanMessages}
-use Rattle.steps_back.specs.Memory.{Remembering, answer, left}
+use Rattle.protocol.specs.Counts.{openGates}
+use Rattle.protocol.specs.OpenCount.{OpenCount, fullCount}
+use Rattle.protocol.specs.NoContradiction.{NoContradiction}
+use Rattle.steps_back.specs.Memory.{Remembering, isSome, answer, left}
 use Rattle.steps_back.specs.Claim.{at, bench, Accepted, Holds, HoldsSome, Kept, Moves, StepsBack}
 use Rattle.model.specs.declared.Act.{Act}
 use Rattle.model.specs.declared.Act.the-variants.{Play, Back}
@@ -39,6 +44,13 @@ over acts i x h = record { shows = there (λ (b : Bench). shownOutcome b i ≡ x
 back : (acts : List Act) (es : List Event) (i : ℕ) (x : Outcome) → left acts ≡ es → events.Holds es i x → Holds acts i x
 back acts es i x e h = record { shows = ap (λ (b : Bench). shownOutcome b i) (as-left acts ∙ ap after e) ∙ h .shows; some = h .some }
 
+-- a step back is answered 5, 26 or nothing
+back-never-24 : (locked some : Bool) → firstNo (ask 5 locked ∷ ask 26 some ∷ []) ≡ refused 24 → ⊥
+unfolding firstNo unless
+back-never-24 true true r = let z : _≡_ {A = ℕ} 0 24 = ap number r in omega arith
+back-never-24 true false r = let z : _≡_ {A = ℕ} 26 24 = ap number r in omega arith
+back-never-24 false some r = let z : _≡_ {A = ℕ} 5 24 = ap number r in omega arith
+
 -- a gate moves only at an accepted event, and so at an event that is left
 moved : (acts : List Act) (e : Event) (k : ℕ) → Moves acts e k → Accepted acts (Play e)
 moved acts e k m = elim (split (isAccepted (answer (at acts) (Play e)))) [
@@ -54,7 +66,7 @@ moves-over acts e k m p = m (
 reply-over : (acts : List Act) (e : Event) → Accepted acts (Play e) → events.Accepted (left acts) e
 reply-over acts e ok = sym (answers acts e) ∙ ok
 
-module _ (d : Demand3) (t : Termination) (u : CleanMessages) where
+module _ (d : Demand3) (t : Termination) (u : CleanMessages) (c : NoContradiction) (o : OpenCount) where
   agreement : (earlier later : List Act) (more : List Event) (i j : ℕ) (x y : Outcome) → Kept earlier later more → SameOrder (left earlier) more
       → Holds earlier i x → Holds later j y → x ≡ y
   agreement earlier later more i j x y k same h h′ =
@@ -94,6 +106,10 @@ module _ (d : Demand3) (t : Termination) (u : CleanMessages) where
   hears acts m i r = let h : events.HoldsSome (left acts) i = t .hears (left acts) m i r in
       record { outcome = h .outcome; holds = back acts (left acts) i (h .outcome) refl (h .holds) }
 
+  never-24 : (acts : List Act) (a : Act) → answer (at acts) a ≡ refused 24 → ⊥
+  never-24 acts (Play e) r = c .never-24 (left acts) e (sym (answers acts e) ∙ r)
+  never-24 acts Back r = back-never-24 ((bench acts) .shared .locked) (isSome ((at acts) .past)) (unfold answer in r)
+
   pub all : StepsBack
   all = record {
     stays = λ acts e ok. left-taken acts (Play e) ok;
@@ -125,4 +141,6 @@ module _ (d : Demand3) (t : Termination) (u : CleanMessages) where
     acks = λ acts e. here (λ (b : Bench). messageCount b Ack ≡ b .shared .f * b .shared .n) acts (u .acks (left acts) e);
     no-help = λ acts e. here (λ (b : Bench). messageCount b Help ≡ 0) acts (u .no-help (left acts) e);
     no-helped = λ acts e. here (λ (b : Bench). messageCount b Helped ≡ 0) acts (u .no-helped (left acts) e);
+    never-24 = never-24;
+    counted = λ acts. here (λ (b : Bench). openGates (b .shared) ≡ fullCount b) acts (o .counted (left acts));
   }

@@ -18,6 +18,8 @@ use Rattle.protocol.specs.Display.{shownOutcome, shownPosition, messageCount}
 use Rattle.protocol.specs.Claim.{after, SameOrder, IsSecondTimeout, Clean, AllWilling, OneUnwilling, WillingVote}
 use Rattle.protocol.specs.Termination.{Premise, Meets, RunsAt}
 use Rattle.protocol.specs.CleanMessages.{CleanEnd}
+use Rattle.protocol.specs.Counts.{openGates}
+use Rattle.protocol.specs.OpenCount.{fullCount}
 use Rattle.steps_back.specs.Memory.{Remembering, newRemembering, answer, runActs, left}
 use Rattle.model.specs.declared.Act.{Act}
 use Rattle.model.specs.declared.Act.the-variants.{Play, Back}
@@ -136,3 +138,6 @@ pub record StepsBack : Type 0 where
   pub acks : (acts : List Act) → CleanEnd (left acts) → messageCount (bench acts) Ack ≡ f-at acts * n-at acts
   pub no-help : (acts : List Act) → CleanEnd (left acts) → messageCount (bench acts) Help ≡ 0
   pub no-helped : (acts : List Act) → CleanEnd (left acts) → messageCount (bench acts) Helped ≡ 0
+  -- U7 and U9 are said of "any list from a new bench", and so of these: 24 is never answered, and the count kept of gates still open is the full count.
+  pub never-24 : (acts : List Act) (a : Act) → answer (at acts) a ≡ refused 24 → ⊥
+  pub counted : (acts : List Act) → openGates ((bench acts) .shared) ≡ fullCount (bench acts)

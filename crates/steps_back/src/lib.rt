@@ -12,6 +12,8 @@ pub fn steps_back()
     protocol::demand_3();
     protocol::termination();
     protocol::clean_messages();
+    protocol::no_contradiction();
+    protocol::open_count();
 }
 
 // Every row of the tables in specs/Trials.antt shows what the documents say of it.

@@ -12,9 +12,16 @@ termination-requires c κs = search needs
 clean-messages-requires : tie.Need-clean-messages-requires
 clean-messages-requires c κs = search needs
 
+no-contradiction-requires : tie.Need-no-contradiction-requires
+no-contradiction-requires c κs = search needs
+
+open-count-requires : tie.Need-open-count-requires
+open-count-requires c κs = search needs
+
 returns : tie.Need-returns
-returns c = all (c .before .before .demand-3 .ensures) (c .before .termination .ensures) (c .clean-messages .ensures)
+returns c = all (c .before .before .before .before .demand-3 .ensures) (c .before .before .before .termination .ensures) (c .before .before .clean-messages .ensures)
+    (c .before .no-contradiction .ensures) (c .open-count .ensures)
 
 pub steps-back-spec : {M : Type 1} → statement M
 steps-back-spec =
-    tie.close (tie.spec demand-3-requires termination-requires clean-messages-requires returns)
+    tie.close (tie.spec demand-3-requires termination-requires clean-messages-requires no-contradiction-requires open-count-requires returns)
