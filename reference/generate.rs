@@ -15,6 +15,7 @@ pub mod reports;
 pub mod schedules;
 pub mod sheets;
 pub mod steps_back;
+pub mod texts;
 pub mod wanted;
 
 use std::io;

@@ -25,6 +25,7 @@ pub mod questions;
 pub mod records;
 pub mod rng;
 pub mod rows;
+pub mod schedule_text;
 pub mod search;
 pub mod session;
 pub mod step_back_tally;

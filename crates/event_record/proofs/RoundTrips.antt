@@ -132,7 +132,7 @@ all-listed : (act : Act) → rowFor (fieldsIn (numbersIn (fieldsOf act))) .liste
 unfolding fieldsIn
 all-listed act = act-listed act
 
-lawful : Lawful events
+pub lawful : Lawful events
 lawful = record {
   mark-fits = λ k. omega arith;
   value-of-fields = λ e all. value-of-fields e;

@@ -10,9 +10,9 @@ use Rattle.model.specs.declared.Event.{Event}
 use Rattle.model.specs.declared.Event.the-variants.{Lock, Order, Cast, Deliver, Timeout, Decide, Stop, Save, Restore, OfBallots}
 use Rattle.model.specs.declared.BallotEvent.{BallotEvent}
 use Rattle.model.specs.declared.BallotEvent.the-variants.{Open, Carry}
-use Rattle.records.specs.Bytes.{one, four}
+use Rattle.records.specs.Bytes.{one, four, bytesOfWidths}
 use Rattle.records.specs.Codes.{isKind, kindOf, isBallotKind, ballotKindOf, isFlag, flagOf, flagNumber, unused}
-use Rattle.records.specs.Codec.{marked, Reading, isRecord, isRefusal, Form, formLength, Codec, oneForm, bytesOf, reads}
+use Rattle.records.specs.Codec.{marked, markBytes, Reading, isRecord, isRefusal, Form, formLength, Codec, oneForm, bytesOf, reads}
 use Rattle.records.specs.Rows.{KindRow, row, rowOf}
 use Rattle.event_record.specs.declared.Fields.{Fields}
 use Rattle.event_record.specs.declared.ReadEvent.{ReadEvent}
@@ -109,6 +109,10 @@ eventLength = formLength eventForm
 
 abbrev pub readEvent : List ℕ → ReadEvent
 readEvent s = reads events s
+
+-- the bytes of a record with these fields
+abbrev pub recordBytes : Fields → List ℕ
+recordBytes x = markBytes (eventForm .mark) ++ bytesOfWidths (eventForm .widths) (numbersIn x)
 
 abbrev pub eventBytes : Act → List ℕ
 eventBytes act = bytesOf events act

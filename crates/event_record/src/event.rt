@@ -18,7 +18,7 @@ ghost use lib.ListN.{length};
 ghost use Rattle.model.specs.Questions.{number};
 ghost use Rattle.records.specs.Codec.{fieldsBy, writeReply, writes};
 ghost use Rattle.records.specs.Promises.{Promises, AskedInSequence};
-ghost use Rattle.event_record.specs.Events.{answerOf, fieldsIn, ballotFields, eventFields, fieldsOf, eventForm, events, eventLength, readEvent, eventBytes};
+ghost use Rattle.event_record.specs.Events.{answerOf, fieldsIn, ballotFields, eventFields, fieldsOf, eventForm, events, eventLength, readEvent, recordBytes, eventBytes};
 
 // The fields as they stand on the record.
 fn fields_in(s: &[u8]) -> Fields
@@ -161,11 +161,10 @@ pub fn fields_of(act: Act) -> Fields
     }
 }
 
-// The ten bytes of an act.
-fn event_bytes(act: Act) -> [u8; 10]
-    ensures { λ r. ⌜ r ≡ eventBytes act ⌝ }
+// The ten bytes of a record with these fields.
+pub fn record_bytes(x: Fields) -> [u8; 10]
+    ensures { λ r. ⌜ r ≡ recordBytes x ⌝ }
 {
-    let x = fields_of(act);
     [
         low_byte(Event::MARK / 256),
         low_byte(Event::MARK),
@@ -178,6 +177,13 @@ fn event_bytes(act: Act) -> [u8; 10]
         low_byte(x.value / 256),
         low_byte(x.value),
     ]
+}
+
+// The ten bytes of an act.
+fn event_bytes(act: Act) -> [u8; 10]
+    ensures { λ r. ⌜ r ≡ eventBytes act ⌝ }
+{
+    record_bytes(fields_of(act))
 }
 
 // Answers 0, or 1 for a buffer of another length, which is then untouched: there is nothing to ask of an event.

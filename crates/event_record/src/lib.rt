@@ -6,6 +6,7 @@ pub use event::answer_of;
 pub use event::asked_in_sequence;
 pub use event::fields_of;
 pub use event::read_event;
+pub use event::record_bytes;
 pub use event::round_trips;
 pub use event::write_event;
 use model::Act;

@@ -1,40 +1,17 @@
+use mathlib.Core.Path.{_∙_, ap}
 use borrow.Author.Needs.{needs}
+use Rattle.event_record.specs.Events.{recordBytes}
 use Rattle.event_record.proofs.event.event_bytes.Statement.{statement}
 use Rattle.event_record.proofs.event.event_bytes.Tie as tie
 
 fields-of-requires : tie.Need-fields-of-requires
 fields-of-requires c κs = search needs
 
-low-byte-requires : tie.Need-low-byte-requires
-low-byte-requires c κs = search needs
-
-low-byte-requires-2 : tie.Need-low-byte-requires-2
-low-byte-requires-2 c κs = search needs
-
-low-byte-requires-3 : tie.Need-low-byte-requires-3
-low-byte-requires-3 c κs = search needs
-
-low-byte-requires-4 : tie.Need-low-byte-requires-4
-low-byte-requires-4 c κs = search needs
-
-low-byte-requires-5 : tie.Need-low-byte-requires-5
-low-byte-requires-5 c κs = search needs
-
-low-byte-requires-6 : tie.Need-low-byte-requires-6
-low-byte-requires-6 c κs = search needs
+record-bytes-requires : tie.Need-record-bytes-requires
+record-bytes-requires c κs = search needs
 
 returns : tie.Need-returns
-returns c = simp (← c .before .before .before .before .before .before .before .before .before .fields-of .ensures, ← c .before .before .before .before .before .before .before .before .low-byte .ensures, ← c .before .before .before .before .before .before .before .low-byte2 .ensures, ← c .before .before .before .before .before .low-byte3 .ensures, ← c .before .before .before .low-byte4 .ensures, ← c .before .low-byte5 .ensures, c .low-byte6 .ensures)
+returns c = c .record-bytes .ensures ∙ ap recordBytes (c .before .fields-of .ensures)
 
 pub event-bytes-spec : {M : Type 1} → statement M
-event-bytes-spec =
-    tie.close
-    (tie.spec
-    fields-of-requires
-    low-byte-requires
-    low-byte-requires-2
-    low-byte-requires-3
-    low-byte-requires-4
-    low-byte-requires-5
-    low-byte-requires-6
-    returns)
+event-bytes-spec = tie.close (tie.spec fields-of-requires record-bytes-requires returns)

@@ -1,0 +1,73 @@
+-- A schedule in either form, and what the programs that turn one into the other print.
+use Prim.Native.Nat.{ℕ, _+_, _-_, _^_, min}
+use mathlib.Core.Bool.{Bool, true, false, cond, not, _&&_, _||_}
+use mathlib.Core.List.{List, [], _∷_, _++_}
+use lib.Dec.{eqb, leb, ltb}
+use lib.ListN.{length, take, getD}
+use Rattle.text.specs.Text.{ascii, decimal, line, refusal}
+use Rattle.words.specs.Words.{linesOf, uncommented, nthWord}
+use Rattle.schedule_text.specs.Texts.{Result, made, refused, readText, writeText}
+
+-- records begin with 4C 45, the mark of the first
+abbrev pub marked : List ℕ → Bool
+marked [] = false
+marked (a ∷ []) = false
+marked (a ∷ b ∷ s) = eqb a 0x4C && eqb b 0x45
+
+-- a text has no byte 0; records that begin with another mark mostly have, and are left to the questions
+unfoldable pub hasNought : List ℕ → Bool
+hasNought [] = false
+hasNought (b ∷ s) = eqb b 0 || hasNought s
+
+unfoldable pub isText : List ℕ → Bool
+isText s = not (marked s) && not (hasNought s)
+
+unfoldable pub recordsIn : List ℕ → Result
+recordsIn s = cond (isText s) (readText s) (made s)
+
+-- a word, of a long one the beginning; or that a line has ended
+abbrev pub wordShown : List ℕ → List ℕ
+wordShown [] = ascii "end of line"
+wordShown (b ∷ w) = take 40 (b ∷ w)
+
+-- word i of line k, k from 1 on
+abbrev pub wordOf : List ℕ → ℕ → ℕ → List ℕ
+wordOf s k i = nthWord (uncommented (getD (linesOf s) (k - 1) [])) i
+
+-- the one line that is printed where a line is refused: its number, and the first word that was not expected
+abbrev pub refusedWord : ℕ → List ℕ → List ℕ
+refusedWord k w = ascii "- line " ++ (decimal (min k (2 ^ 32 - 1)) ++ (ascii ": " ++ (wordShown w ++ ascii "\n")))
+
+unfoldable pub refusedLine : List ℕ → ℕ → ℕ → List ℕ
+refusedLine s k i = refusedWord k (wordOf s k i)
+
+-- and where a record is: its index from 0 on, and the question's number
+unfoldable pub refusedRecord : ℕ → ℕ → List ℕ
+refusedRecord k q = ascii "- record " ++ (decimal (min k (2 ^ 32 - 1)) ++ (ascii ": " ++ (decimal (min q (2 ^ 32 - 1)) ++ ascii "\n")))
+
+-- the most bytes of a text and of records
+abbrev pub longestText : ℕ
+longestText = 327680
+
+abbrev pub longestRecords : ℕ
+longestRecords = 40960
+
+-- what `records` prints: the records; or the refused line; or "- 1", where there are too many
+abbrev pub recordsOr : List ℕ → Result → List ℕ
+recordsOr s (made r) = cond (leb (length r) longestRecords) r (refusal 1)
+recordsOr s (refused k i) = refusedLine s k i
+
+unfoldable pub recordsOutput : List ℕ → List ℕ
+recordsOutput s = cond (ltb longestText (length s)) (refusal 1) (recordsOr s (recordsIn s))
+
+-- what `text` prints: the text of the records; or what is refused
+abbrev pub textOr : Result → List ℕ
+textOr (made t) = t
+textOr (refused k q) = refusedRecord k q
+
+abbrev pub textOfRecords : List ℕ → Result → List ℕ
+textOfRecords s (made r) = cond (leb (length r) longestRecords) (textOr (writeText r)) (refusal 1)
+textOfRecords s (refused k i) = refusedLine s k i
+
+unfoldable pub textOutput : List ℕ → List ℕ
+textOutput s = cond (ltb longestText (length s)) (refusal 1) (textOfRecords s (recordsIn s))

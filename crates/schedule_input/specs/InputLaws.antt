@@ -1,0 +1,242 @@
+-- Laws of the two forms and of what is printed of them.
+use Prim.Native.Nat.{ℕ, suc, _+_, _-_, _^_, _≤_, _<_, min}
+use mathlib.Core.Path.{_≡_, refl, sym, _∙_, ap}
+use mathlib.Core.Bool.{true, false, _&&_}
+use mathlib.Core.List.{List, [], _∷_, _++_}
+use mathlib.Core.Logic.{inl, inr}
+use native.Mathlib.Nat.{add-zero}
+use native.Mathlib.Numerals.{add-one}
+use native.Mathlib.Omega.{arith}
+use borrow.Author.Tests.{le-leb, lt-leb, lt-ltb, le-ltb, leb-true, leb-false, eq-eqb, ne-eqb}
+use lib.Dec.{eqb, leb}
+use lib.ListN.{length, take, drop, getD, replicate, drop-of-length-le, length-append, length-drop, length-take, length-replicate, List·getD-eq-default}
+use lib.Seq.{drop-cons, length-take-le, take-all, take-append-seam, getD-drop}
+use Rattle.ground.specs.Tests.{split}
+use Rattle.text.specs.Text.{ascii, decimal, refusal}
+use Rattle.text.specs.Lengths.{decimal-length}
+use Rattle.text.specs.Writing.{Put, fitted, fittedLength}
+use Rattle.text.specs.WritingLaws.{all-fitted, nothing-fitted, read-front, fitted-whole}
+use Rattle.words.specs.Words.{linesOf, endOfRun, part, span}
+use Rattle.words.specs.WordLaws.{after-one, part-none}
+use Rattle.words.specs.declared.Class.the-variants.{Line}
+use Rattle.words.specs.declared.Span.{Span}
+use Rattle.schedule_text.specs.Texts.{Result, made, refused, readText, writeText, answerTo, bufferAfter}
+use Rattle.schedule_text.specs.TextLaws.{linesFrom, no-lines, line-then}
+use Rattle.schedule_text.specs.declared.Turned.{Turned}
+use Rattle.schedule_text.specs.declared.Turned.the-variants.{Done, Refused, NoRoom}
+use Rattle.schedule_input.specs.Input.{marked, hasNought, isText, recordsIn, wordShown, wordOf, refusedWord, refusedLine, refusedRecord, longestText, longestRecords, recordsOr, recordsOutput, textOr, textOfRecords, textOutput}
+
+-- the mark
+pub too-short : (s : List ℕ) → length s < 2 → false ≡ marked s
+too-short [] h = refl
+too-short (a ∷ []) h = refl
+too-short (a ∷ b ∷ s) h = absurd (omega arith)
+
+pub mark-of : (s : List ℕ) → 2 ≤ length s → (eqb (getD s 0 0) 0x4C && eqb (getD s 1 0) 0x45) ≡ marked s
+mark-of [] h = absurd (omega arith)
+mark-of (a ∷ []) h = absurd (omega arith)
+mark-of (a ∷ b ∷ s) h = refl
+
+-- a byte 0, along a text
+module _ (s : List ℕ) (i : ℕ) where
+  pub nought-here : i < length s → getD s i 0 ≡ 0 → hasNought (drop i s) ≡ true
+  unfolding hasNought
+  nought-here h e = rw (drop-cons s i 0 h, eq-eqb (getD s i 0) 0 e)
+
+  pub nought-later : i < length s → (getD s i 0 ≡ 0 → ⊥) → hasNought (drop i s) ≡ hasNought (drop (i + 1) s)
+  unfolding hasNought
+  nought-later h n = rw (drop-cons s i 0 h, ne-eqb (getD s i 0) 0 n, add-one i)
+
+  pub no-nought : length s ≤ i → hasNought (drop i s) ≡ false
+  unfolding hasNought
+  no-nought h = rw (drop-of-length-le s h)
+
+-- records of either form
+pub of-text : (s : List ℕ) → isText s ≡ true → readText s ≡ recordsIn s
+unfolding recordsIn
+of-text s t = rw t
+
+pub of-records : (s : List ℕ) → isText s ≡ false → made s ≡ recordsIn s
+unfolding recordsIn
+of-records s f = rw f
+
+abbrev pub Answered : Result → List ℕ → List ℕ → Turned → Type 0
+Answered x before after r = (r ≡ answerTo x before) × (after ≡ bufferAfter x before)
+
+pub same-answer : {x y : Result} (out : List ℕ) {after : List ℕ} {r : Turned} → x ≡ y → Answered x out after r → Answered y out after r
+same-answer {x} {y} out {after} {r} e w = (w .0 ∙ ap (λ (z : Result). answerTo z out) e, w .1 ∙ ap (λ (z : Result). bufferAfter z out) e)
+
+pub no-room-for : (s out : List ℕ) → length out < length s → Answered (made s) out out NoRoom
+unfolding answerTo bufferAfter
+no-room-for s out h = (rw (lt-leb (length s) (length out) h), nothing-fitted s out h .1)
+
+pub copied : (s out after : List ℕ) (r : ℕ) → length s ≤ length out → Put out after 0 r s → Answered (made s) out after (Done r)
+unfolding answerTo bufferAfter
+copied s out after r h p =
+    let e : r ≡ length s = read-front h p .0 in
+    (rw (le-leb (length s) (length out) h, e), all-fitted s out h p .1)
+
+-- what an answer says of the result
+module _ (out : List ℕ) where
+  abbrev pub Fits : Result → ℕ → Type 0
+  Fits x n = (s : List ℕ) × (x ≡ made s) × (length s ≤ length out) × (take n (bufferAfter x out) ≡ s) × (n ≤ length (bufferAfter x out))
+
+  pub was-done : (x : Result) (n : ℕ) → Done n ≡ answerTo x out → Fits x n
+  unfolding answerTo bufferAfter
+  was-done (refused k q) n e = let z : _≡_ {A = ℕ} 0 1 = cc in absurd (omega arith)
+  was-done (made s) n e = elim (split (leb (length s) (length out))) [
+    | inl t ↦
+        let f : Done n ≡ Done (length s) = rw t at e in
+        let g : n ≡ length s = cc in
+        let h : length s ≤ length out = leb-true (length s) (length out) t in
+        let w : fitted s out ≡ s ++ drop (length s) out = fitted-whole s out h .1 in
+        (s, refl, h, rw (w, g) (take-append-seam s (drop (length s) out)), rw (w, length-append s (drop (length s) out)) (omega arith))
+    | inr t ↦
+        let f : Done n ≡ NoRoom = rw t at e in
+        let z : _≡_ {A = ℕ} 0 1 = cc in
+        absurd (omega arith)
+  ]
+
+  pub was-refused : (x : Result) (k q : ℕ) → Refused k q ≡ answerTo x out → x ≡ refused k q
+  unfolding answerTo
+  was-refused (refused j p) k q e = let a : j ≡ k = cc in let b : p ≡ q = cc in rw (a, b)
+  was-refused (made s) k q e = elim (split (leb (length s) (length out))) [
+    | inl t ↦ let f : Refused k q ≡ Done (length s) = rw t at e in let z : _≡_ {A = ℕ} 0 1 = cc in absurd (omega arith)
+    | inr t ↦ let f : Refused k q ≡ NoRoom = rw t at e in let z : _≡_ {A = ℕ} 0 1 = cc in absurd (omega arith)
+  ]
+
+  pub was-no-room : (x : Result) → NoRoom ≡ answerTo x out → (s : List ℕ) × (x ≡ made s) × (length out < length s)
+  unfolding answerTo
+  was-no-room (refused k q) e = let z : _≡_ {A = ℕ} 0 1 = cc in absurd (omega arith)
+  was-no-room (made s) e = elim (split (leb (length s) (length out))) [
+    | inl t ↦ let f : NoRoom ≡ Done (length s) = rw t at e in let z : _≡_ {A = ℕ} 0 1 = cc in absurd (omega arith)
+    | inr t ↦ (s, refl, leb-false (length s) (length out) t)
+  ]
+
+-- lines: the line after the first k
+pub lines-begun : (s : List ℕ) → drop 0 (linesOf s) ≡ linesFrom s 0
+lines-begun s = rw (le-leb 0 (length s) (omega arith))
+
+module _ (s : List ℕ) (i at : ℕ) (e : drop i (linesOf s) ≡ linesFrom s at) where
+  pub lines-on : at ≤ length s → drop (i + 1) (linesOf s) ≡ linesFrom s (endOfRun Line s at + 1)
+  lines-on h = rw add-one (after-one i _ (linesOf s) _ (e ∙ line-then s at h))
+
+  pub line-here : at ≤ length s → part s (span at (endOfRun Line s at)) ≡ getD (linesOf s) i []
+  line-here h =
+      sym (ap (λ (ls : List (List ℕ)). getD ls 0 []) (e ∙ line-then s at h))
+      ∙ getD-drop i (linesOf s) 0 [] ∙ ap (λ (j : ℕ). getD (linesOf s) j []) (add-zero i)
+
+  pub line-nowhere : length s < at → (k : ℕ) → i ≤ k → (r : Span) → r .from ≡ r .to → part s r ≡ getD (linesOf s) k []
+  line-nowhere h k l r f =
+      let d : length (drop i (linesOf s)) ≡ 0 = ap length (e ∙ no-lines s at h) in
+      let g : length (linesOf s) ≤ k = omega (arith, length-drop i (linesOf s)) in
+      part-none s r f ∙ sym (List·getD-eq-default (linesOf s) [] g)
+
+-- a text that was put into an array of 60 bytes
+pub in-array : (t : List ℕ) {m : List ℕ} {r : ℕ} → length t ≤ 60 → Put (replicate 60 0) m 0 r t → (r ≤ 60) × (take r m ≡ t)
+in-array t {m} {r} h p =
+    let l : length (replicate {A = ℕ} 60 0) ≡ 60 = length-replicate {A = ℕ} 60 0 in
+    let w = read-front (omega arith) p in
+    (omega (arith, w .0), w .1)
+
+shown-length : (w : List ℕ) → length (wordShown w) ≤ 40
+shown-length [] = omega arith
+shown-length (b ∷ w) = let e = length-take 40 (b ∷ w) in omega arith
+
+pub refused-line-length : (s : List ℕ) (k i : ℕ) → length (refusedLine s k i) ≤ 60
+unfolding refusedLine
+refused-line-length s k i = simp length-append (omega (arith, decimal-length (min k (2 ^ 32 - 1)), shown-length (wordOf s k i)))
+
+pub refused-record-length : (k q : ℕ) → length (refusedRecord k q) ≤ 60
+unfolding refusedRecord
+refused-record-length k q = simp length-append (omega (arith, decimal-length (min k (2 ^ 32 - 1)), decimal-length (min q (2 ^ 32 - 1))))
+
+-- a word as it is shown
+pub shown-short : (w : List ℕ) → 0 < length w → length w ≤ 40 → w ≡ wordShown w
+shown-short [] h l = absurd (omega arith)
+shown-short (b ∷ w) h l = sym (take-all 40 (b ∷ w) l)
+
+pub shown-long : (w : List ℕ) → 0 < length w → take 40 w ≡ wordShown w
+shown-long [] h = absurd (omega arith)
+shown-long (b ∷ w) h = refl
+
+pub shown-none : (w : List ℕ) → length w ≡ 0 → ascii "end of line" ≡ wordShown w
+shown-none [] h = refl
+shown-none (b ∷ w) h = absurd (omega arith)
+
+-- what is printed
+module _ (s : List ℕ) where
+  pub text-too-long : longestText < length s → (refusal 1 ≡ recordsOutput s) × (refusal 1 ≡ textOutput s)
+  unfolding recordsOutput textOutput
+  text-too-long h = rw (lt-ltb longestText (length s) h) (refl, refl)
+
+  module _ (h : length s ≤ longestText) where
+    pub output-by : recordsOr s (recordsIn s) ≡ recordsOutput s
+    unfolding recordsOutput
+    output-by = rw (le-ltb longestText (length s) h)
+
+    pub text-by : textOfRecords s (recordsIn s) ≡ textOutput s
+    unfolding textOutput
+    text-by = rw (le-ltb longestText (length s) h)
+
+pub few-records : (s : List ℕ) {x : Result} {r : List ℕ} → x ≡ made r → length r ≤ longestRecords → (r ≡ recordsOr s x) × (textOr (writeText r) ≡ textOfRecords s x)
+few-records s {x} {r} e h = rw (e, le-leb (length r) longestRecords h) (refl, refl)
+
+pub many-records : (s : List ℕ) {x : Result} {r : List ℕ} → x ≡ made r → longestRecords < length r → (refusal 1 ≡ recordsOr s x) × (refusal 1 ≡ textOfRecords s x)
+many-records s {x} {r} e h = rw (e, lt-leb (length r) longestRecords h) (refl, refl)
+
+pub line-refused : (s : List ℕ) {x : Result} {k q : ℕ} → x ≡ refused k q → (refusedLine s k q ≡ recordsOr s x) × (refusedLine s k q ≡ textOfRecords s x)
+line-refused s e = rw e (refl, refl)
+
+-- the text of records, as `write` answered
+module _ (x : Result) (out : List ℕ) where
+  abbrev pub TextWritten : ℕ → List ℕ → Type 0
+  TextWritten r after = (r ≡ fittedLength (textOr x) out) × (after ≡ fitted (textOr x) out)
+
+  pub text-done : (n : ℕ) (after : List ℕ) → Done n ≡ answerTo x out → after ≡ bufferAfter x out → TextWritten n after
+  unfolding bufferAfter fittedLength
+  text-done n after e f =
+      let w = was-done out x n e in
+      let g : n ≡ length (w .0) = sym (length-take-le n (bufferAfter x out) (w .4)) ∙ ap length (w .3) in
+      (rw (w .1, le-leb (length (w .0)) (length out) (w .2)) g, f ∙ rw (w .1))
+
+  pub text-refused : (k q r : ℕ) (between after : List ℕ) → Refused k q ≡ answerTo x out → between ≡ bufferAfter x out
+      → (r ≡ fittedLength (refusedRecord k q) between) × (after ≡ fitted (refusedRecord k q) between) → TextWritten r after
+  unfolding bufferAfter
+  text-refused k q r between after e f w =
+      let g : x ≡ refused k q = was-refused out x k q e in
+      let b : between ≡ out = f ∙ rw g in
+      (rw (g, ← b) (w .0), rw (g, ← b) (w .1))
+
+  pub text-no-room : (after : List ℕ) → NoRoom ≡ answerTo x out → after ≡ bufferAfter x out → TextWritten 0 after
+  unfolding bufferAfter
+  text-no-room after e f =
+      let w = was-no-room out x e in
+      (rw (w .1) (nothing-fitted (w .0) out (w .2) .0), f ∙ rw (w .1))
+
+-- a program's array of 40,960 bytes for the records
+module _ (s out : List ℕ) (l : length out ≡ longestRecords) (h : length s ≤ longestText) {after : List ℕ} {r : Turned} (w : Answered (recordsIn s) out after r) where
+  pub done-within : (n : ℕ) → r ≡ Done n → (n ≤ longestRecords) × (n ≤ length after)
+  done-within n e =
+      let f = was-done out (recordsIn s) n (sym e ∙ w .0) in
+      let g : n ≡ length (f .0) = sym (length-take-le n (bufferAfter (recordsIn s) out) (f .4)) ∙ ap length (f .3) in
+      let m : n ≤ length after = rw (w .1) (f .4) in
+      (omega (arith, f .2), m)
+
+  pub done-output : (n : ℕ) → r ≡ Done n → (take n after ≡ recordsOutput s) × (textOr (writeText (take n after)) ≡ textOutput s)
+  done-output n e =
+      let f = was-done out (recordsIn s) n (sym e ∙ w .0) in
+      let g : take n after ≡ f .0 = ap (take n) (w .1) ∙ f .3 in
+      let few = few-records s (f .1) (omega (arith, f .2)) in
+      (g ∙ few .0 ∙ output-by s h, ap (λ (x : List ℕ). textOr (writeText x)) g ∙ few .1 ∙ text-by s h)
+
+  pub refused-output : (k q : ℕ) → r ≡ Refused k q → (refusedLine s k q ≡ recordsOutput s) × (refusedLine s k q ≡ textOutput s)
+  refused-output k q e =
+      let f = line-refused s (was-refused out (recordsIn s) k q (sym e ∙ w .0)) in
+      (f .0 ∙ output-by s h, f .1 ∙ text-by s h)
+
+  pub no-room-output : r ≡ NoRoom → (refusal 1 ≡ recordsOutput s) × (refusal 1 ≡ textOutput s)
+  no-room-output e =
+      let f = was-no-room out (recordsIn s) (sym e ∙ w .0) in
+      let many = many-records s (f .1) (omega (arith, f .2)) in
+      (many .0 ∙ output-by s h, many .1 ∙ text-by s h)

@@ -1,0 +1,4 @@
+pub mod Input
+-- laws
+pub mod InputLaws
+pub mod Room

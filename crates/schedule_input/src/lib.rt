@@ -1,0 +1,17 @@
+// A schedule in either form: which one it is, its records, and what the programs `records` and `text` print of it.
+mod forms;
+mod output;
+mod refusals;
+
+pub use forms::records_in;
+pub use output::render_records;
+pub use output::render_text;
+pub use refusals::write_refused_line;
+
+// The most bytes of a text that the programs take, and of the records that it may stand for.
+pub const LONGEST_TEXT: usize = 327_680;
+
+pub const LONGEST_RECORDS: usize = 40_960;
+
+// No output is longer: 4,096 lines of 80 bytes (specs, Room).
+pub const LONGEST_OUTPUT: usize = 327_680;

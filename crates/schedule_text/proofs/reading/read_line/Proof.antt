@@ -1,0 +1,115 @@
+-- `schedule_text::read_line` meets its contract. The invariant: the first i words, which stand before `at`, gave these fields.
+use Prim.Native.Nat.{_+_, _-_, _≤_}
+use mathlib.Core.Path.{_≡_, refl, sym, _∙_, ap}
+use native.Mathlib.Omega.{arith}
+use lib.ListN.{length, drop}
+use borrow.Author.Needs.{needs}
+use Rattle.words.specs.Words.{wordsOf}
+use Rattle.words.specs.WordLaws.{no-next, next}
+use Rattle.event_record.specs.declared.Fields.{Fields}
+use Rattle.schedule_text.specs.Forms.{slotIn}
+use Rattle.schedule_text.specs.FormLaws.{fits-field}
+use Rattle.schedule_text.specs.Texts.{readWords, readLine}
+use Rattle.schedule_text.specs.TextLaws.{ended-here, not-expected, word-taken}
+use Rattle.schedule_text.specs.declared.Row.{Row}
+use Rattle.schedule_text.proofs.reading.read_line.Statement.{statement}
+use Rattle.schedule_text.proofs.reading.read_line.Tie as tie
+
+abbrev Inv-loop : tie.InvT-loop
+Inv-loop l x₀ at₀ i₀ x at i = (at ≤ length l) × (i ≤ at) × (readWords i x (wordsOf (drop at l)) ≡ readLine l)
+
+abbrev μ-loop : tie.MeasureT-loop
+μ-loop l x₀ at₀ i₀ x at i = length l - at
+
+loop-holds : tie.Need-loop-holds Inv-loop μ-loop
+unfolding readLine
+loop-holds c = (omega arith, omega arith, refl)
+
+row-of-requires : tie.Need-row-of-requires Inv-loop μ-loop
+row-of-requires c κs = search needs
+
+slot-in-requires : tie.Need-slot-in-requires Inv-loop μ-loop
+slot-in-requires c κs = search needs
+
+next-word-requires : tie.Need-next-word-requires Inv-loop μ-loop
+next-word-requires c κs = search needs
+
+ended-requires : tie.Need-ended-requires Inv-loop μ-loop
+ended-requires c κs = search needs
+
+returns : tie.Need-returns Inv-loop μ-loop
+returns c =
+    let m = c .before .before .before .before .before .loop in
+    let l = c .before .before .before .before .before .before .before .args .l .now in
+    let s = (c .before .before .before .slot-in .ensures ∙ ap (λ (r : Row). slotIn r (m .i)) (c .before .before .before .before .row-of .ensures)) in
+    c .ended .ensures ∙ ended-here (m .i) (m .x) s (no-next l (m .at) (c .before .before .next-word .ensures) (c .before .if1 .taken)) ∙ m .inv .2
+
+sub-value-in : tie.Need-sub-value-in Inv-loop μ-loop
+sub-value-in c = search needs
+
+part-value-in-start : tie.Need-part-value-in-start Inv-loop μ-loop
+part-value-in-start c = search needs
+
+part-value-in-end : tie.Need-part-value-in-end Inv-loop μ-loop
+part-value-in-end c = c .before .next-word .ensures .high (c .before .before .before .before .loop .inv .0)
+
+value-in-requires : tie.Need-value-in-requires Inv-loop μ-loop
+value-in-requires c κs = search needs
+
+enum-known-found : tie.Need-enum-known-found Inv-loop μ-loop
+enum-known-found c = search needs
+
+enum-told : tie.Need-enum-told Inv-loop μ-loop
+enum-told c = search needs
+
+returns-2 : tie.Need-returns-2 Inv-loop μ-loop
+returns-2 c =
+    let m = c .before .before .before .before .before .before .before .before .loop in
+    let l = c .before .before .before .before .before .before .before .before .before .before .args .l .now in
+    let s = (c .before .before .before .before .before .before .slot-in .ensures ∙ ap (λ (r : Row). slotIn r (m .i)) (c .before .before .before .before .before .before .before .row-of .ensures)) in
+    not-expected (m .i) (m .x) s (next l (m .at) (c .before .before .before .before .before .next-word .ensures) (c .before .before .before .before .if1 .left)) (sym (c .enum-told .given .1) ∙ c .before .before .value-in .ensures) ∙ m .inv .2
+
+with-field-requires : tie.Need-with-field-requires Inv-loop μ-loop
+with-field-requires c κs = fits-field _ _ _ (sym (c .before .found .given .1) ∙ c .before .before .before .value-in .ensures)
+
+add-i : tie.Need-add-i Inv-loop μ-loop
+add-i c = omega arith
+
+loop-less : tie.Need-loop-less Inv-loop μ-loop
+loop-less c = omega (arith, c .before .before .before .before .before .before .before .next-word .ensures .high (c .before .before .before .before .before .before .before .before .before .before .loop .inv .0))
+
+loop-again : tie.Need-loop-again Inv-loop μ-loop
+loop-again c =
+    let m = c .before .before .before .before .before .before .before .before .before .before .loop in
+    let l = c .before .before .before .before .before .before .before .before .before .before .before .before .args .l .now in
+    let n = c .before .before .before .before .before .before .before .next-word .ensures in
+    let s = (c .before .before .before .before .before .before .before .before .slot-in .ensures ∙ ap (λ (r : Row). slotIn r (m .i)) (c .before .before .before .before .before .before .before .before .before .row-of .ensures)) in
+    let e = word-taken (m .i) (m .x) s (c .before .before .found .given .0 .0) (next l (m .at) n (c .before .before .before .before .before .before .if1 .left)) (sym (c .before .before .found .given .1) ∙ c .before .before .before .before .value-in .ensures) in (
+      n .high (m .inv .0),
+      omega arith,
+      ap (λ (y : Fields). readWords (m .i + 1) y (wordsOf (drop (c .before .before .before .before .before .before .before .next-word .result .to) l))) (c .with-field .ensures) ∙ sym e ∙ m .inv .2,
+    )
+
+pub read-line-spec : {M : Type 1} → statement M
+read-line-spec =
+    tie.close
+    (tie.spec
+    Inv-loop
+    μ-loop
+    loop-holds
+    row-of-requires
+    slot-in-requires
+    next-word-requires
+    ended-requires
+    returns
+    sub-value-in
+    part-value-in-start
+    part-value-in-end
+    value-in-requires
+    enum-known-found
+    enum-told
+    returns-2
+    with-field-requires
+    add-i
+    loop-less
+    loop-again)

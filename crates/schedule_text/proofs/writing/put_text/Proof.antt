@@ -1,0 +1,106 @@
+-- `schedule_text::put_text` meets its contract. The invariant: the text w of the first k records is put, and with that of the others it makes the schedule's.
+use Prim.Native.Nat.{ℕ, _-_, _≤_}
+use mathlib.Core.Path.{_≡_, sym, _∙_, ap}
+use mathlib.Core.List.{List, [], _++_}
+use native.Mathlib.Omega.{arith}
+use lib.ListN.{length}
+use borrow.Author.Needs.{needs}
+use Rattle.text.specs.Writing.{Put}
+use Rattle.text.specs.WritingLaws.{put-nothing, put-then, put-text, put-length}
+use Rattle.event_record.specs.Events.{fieldsOf}
+use Rattle.schedule_text.specs.Forms.{lineOf}
+use Rattle.schedule_text.specs.Texts.{after, writeText}
+use Rattle.schedule_text.specs.TextLaws.{recordsFrom, record-refused, record-read, records-begun, records-ended, turns-done, turns-refused}
+use Rattle.schedule_text.proofs.Tags.{refused-as}
+use Rattle.schedule_text.proofs.writing.put_text.Statement.{statement}
+use Rattle.schedule_text.proofs.writing.put_text.Tie as tie
+
+abbrev Inv-loop : tie.InvT-loop
+Inv-loop out₀ s at₀ k₀ next₀ out at k next = (k ≤ at) × ((w : List ℕ) × Put out₀ out 0 next w × (after w (recordsFrom k s at) ≡ writeText s))
+
+abbrev μ-loop : tie.MeasureT-loop
+μ-loop out₀ s at₀ k₀ next₀ out at k next = length s - at
+
+loop-holds : tie.Need-loop-holds Inv-loop μ-loop
+loop-holds c = (omega arith, ([], put-nothing _ 0 (omega arith) (omega arith), records-begun _))
+
+record-at-requires : tie.Need-record-at-requires Inv-loop μ-loop
+record-at-requires c κs = search needs
+
+enum-known-read : tie.Need-enum-known-read Inv-loop μ-loop
+enum-known-read c = search needs
+
+enum-told : tie.Need-enum-told Inv-loop μ-loop
+enum-told c = search needs
+
+answer-of-requires : tie.Need-answer-of-requires Inv-loop μ-loop
+answer-of-requires c κs = search needs
+
+cast-t11 : tie.Need-cast-t11 Inv-loop μ-loop
+cast-t11 c = search needs
+
+same-length : tie.Need-same-length Inv-loop μ-loop
+same-length c = put-length (c .before .before .before .before .before .loop .inv .1 .1)
+
+returns : tie.Need-returns Inv-loop μ-loop
+returns c =
+    let l = c .before .before .before .before .before .loop in
+    let s = c .before .before .before .before .before .before .before .before .args .s .now in
+    let e = refused-as _ _ _ (c .before .enum-told .given .1) (c .answer-of .ensures) in
+    turns-refused _ (l .k) (c .answer-of .result) _ _ (sym (record-refused (l .k) s (l .at) (c .before .before .before .before .loop-test .taken) (l .inv .1 .0) (c .answer-of .result) (sym (c .before .before .before .record-at .ensures) ∙ e)) ∙ l .inv .1 .2)
+
+fields-of-requires : tie.Need-fields-of-requires Inv-loop μ-loop
+fields-of-requires c κs = search needs
+
+put-line-requires : tie.Need-put-line-requires Inv-loop μ-loop
+put-line-requires c κs = search needs
+
+add-at : tie.Need-add-at Inv-loop μ-loop
+add-at c = omega arith
+
+add-k : tie.Need-add-k Inv-loop μ-loop
+add-k c = omega arith
+
+loop-less : tie.Need-loop-less Inv-loop μ-loop
+loop-less c = omega arith
+
+loop-again : tie.Need-loop-again Inv-loop μ-loop
+loop-again c =
+    let l = c .before .before .before .before .before .before .before .before .before .before .loop in
+    let s = c .before .before .before .before .before .before .before .before .before .before .before .before .before .args .s .now in
+    let act = c .before .before .before .before .before .before .read .given .0 .0 in
+    let line = put-text (c .before .before .put-line .ensures) (ap lineOf (c .before .before .before .fields-of .ensures)) in (
+      omega arith,
+      (l .inv .1 .0 ++ lineOf (fieldsOf act), put-then (l .inv .1 .1) line, sym (record-read (l .k) s (l .at) (c .before .before .before .before .before .before .before .before .before .loop-test .taken) (l .inv .1 .0) act (sym (c .before .before .before .before .before .before .before .before .record-at .ensures) ∙ c .before .before .before .before .before .before .read .given .1)) ∙ l .inv .1 .2),
+    )
+
+same-length-2 : tie.Need-same-length-2 Inv-loop μ-loop
+same-length-2 c = put-length (c .before .loop .inv .1 .1)
+
+returns-2 : tie.Need-returns-2 Inv-loop μ-loop
+returns-2 c =
+    let l = c .before .loop in
+    turns-done _ (l .inv .1 .0) _ _ (l .next) (sym (records-ended (l .k) (c .before .before .before .before .args .s .now) (l .at) (l .inv .1 .0) (c .loop-test .left)) ∙ l .inv .1 .2) (l .inv .1 .1)
+
+pub put-text-spec : {M : Type 1} → statement M
+put-text-spec =
+    tie.close
+    (tie.spec
+    Inv-loop
+    μ-loop
+    loop-holds
+    record-at-requires
+    enum-known-read
+    enum-told
+    answer-of-requires
+    cast-t11
+    same-length
+    returns
+    fields-of-requires
+    put-line-requires
+    add-at
+    add-k
+    loop-less
+    loop-again
+    same-length-2
+    returns-2)

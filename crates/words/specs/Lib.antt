@@ -1,0 +1,6 @@
+pub mod Words
+pub mod Numbers
+-- laws
+pub mod WordLaws
+pub mod NumberLaws
+pub mod Joined
