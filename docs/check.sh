@@ -1,5 +1,5 @@
 #!/usr/bin/env bash
-# Looks that docs/ASSUMPTIONS.md names what is there: of each row with `crate::function` and `Definition` or `Definition.field`, that the crate is
+# Looks that the papers name what is there. docs/QUESTIONS.md: a row for each question of crates/question_words, in its words. docs/ASSUMPTIONS.md: of each row with `crate::function` and `Definition` or `Definition.field`, that the crate is
 # listed, that the function stands in its source with an `ensures` that names the definition, and that a record of that name has the field.
 # That it is proved is for `rt ci`, which proves every function of every listed crate.
 set -euo pipefail
@@ -7,6 +7,15 @@ cd "$(dirname "$0")/.."
 
 bad=0
 fault() { printf 'docs/ASSUMPTIONS.md: %s\n' "$*" >&2; bad=$((bad + 1)); }
+
+asked=$(sed -n 's/^.*asks \([0-9]*\) "\(.*\)"$/\1 \2/p' crates/question_words/specs/Questions.antt)
+explained=$(sed -n 's/^| \([0-9]*\) | \([^|]*\) |.*$/\1 \2/p' docs/QUESTIONS.md | sort -n)
+[ -n "$asked" ] && [ "$asked" = "$explained" ] || {
+    diff <(printf '%s\n' "$asked") <(printf '%s\n' "$explained") >&2 || :
+    echo "docs/QUESTIONS.md: its questions are not those of crates/question_words (<)" >&2
+    exit 1
+}
+echo "docs/QUESTIONS.md: $(grep -c . <<< "$asked") questions, in the words of crates/question_words"
 
 # The `ensures` lines of a function: those between its `fn` line and its body.
 contract() { # crate, function

@@ -4,24 +4,18 @@ use mathlib.Core.Path.{_≡_, refl, sym, _∙_, ap}
 use mathlib.Core.Bool.{true, false, _&&_}
 use mathlib.Core.List.{List, [], _∷_, _++_}
 use mathlib.Core.Logic.{inl, inr}
-use native.Mathlib.Nat.{add-zero}
 use native.Mathlib.Numerals.{add-one}
 use native.Mathlib.Omega.{arith}
 use borrow.Author.Tests.{le-leb, lt-leb, lt-ltb, le-ltb, leb-true, leb-false, eq-eqb, ne-eqb}
 use lib.Dec.{eqb, leb}
-use lib.ListN.{length, take, drop, getD, replicate, drop-of-length-le, length-append, length-drop, length-take, length-replicate, List·getD-eq-default}
-use lib.Seq.{drop-cons, length-take-le, take-all, take-append-seam, getD-drop}
+use lib.ListN.{length, take, drop, getD, replicate, drop-of-length-le, length-append, length-take, length-replicate}
+use lib.Seq.{drop-cons, length-take-le, take-all, take-append-seam}
 use Rattle.ground.specs.Tests.{split}
 use Rattle.text.specs.Text.{ascii, decimal, refusal}
 use Rattle.text.specs.Lengths.{decimal-length}
 use Rattle.text.specs.Writing.{Put, fitted, fittedLength}
 use Rattle.text.specs.WritingLaws.{all-fitted, nothing-fitted, read-front, fitted-whole}
-use Rattle.words.specs.Words.{linesOf, endOfRun, part, span}
-use Rattle.words.specs.WordLaws.{after-one, part-none}
-use Rattle.words.specs.declared.Class.the-variants.{Line}
-use Rattle.words.specs.declared.Span.{Span}
 use Rattle.schedule_text.specs.Texts.{Result, made, refused, readText, writeText, answerTo, bufferAfter}
-use Rattle.schedule_text.specs.TextLaws.{linesFrom, no-lines, line-then}
 use Rattle.schedule_text.specs.declared.Turned.{Turned}
 use Rattle.schedule_text.specs.declared.Turned.the-variants.{Done, Refused, NoRoom}
 use Rattle.schedule_input.specs.Input.{marked, hasNought, isText, recordsIn, wordShown, wordOf, refusedWord, refusedLine, refusedRecord, longestText, longestRecords, recordsOr, recordsOutput, textOr, textOfRecords, textOutput}
@@ -112,25 +106,6 @@ module _ (out : List ℕ) where
     | inl t ↦ let f : NoRoom ≡ Done (length s) = rw t at e in let z : _≡_ {A = ℕ} 0 1 = cc in absurd (omega arith)
     | inr t ↦ (s, refl, leb-false (length s) (length out) t)
   ]
-
--- lines: the line after the first k
-pub lines-begun : (s : List ℕ) → drop 0 (linesOf s) ≡ linesFrom s 0
-lines-begun s = rw (le-leb 0 (length s) (omega arith))
-
-module _ (s : List ℕ) (i at : ℕ) (e : drop i (linesOf s) ≡ linesFrom s at) where
-  pub lines-on : at ≤ length s → drop (i + 1) (linesOf s) ≡ linesFrom s (endOfRun Line s at + 1)
-  lines-on h = rw add-one (after-one i _ (linesOf s) _ (e ∙ line-then s at h))
-
-  pub line-here : at ≤ length s → part s (span at (endOfRun Line s at)) ≡ getD (linesOf s) i []
-  line-here h =
-      sym (ap (λ (ls : List (List ℕ)). getD ls 0 []) (e ∙ line-then s at h))
-      ∙ getD-drop i (linesOf s) 0 [] ∙ ap (λ (j : ℕ). getD (linesOf s) j []) (add-zero i)
-
-  pub line-nowhere : length s < at → (k : ℕ) → i ≤ k → (r : Span) → r .from ≡ r .to → part s r ≡ getD (linesOf s) k []
-  line-nowhere h k l r f =
-      let d : length (drop i (linesOf s)) ≡ 0 = ap length (e ∙ no-lines s at h) in
-      let g : length (linesOf s) ≤ k = omega (arith, length-drop i (linesOf s)) in
-      part-none s r f ∙ sym (List·getD-eq-default (linesOf s) [] g)
 
 -- a text that was put into an array of 60 bytes
 pub in-array : (t : List ℕ) {m : List ℕ} {r : ℕ} → length t ≤ 60 → Put (replicate 60 0) m 0 r t → (r ≤ 60) × (take r m ≡ t)

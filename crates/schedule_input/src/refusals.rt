@@ -4,16 +4,14 @@ use text::put_bytes;
 use text::put_number;
 use text::write_bytes;
 use words::Class;
-use words::Span;
 use words::end_of_run;
+use words::nth_line;
 use words::nth_span;
 ghost use mathlib.Core.Path.{_≡_};
-ghost use mathlib.Core.List.{[], _++_};
 ghost use Prim.Native.Nat.{_-_, _^_, _≤_, min};
-ghost use lib.ListN.{length, take, getD};
-ghost use Rattle.text.specs.Text.{ascii, decimal};
+ghost use lib.ListN.{take};
 ghost use Rattle.text.specs.Writing.{Put, fitted, fittedLength};
-ghost use Rattle.words.specs.Words.{linesOf, nthWord, part};
+ghost use Rattle.words.specs.Words.{nthWord};
 ghost use Rattle.schedule_input.specs.Input.{wordShown, refusedWord, refusedLine, refusedRecord};
 
 // No such line is longer.
@@ -27,32 +25,6 @@ fn printed(k: usize) -> u32
         return k as u32;
     }
     0xFFFF_FFFF
-}
-
-// From where to where line k stands, k from 0 on; where there is none, at the end.
-fn nth_line(s: &[u8], k: usize) -> Span
-    ensures { λ r. ⌜ (part (now (s .entry)) r ≡ getD (linesOf (now (s .entry))) k []) × (r .from ≤ r .to) × (r .to ≤ length (now (s .entry))) ⌝ }
-{
-    let mut at: usize = 0;
-    let mut i: usize = 0;
-    while i < k {
-        if s.len() < at {
-            return Span {
-                from: s.len(),
-                to: s.len(),
-            };
-        }
-        at = end_of_run(s, at, Class::Line) + 1;
-        i += 1;
-    }
-    if s.len() < at {
-        return Span {
-            from: s.len(),
-            to: s.len(),
-        };
-    }
-    let to = end_of_run(s, at, Class::Line);
-    Span { from: at, to }
 }
 
 fn put_shown(out: &mut [u8], at: usize, w: &[u8]) -> usize

@@ -1,19 +1,14 @@
 -- Laws of reading and writing along a text: a line word by word, a text line by line, a schedule record by record.
-use Prim.Native.Nat.{ℕ, zero, suc, _+_, _-_, _/_, _≤_, _<_}
+use Prim.Native.Nat.{ℕ, suc, _+_, _-_, _≤_, _<_}
 use mathlib.Core.Path.{_≡_, refl, sym, _∙_, ap}
-use mathlib.Core.Bool.{cond}
 use mathlib.Core.List.{List, [], _∷_, _++_, append-assoc, append-nil}
 use native.Mathlib.Numerals.{add-one}
 use native.Mathlib.Omega.{arith}
-use native.Mathlib.Decide.{decLt}
-use borrow.Author.Tests.{le-leb, lt-leb}
-use lib.Dec.{leb}
+use borrow.Author.Tests.{le-leb}
 use lib.ListN.{length, take, drop, length-drop, drop-of-length-le}
-use lib.Seq.{drop-drop, take-all}
+use lib.Seq.{drop-drop}
 use Rattle.text.specs.Writing.{Put}
-use Rattle.words.specs.Words.{run, pieces, linesOf, uncommented, wordsOf, endOfRun}
-use Rattle.words.specs.WordLaws.{run-short, all-one, one-then}
-use Rattle.words.specs.declared.Class.the-variants.{Line}
+use Rattle.words.specs.LineLaws.{linesFrom, no-lines, line-then}
 use Rattle.words.specs.declared.Found.{Found}
 use Rattle.words.specs.declared.Found.the-variants.{Value, Nothing}
 use Rattle.model.specs.declared.Act.{Act}
@@ -57,33 +52,7 @@ after-after s t (refused k q) = refl
 pub after-all : (s : List ℕ) → after s (made []) ≡ made s
 after-all s = ap made (append-nil s)
 
--- a text: the lines from a place on
-abbrev pub linesFrom : List ℕ → ℕ → List (List ℕ)
-linesFrom t at = cond (leb at (length t)) (linesOf (drop at t)) []
-
-pub no-lines : (t : List ℕ) (at : ℕ) → length t < at → linesFrom t at ≡ []
-no-lines t at h = rw (lt-leb at (length t) h)
-
-pub line-then : (t : List ℕ) (at : ℕ) → at ≤ length t → linesFrom t at ≡ take (endOfRun Line t at - at) (drop at t) ∷ linesFrom t (endOfRun Line t at + 1)
-line-then t at h =
-    let k : ℕ = run Line (drop at t) in
-    let n : endOfRun Line t at - at ≡ k = omega arith in
-    let len : length (drop at t) ≡ length t - at = length-drop at t in
-    let short : k ≤ length (drop at t) = run-short Line (drop at t) in
-    elim (decLt k (length (drop at t))) [
-      | yes l ↦
-          let d : drop (suc k) (drop at t) ≡ drop (at + k + 1) t = drop-drop (suc k) at t ∙ ap (λ (j : ℕ). drop j t) (more at k) in
-          let g : at + k + 1 ≤ length t = omega arith in
-          rw (le-leb at (length t) h, n, le-leb (at + k + 1) (length t) g, ← d) (one-then Line (drop at t) l)
-      | no m ↦
-          let e : k ≡ length (drop at t) = omega arith in
-          let g : length t < at + k + 1 = omega arith in
-          rw (le-leb at (length t) h, n, lt-leb (at + k + 1) (length t) g, take-all k (drop at t) (omega arith)) (all-one Line (drop at t) e)
-    ]
-  where
-    more : (a b : ℕ) → a + suc b ≡ a + b + 1
-    more a b = omega arith
-
+-- a text, line by line
 module _ (t : List ℕ) (at : ℕ) (h : at ≤ length t) {read : LineRead} {end : ℕ} (met : LineAt t at read end) (k : ℕ) (w : List ℕ) where
   lines-met : readLines k (linesFrom t at) ≡ onward read k (readLines (k + 1) (linesFrom t (end + 1)))
   unfolding readLines

@@ -174,7 +174,7 @@ module _ (s : List ℕ) (at : ℕ) where
   none-past e = ap (λ (k : ℕ). wordsOf (drop k s)) (sym e) ∙ same-words ∙ none-left e
 
 -- the words after the first k
-after-none : (k : ℕ) (ws : List (List ℕ)) → drop k ws ≡ [] → drop (suc k) ws ≡ []
+pub after-none : (k : ℕ) (ws : List (List ℕ)) → drop k ws ≡ [] → drop (suc k) ws ≡ []
 after-none zero [] e = refl
 after-none zero (w ∷ ws) e = let z : _≡_ {A = ℕ} (suc (length ws)) 0 = ap length e in absurd (omega arith)
 after-none (suc k) [] e = refl

@@ -3,7 +3,7 @@ use Prim.Native.Nat.{ℕ, zero, suc, _+_, _-_, _≤_}
 use mathlib.Core.Path.{_≡_}
 use mathlib.Core.Bool.{Bool, true, false, cond, not, _&&_, _||_}
 use mathlib.Core.List.{List, [], _∷_}
-use lib.Dec.{eqb}
+use lib.Dec.{eqb, ltb}
 use lib.ListN.{length, take, drop, getD}
 use Rattle.words.specs.declared.Class.{Class}
 use Rattle.words.specs.declared.Class.the-variants.{Gap, Word, Line, Shown}
@@ -83,6 +83,14 @@ nthSpan s k = spanAt s (past s k)
 
 abbrev pub nthWord : List ℕ → ℕ → List ℕ
 nthWord s k = getD (wordsOf s) k []
+
+-- where line k begins, k from 0 on, and from where to where it stands: at the end, where there is none
+unfoldable pub lineAt : List ℕ → ℕ → ℕ
+lineAt s zero = 0
+lineAt s (suc k) = endOfRun Line s (lineAt s k) + 1
+
+unfoldable pub nthLine : List ℕ → ℕ → Span
+nthLine s k = cond (ltb (length s) (lineAt s k)) (span (length s) (length s)) (span (lineAt s k) (endOfRun Line s (lineAt s k)))
 
 -- two texts are the same
 unfoldable pub same : List ℕ → List ℕ → Bool

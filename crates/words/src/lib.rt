@@ -7,6 +7,7 @@ pub use meaning::number_in;
 pub use meaning::signed_in;
 pub use scan::end_of_run;
 pub use scan::next_word;
+pub use scan::nth_line;
 pub use scan::nth_span;
 pub use scan::same;
 

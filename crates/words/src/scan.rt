@@ -4,7 +4,7 @@ use crate::Span;
 ghost use mathlib.Core.Path.{_≡_};
 ghost use Prim.Native.Nat.{_≤_};
 ghost use lib.ListN.{length};
-ghost use Rattle.words.specs.Words.{belongs, RunEnd, Next, nthSpan, same};
+ghost use Rattle.words.specs.Words.{belongs, RunEnd, Next, nthSpan, nthLine, same};
 
 fn is_gap(b: u8) -> bool
     ensures { λ r. ⌜ r ≡ belongs Class.Gap b ⌝ }
@@ -64,6 +64,32 @@ pub fn nth_span(s: &[u8], k: usize) -> Span
         i += 1;
     }
     next_word(s, at)
+}
+
+// From where to where line k stands, k from 0 on; where there is none, at the end.
+pub fn nth_line(s: &[u8], k: usize) -> Span
+    ensures { λ r. ⌜ (r ≡ nthLine (now (s .entry)) k) × (r .from ≤ r .to) × (r .to ≤ length (now (s .entry))) ⌝ }
+{
+    let mut at: usize = 0;
+    let mut i: usize = 0;
+    while i < k {
+        if s.len() < at {
+            return Span {
+                from: s.len(),
+                to: s.len(),
+            };
+        }
+        at = end_of_run(s, at, Class::Line) + 1;
+        i += 1;
+    }
+    if s.len() < at {
+        return Span {
+            from: s.len(),
+            to: s.len(),
+        };
+    }
+    let to = end_of_run(s, at, Class::Line);
+    Span { from: at, to }
 }
 
 // Are two texts the same?

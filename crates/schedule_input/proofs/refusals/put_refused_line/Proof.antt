@@ -8,6 +8,7 @@ use lib.ListN.{take, getD}
 use lib.Seq.{length-take-le}
 use Rattle.text.specs.WritingLaws.{put-text}
 use Rattle.words.specs.Words.{linesOf, uncommented, nthWord, part}
+use Rattle.words.specs.LineLaws.{nth-line}
 use Rattle.schedule_input.specs.Input.{refusedWord, refusedLine}
 use borrow.Author.Needs.{needs}
 use Rattle.schedule_input.proofs.refusals.put_refused_line.Statement.{statement}
@@ -44,9 +45,10 @@ returns : tie.Need-returns
 unfolding refusedLine
 returns c =
     let a = c .before .before .before .before .before .before .before .before .before .before .before .args in
-    let line = c .before .before .before .before .before .before .before .nth-line .ensures .0 ∙ ap (λ (k : ℕ). getD (linesOf (a .s .now)) k []) (c .before .before .before .before .before .before .before .before .one-less .ensures) in
+    let n = c .before .before .before .before .before .before .before .nth-line in
+    let line = ap (part (a .s .now)) (n .ensures .0) ∙ nth-line (a .s .now) (c .before .before .before .before .before .before .before .before .one-less .result) ∙ ap (λ (k : ℕ). getD (linesOf (a .s .now)) k []) (c .before .before .before .before .before .before .before .before .one-less .ensures) in
     let shown = c .before .before .before .before .before .end-of-run .ensures .is ∙ zero-add _ in
-    put-text (c .before .before .put-refused-in .ensures) (ap (λ (l : List ℕ). refusedWord (a .line) (nthWord l (a .word))) (ap (λ (k : ℕ). take k (part (a .s .now) (c .before .before .before .before .before .before .before .nth-line .result))) shown ∙ ap uncommented line))
+    put-text (c .before .before .put-refused-in .ensures) (ap (λ (l : List ℕ). refusedWord (a .line) (nthWord l (a .word))) (ap (λ (k : ℕ). take k (part (a .s .now) (n .result))) shown ∙ ap uncommented line))
 
 pub put-refused-line-spec : {M : Type 1} → statement M
 put-refused-line-spec =

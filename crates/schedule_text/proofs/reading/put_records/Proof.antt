@@ -9,7 +9,8 @@ use borrow.Author.Needs.{needs}
 use Rattle.text.specs.Writing.{Put}
 use Rattle.text.specs.WritingLaws.{put-nothing, put-then, put-length}
 use Rattle.schedule_text.specs.Texts.{after, bytesOfRead, readLines, readText}
-use Rattle.schedule_text.specs.TextLaws.{linesFrom, line-refused, line-read, text-begun, text-ended, turns-done, turns-refused}
+use Rattle.words.specs.LineLaws.{linesFrom}
+use Rattle.schedule_text.specs.TextLaws.{line-refused, line-read, text-begun, text-ended, turns-done, turns-refused}
 use Rattle.schedule_text.proofs.Tags.{expected}
 use Rattle.schedule_text.proofs.reading.put_records.Statement.{statement}
 use Rattle.schedule_text.proofs.reading.put_records.Tie as tie
