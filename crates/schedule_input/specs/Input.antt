@@ -8,19 +8,23 @@ use Rattle.text.specs.Text.{ascii, decimal, line, refusal}
 use Rattle.words.specs.Words.{linesOf, uncommented, nthWord}
 use Rattle.schedule_text.specs.Texts.{Result, made, refused, readText, writeText}
 
--- records begin with 4C 45, the mark of the first
+-- records begin with 4C 45, the mark of the first; 4C alone is the beginning of it
 abbrev pub marked : List ℕ → Bool
 marked [] = false
-marked (a ∷ []) = false
+marked (a ∷ []) = eqb a 0x4C
 marked (a ∷ b ∷ s) = eqb a 0x4C && eqb b 0x45
 
--- a text has no byte 0; records that begin with another mark mostly have, and are left to the questions
-unfoldable pub hasNought : List ℕ → Bool
-hasNought [] = false
-hasNought (b ∷ s) = eqb b 0 || hasNought s
+-- a text has no control byte but tabs, newlines and returns; every record that reads has one (`NothingLost`)
+unfoldable pub isControl : ℕ → Bool
+isControl b = ltb b 32 && not (eqb b 9 || eqb b 10 || eqb b 13)
 
+unfoldable pub hasControl : List ℕ → Bool
+hasControl [] = false
+hasControl (b ∷ s) = isControl b || hasControl s
+
+-- all other bytes are records, and get the answers of document 01
 unfoldable pub isText : List ℕ → Bool
-isText s = not (marked s) && not (hasNought s)
+isText s = not (marked s) && not (hasControl s)
 
 unfoldable pub recordsIn : List ℕ → Result
 recordsIn s = cond (isText s) (readText s) (made s)

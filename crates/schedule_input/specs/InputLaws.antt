@@ -18,32 +18,41 @@ use Rattle.text.specs.WritingLaws.{all-fitted, nothing-fitted, read-front, fitt
 use Rattle.schedule_text.specs.Texts.{Result, made, refused, readText, writeText, answerTo, bufferAfter}
 use Rattle.schedule_text.specs.declared.Turned.{Turned}
 use Rattle.schedule_text.specs.declared.Turned.the-variants.{Done, Refused, NoRoom}
-use Rattle.schedule_input.specs.Input.{marked, hasNought, isText, recordsIn, wordShown, wordOf, refusedWord, refusedLine, refusedRecord, longestText, longestRecords, recordsOr, recordsOutput, textOr, textOfRecords, textOutput}
+use Rattle.schedule_input.specs.Input.{marked, isControl, hasControl, isText, recordsIn, wordShown, wordOf, refusedWord, refusedLine, refusedRecord, longestText, longestRecords, recordsOr, recordsOutput, textOr, textOfRecords, textOutput}
 
 -- the mark
-pub too-short : (s : List ℕ) → length s < 2 → false ≡ marked s
-too-short [] h = refl
-too-short (a ∷ []) h = refl
-too-short (a ∷ b ∷ s) h = absurd (omega arith)
+pub no-bytes : (s : List ℕ) → length s ≡ 0 → false ≡ marked s
+no-bytes [] h = refl
+no-bytes (a ∷ s) h = absurd (omega arith)
 
-pub mark-of : (s : List ℕ) → 2 ≤ length s → (eqb (getD s 0 0) 0x4C && eqb (getD s 1 0) 0x45) ≡ marked s
-mark-of [] h = absurd (omega arith)
-mark-of (a ∷ []) h = absurd (omega arith)
-mark-of (a ∷ b ∷ s) h = refl
+pub other-first : (s : List ℕ) → (getD s 0 0 ≡ 0x4C → ⊥) → false ≡ marked s
+other-first [] n = refl
+other-first (a ∷ []) n = rw (ne-eqb a 0x4C n)
+other-first (a ∷ b ∷ s) n = rw (ne-eqb a 0x4C n)
 
--- a byte 0, along a text
+pub alone : (s : List ℕ) → length s ≡ 1 → getD s 0 0 ≡ 0x4C → true ≡ marked s
+alone [] h e = absurd (omega arith)
+alone (a ∷ []) h e = rw (eq-eqb a 0x4C e)
+alone (a ∷ b ∷ s) h e = absurd (omega arith)
+
+pub second : (s : List ℕ) → 1 < length s → getD s 0 0 ≡ 0x4C → eqb (getD s 1 0) 0x45 ≡ marked s
+second [] h e = absurd (omega arith)
+second (a ∷ []) h e = absurd (omega arith)
+second (a ∷ b ∷ s) h e = rw (eq-eqb a 0x4C e)
+
+-- a control byte, along a text
 module _ (s : List ℕ) (i : ℕ) where
-  pub nought-here : i < length s → getD s i 0 ≡ 0 → hasNought (drop i s) ≡ true
-  unfolding hasNought
-  nought-here h e = rw (drop-cons s i 0 h, eq-eqb (getD s i 0) 0 e)
+  pub control-here : i < length s → isControl (getD s i 0) ≡ true → hasControl (drop i s) ≡ true
+  unfolding hasControl
+  control-here h e = rw (drop-cons s i 0 h, e)
 
-  pub nought-later : i < length s → (getD s i 0 ≡ 0 → ⊥) → hasNought (drop i s) ≡ hasNought (drop (i + 1) s)
-  unfolding hasNought
-  nought-later h n = rw (drop-cons s i 0 h, ne-eqb (getD s i 0) 0 n, add-one i)
+  pub control-later : i < length s → isControl (getD s i 0) ≡ false → hasControl (drop i s) ≡ hasControl (drop (i + 1) s)
+  unfolding hasControl
+  control-later h n = rw (drop-cons s i 0 h, n, add-one i)
 
-  pub no-nought : length s ≤ i → hasNought (drop i s) ≡ false
-  unfolding hasNought
-  no-nought h = rw (drop-of-length-le s h)
+  pub no-control : length s ≤ i → hasControl (drop i s) ≡ false
+  unfolding hasControl
+  no-control h = rw (drop-of-length-le s h)
 
 -- records of either form
 pub of-text : (s : List ℕ) → isText s ≡ true → readText s ≡ recordsIn s

@@ -1,4 +1,5 @@
 pub mod Input
+pub mod NothingLost
 -- laws
 pub mod InputLaws
 pub mod Room

@@ -4,23 +4,44 @@ use schedule_text::read;
 use text::put_bytes;
 ghost use mathlib.Core.Path.{_≡_};
 ghost use Rattle.schedule_text.specs.Texts.{answerTo, bufferAfter};
-ghost use Rattle.schedule_input.specs.Input.{marked, hasNought, isText, recordsIn};
+ghost use Rattle.schedule_input.specs.Input.{marked, isControl, hasControl, isText, recordsIn};
 
 fn marked(s: &[u8]) -> bool
     ensures { λ r. ⌜ r ≡ marked (now (s .entry)) ⌝ }
 {
-    if s.len() < 2 {
+    if s.len() == 0 {
         return false;
     }
-    s[0] == 0x4C && s[1] == 0x45
+    if s[0] != 0x4C {
+        return false;
+    }
+    if s.len() == 1 {
+        return true;
+    }
+    s[1] == 0x45
 }
 
-fn has_nought(s: &[u8]) -> bool
-    ensures { λ r. ⌜ r ≡ hasNought (now (s .entry)) ⌝ }
+fn is_control(b: u8) -> bool
+    ensures { λ r. ⌜ r ≡ isControl b ⌝ }
+{
+    if b' ' <= b {
+        return false;
+    }
+    if b == b'\t' {
+        return false;
+    }
+    if b == b'\n' {
+        return false;
+    }
+    b != b'\r'
+}
+
+fn has_control(s: &[u8]) -> bool
+    ensures { λ r. ⌜ r ≡ hasControl (now (s .entry)) ⌝ }
 {
     let mut i: usize = 0;
     while i < s.len() {
-        if s[i] == 0 {
+        if is_control(s[i]) {
             return true;
         }
         i += 1;
@@ -34,7 +55,7 @@ fn is_text(s: &[u8]) -> bool
     if marked(s) {
         return false;
     }
-    !has_nought(s)
+    !has_control(s)
 }
 
 // Writes the records of a schedule in either form to the front of the buffer, all of them or none.

@@ -7,6 +7,7 @@ pub use forms::records_in;
 pub use output::render_records;
 pub use output::render_text;
 pub use refusals::write_refused_line;
+ghost use Rattle.schedule_input.specs.NothingLost.{NothingLost};
 
 // The most bytes of a text that the programs take, and of the records that it may stand for.
 pub const LONGEST_TEXT: usize = 327_680;
@@ -15,3 +16,8 @@ pub const LONGEST_RECORDS: usize = 40_960;
 
 // No output is longer: 4,096 lines of 80 bytes (specs, Room).
 pub const LONGEST_OUTPUT: usize = 327_680;
+
+// Of bytes that are taken as text no record reads.
+pub fn nothing_lost()
+    ensures { λ _. ⌜ NothingLost ⌝ }
+{}

@@ -13,12 +13,12 @@ returns : tie.Need-returns
 unfolding isText
 returns c = rw (← c .before .marked .ensures, c .if1 .taken)
 
-has-nought-requires : tie.Need-has-nought-requires
-has-nought-requires c κs = search needs
+has-control-requires : tie.Need-has-control-requires
+has-control-requires c κs = search needs
 
 returns-2 : tie.Need-returns-2
 unfolding isText
-returns-2 c = rw (← c .before .before .marked .ensures, c .before .if1 .left) (ap not (c .has-nought .ensures))
+returns-2 c = rw (← c .before .before .marked .ensures, c .before .if1 .left) (ap not (c .has-control .ensures))
 
 pub is-text-spec : {M : Type 1} → statement M
-is-text-spec = tie.close (tie.spec marked-requires returns has-nought-requires returns-2)
+is-text-spec = tie.close (tie.spec marked-requires returns has-control-requires returns-2)
