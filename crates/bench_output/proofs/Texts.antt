@@ -26,7 +26,8 @@ use Rattle.bench_report.specs.Lines.{reportOf}
 use Rattle.bench_report.specs.Report.{tooLong, reported}
 use Rattle.bench_report.specs.Room.{report-length, report-some}
 use Rattle.bench_summary.specs.Summary.{summaryOf}
-use Rattle.bench_output.specs.Output.{benchAfter, outputOf}
+use Rattle.schedule_input.specs.Room.{either-fits, either-some}
+use Rattle.bench_output.specs.Output.{benchAfter, outputOf, printedOf}
 use Rattle.bench_output.specs.AlwaysPrints.{AlwaysPrints}
 
 -- a report of few answers is written as any text is
@@ -92,9 +93,19 @@ some s =
     (λ _. omega arith)
     (λ _. report-some (answers s) (summaryOf (benchAfter s)))
 
-pub always : AlwaysPrints
+pub always : AlwaysPrints outputOf
 always = record { longest = longest; some = some; whole = λ s out h. fitted-whole (outputOf s) out (omega (arith, longest s)) }
 
+-- of a schedule in either form
+longest-either : (s : List ℕ) → length (printedOf s) ≤ longestOutput
+longest-either s = either-fits outputOf longestOutput (omega arith) (λ r _. longest r) s
+
+some-either : (s : List ℕ) → 1 ≤ length (printedOf s)
+some-either s = either-some outputOf some s
+
+pub always-either : AlwaysPrints printedOf
+always-either = record { longest = longest-either; some = some-either; whole = λ s out h. fitted-whole (printedOf s) out (omega (arith, longest-either s)) }
+
 -- such a buffer gets the whole output, so the answer is the output's length, which lies within the buffer
-pub within-longest : (input buffer after : List ℕ) (r : ℕ) → length buffer ≡ longestOutput → r ≡ fittedLength (outputOf input) buffer → length after ≡ length buffer → r ≤ length after
-within-longest input buffer after r e p l = omega (arith, always .whole input buffer (omega arith) .0, longest input)
+pub within-longest : (input buffer after : List ℕ) (r : ℕ) → length buffer ≡ longestOutput → r ≡ fittedLength (printedOf input) buffer → length after ≡ length buffer → r ≤ length after
+within-longest input buffer after r e p l = omega (arith, always-either .whole input buffer (omega arith) .0, longest-either input)

@@ -6,12 +6,12 @@ use mathlib.Core.List.{List, _++_}
 use lib.ListN.{length, drop}
 use Rattle.text.specs.Writing.{fitted, fittedLength}
 use Rattle.bench_report.specs.Limits.{longestOutput}
-use Rattle.bench_output.specs.Output.{outputOf}
 
-pub record AlwaysPrints : Type 0 where
+-- of records alone (`outputOf`) and of either form (`printedOf`)
+pub record AlwaysPrints (output : List ℕ → List ℕ) : Type 0 where
   -- no output is longer, and none is empty
-  pub longest : (input : List ℕ) → length (outputOf input) ≤ longestOutput
-  pub some : (input : List ℕ) → 1 ≤ length (outputOf input)
+  pub longest : (input : List ℕ) → length (output input) ≤ longestOutput
+  pub some : (input : List ℕ) → 1 ≤ length (output input)
   -- so such a buffer gets the whole of it
   pub whole : (input buffer : List ℕ) → longestOutput ≤ length buffer
-      → (fittedLength (outputOf input) buffer ≡ length (outputOf input)) × (fitted (outputOf input) buffer ≡ outputOf input ++ drop (length (outputOf input)) buffer)
+      → (fittedLength (output input) buffer ≡ length (output input)) × (fitted (output input) buffer ≡ output input ++ drop (length (output input)) buffer)

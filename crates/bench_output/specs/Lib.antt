@@ -1,5 +1,6 @@
 -- what is printed, and that it always is
 pub mod Output
+pub mod EitherForm
 pub mod AlwaysPrints
 -- the count of gates still open, for other languages
 pub mod OpenGates

@@ -1,5 +1,5 @@
 // The records program: a schedule in either form on standard input, its records or the refusal on standard output.
-use schedule_input::LONGEST_RECORDS;
+use bench_report::LONGEST_SCHEDULE;
 use schedule_input::LONGEST_TEXT;
 use streams::read_input;
 use streams::write_output;
@@ -13,7 +13,7 @@ fn main() {
     }
     let n = got.count;
     // room for any output: `records-fit` of schedule_input, Room
-    let mut records = [0u8; LONGEST_RECORDS];
+    let mut records = [0u8; LONGEST_SCHEDULE];
     let length = schedule_input::render_records(&input[..n], &mut records);
     write_output(&records[..length]);
 }

@@ -6,6 +6,7 @@ use lib.Dec.{eqb, leb, ltb}
 use lib.ListN.{length, take, getD}
 use Rattle.text.specs.Text.{ascii, decimal, line, refusal}
 use Rattle.words.specs.Words.{linesOf, uncommented, nthWord}
+use Rattle.bench_report.specs.Limits.{longestSchedule}
 use Rattle.schedule_text.specs.Texts.{Result, made, refused, readText, writeText}
 
 -- records begin with 4C 45, the mark of the first; 4C alone is the beginning of it
@@ -49,29 +50,26 @@ refusedLine s k i = refusedWord k (wordOf s k i)
 unfoldable pub refusedRecord : ℕ → ℕ → List ℕ
 refusedRecord k q = ascii "- record " ++ (decimal (min k (2 ^ 32 - 1)) ++ (ascii ": " ++ (decimal (min q (2 ^ 32 - 1)) ++ ascii "\n")))
 
--- the most bytes of a text and of records
+-- the most bytes of a text
 abbrev pub longestText : ℕ
 longestText = 327680
 
-abbrev pub longestRecords : ℕ
-longestRecords = 40960
+-- what a program prints of a schedule in either form that prints `of` of its records: that; or the refused line alone; or "- 1", where there are too many
+abbrev pub eitherOr : (List ℕ → List ℕ) → List ℕ → Result → List ℕ
+eitherOr of s (made r) = cond (leb (length r) longestSchedule) (of r) (refusal 1)
+eitherOr of s (refused k i) = refusedLine s k i
 
--- what `records` prints: the records; or the refused line; or "- 1", where there are too many
-abbrev pub recordsOr : List ℕ → Result → List ℕ
-recordsOr s (made r) = cond (leb (length r) longestRecords) r (refusal 1)
-recordsOr s (refused k i) = refusedLine s k i
+unfoldable pub eitherForm : (List ℕ → List ℕ) → List ℕ → List ℕ
+eitherForm of s = cond (ltb longestText (length s)) (refusal 1) (eitherOr of s (recordsIn s))
 
-unfoldable pub recordsOutput : List ℕ → List ℕ
-recordsOutput s = cond (ltb longestText (length s)) (refusal 1) (recordsOr s (recordsIn s))
+-- `records` prints the records
+abbrev pub recordsOutput : List ℕ → List ℕ
+recordsOutput s = eitherForm (λ r. r) s
 
--- what `text` prints: the text of the records; or what is refused
+-- `text` prints their text, or the record that is refused
 abbrev pub textOr : Result → List ℕ
 textOr (made t) = t
 textOr (refused k q) = refusedRecord k q
 
-abbrev pub textOfRecords : List ℕ → Result → List ℕ
-textOfRecords s (made r) = cond (leb (length r) longestRecords) (textOr (writeText r)) (refusal 1)
-textOfRecords s (refused k i) = refusedLine s k i
-
-unfoldable pub textOutput : List ℕ → List ℕ
-textOutput s = cond (ltb longestText (length s)) (refusal 1) (textOfRecords s (recordsIn s))
+abbrev pub textOutput : List ℕ → List ℕ
+textOutput s = eitherForm (λ r. textOr (writeText r)) s

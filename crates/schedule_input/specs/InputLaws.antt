@@ -15,10 +15,11 @@ use Rattle.text.specs.Text.{ascii, decimal, refusal}
 use Rattle.text.specs.Lengths.{decimal-length}
 use Rattle.text.specs.Writing.{Put, fitted, fittedLength}
 use Rattle.text.specs.WritingLaws.{all-fitted, nothing-fitted, read-front, fitted-whole}
+use Rattle.bench_report.specs.Limits.{longestSchedule}
 use Rattle.schedule_text.specs.Texts.{Result, made, refused, readText, writeText, answerTo, bufferAfter}
 use Rattle.schedule_text.specs.declared.Turned.{Turned}
 use Rattle.schedule_text.specs.declared.Turned.the-variants.{Done, Refused, NoRoom}
-use Rattle.schedule_input.specs.Input.{marked, isControl, hasControl, isText, recordsIn, wordShown, wordOf, refusedWord, refusedLine, refusedRecord, longestText, longestRecords, recordsOr, recordsOutput, textOr, textOfRecords, textOutput}
+use Rattle.schedule_input.specs.Input.{marked, isControl, hasControl, isText, recordsIn, wordShown, wordOf, refusedWord, refusedLine, refusedRecord, longestText, eitherOr, eitherForm, textOr}
 
 -- the mark
 pub no-bytes : (s : List ℕ) → length s ≡ 0 → false ≡ marked s
@@ -148,30 +149,6 @@ pub shown-none : (w : List ℕ) → length w ≡ 0 → ascii "end of line" ≡ w
 shown-none [] h = refl
 shown-none (b ∷ w) h = absurd (omega arith)
 
--- what is printed
-module _ (s : List ℕ) where
-  pub text-too-long : longestText < length s → (refusal 1 ≡ recordsOutput s) × (refusal 1 ≡ textOutput s)
-  unfolding recordsOutput textOutput
-  text-too-long h = rw (lt-ltb longestText (length s) h) (refl, refl)
-
-  module _ (h : length s ≤ longestText) where
-    pub output-by : recordsOr s (recordsIn s) ≡ recordsOutput s
-    unfolding recordsOutput
-    output-by = rw (le-ltb longestText (length s) h)
-
-    pub text-by : textOfRecords s (recordsIn s) ≡ textOutput s
-    unfolding textOutput
-    text-by = rw (le-ltb longestText (length s) h)
-
-pub few-records : (s : List ℕ) {x : Result} {r : List ℕ} → x ≡ made r → length r ≤ longestRecords → (r ≡ recordsOr s x) × (textOr (writeText r) ≡ textOfRecords s x)
-few-records s {x} {r} e h = rw (e, le-leb (length r) longestRecords h) (refl, refl)
-
-pub many-records : (s : List ℕ) {x : Result} {r : List ℕ} → x ≡ made r → longestRecords < length r → (refusal 1 ≡ recordsOr s x) × (refusal 1 ≡ textOfRecords s x)
-many-records s {x} {r} e h = rw (e, lt-leb (length r) longestRecords h) (refl, refl)
-
-pub line-refused : (s : List ℕ) {x : Result} {k q : ℕ} → x ≡ refused k q → (refusedLine s k q ≡ recordsOr s x) × (refusedLine s k q ≡ textOfRecords s x)
-line-refused s e = rw e (refl, refl)
-
 -- the text of records, as `write` answered
 module _ (x : Result) (out : List ℕ) where
   abbrev pub TextWritten : ℕ → List ℕ → Type 0
@@ -198,29 +175,35 @@ module _ (x : Result) (out : List ℕ) where
       let w = was-no-room out x e in
       (rw (w .1) (nothing-fitted (w .0) out (w .2) .0), f ∙ rw (w .1))
 
--- a program's array of 40,960 bytes for the records
-module _ (s out : List ℕ) (l : length out ≡ longestRecords) (h : length s ≤ longestText) {after : List ℕ} {r : Turned} (w : Answered (recordsIn s) out after r) where
-  pub done-within : (n : ℕ) → r ≡ Done n → (n ≤ longestRecords) × (n ≤ length after)
-  done-within n e =
-      let f = was-done out (recordsIn s) n (sym e ∙ w .0) in
-      let g : n ≡ length (f .0) = sym (length-take-le n (bufferAfter (recordsIn s) out) (f .4)) ∙ ap length (f .3) in
-      let m : n ≤ length after = rw (w .1) (f .4) in
-      (omega (arith, f .2), m)
+-- what a program prints of a schedule in either form
+module _ (of : List ℕ → List ℕ) (s : List ℕ) where
+  pub text-too-long : longestText < length s → refusal 1 ≡ eitherForm of s
+  unfolding eitherForm
+  text-too-long h = rw (lt-ltb longestText (length s) h)
 
-  pub done-output : (n : ℕ) → r ≡ Done n → (take n after ≡ recordsOutput s) × (textOr (writeText (take n after)) ≡ textOutput s)
-  done-output n e =
-      let f = was-done out (recordsIn s) n (sym e ∙ w .0) in
-      let g : take n after ≡ f .0 = ap (take n) (w .1) ∙ f .3 in
-      let few = few-records s (f .1) (omega (arith, f .2)) in
-      (g ∙ few .0 ∙ output-by s h, ap (λ (x : List ℕ). textOr (writeText x)) g ∙ few .1 ∙ text-by s h)
+  -- by its array of 40,960 bytes for the records
+  module _ (out : List ℕ) (l : length out ≡ longestSchedule) (h : length s ≤ longestText) {after : List ℕ} {r : Turned} (w : Answered (recordsIn s) out after r) where
+    output-by : (x : Result) → recordsIn s ≡ x → eitherOr of s x ≡ eitherForm of s
+    unfolding eitherForm
+    output-by x e = rw (le-ltb longestText (length s) h, e)
 
-  pub refused-output : (k q : ℕ) → r ≡ Refused k q → (refusedLine s k q ≡ recordsOutput s) × (refusedLine s k q ≡ textOutput s)
-  refused-output k q e =
-      let f = line-refused s (was-refused out (recordsIn s) k q (sym e ∙ w .0)) in
-      (f .0 ∙ output-by s h, f .1 ∙ text-by s h)
+    pub done-within : (n : ℕ) → r ≡ Done n → n ≤ length after
+    done-within n e =
+        let f = was-done out (recordsIn s) n (sym e ∙ w .0) in
+        rw (w .1) (f .4)
 
-  pub no-room-output : r ≡ NoRoom → (refusal 1 ≡ recordsOutput s) × (refusal 1 ≡ textOutput s)
-  no-room-output e =
-      let f = was-no-room out (recordsIn s) (sym e ∙ w .0) in
-      let many = many-records s (f .1) (omega (arith, f .2)) in
-      (many .0 ∙ output-by s h, many .1 ∙ text-by s h)
+    pub done-output : (n : ℕ) → r ≡ Done n → of (take n after) ≡ eitherForm of s
+    done-output n e =
+        let f = was-done out (recordsIn s) n (sym e ∙ w .0) in
+        let g : take n after ≡ f .0 = ap (take n) (w .1) ∙ f .3 in
+        let k : length (f .0) ≤ longestSchedule = omega (arith, f .2) in
+        ap of g ∙ rw (← output-by (made (f .0)) (f .1), le-leb (length (f .0)) longestSchedule k)
+
+    pub refused-output : (k q : ℕ) → r ≡ Refused k q → refusedLine s k q ≡ eitherForm of s
+    refused-output k q e = output-by (refused k q) (was-refused out (recordsIn s) k q (sym e ∙ w .0))
+
+    pub no-room-output : r ≡ NoRoom → refusal 1 ≡ eitherForm of s
+    no-room-output e =
+        let f = was-no-room out (recordsIn s) (sym e ∙ w .0) in
+        let k : longestSchedule < length (f .0) = omega (arith, f .2) in
+        rw (← output-by (made (f .0)) (f .1), lt-leb (length (f .0)) longestSchedule k)

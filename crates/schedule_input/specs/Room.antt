@@ -8,45 +8,53 @@ use lib.ListN.{length}
 use Rattle.ground.specs.Tests.{by-cond}
 use Rattle.text.specs.Text.{refusal}
 use Rattle.text.specs.Lengths.{refusal-length}
+use Rattle.bench_report.specs.Limits.{longestSchedule}
 use Rattle.schedule_text.specs.Texts.{Result, made, refused, writeRecords, count, writeText}
 use Rattle.schedule_text.specs.Lengths.{Within, records-within}
-use Rattle.schedule_input.specs.Input.{longestText, longestRecords, recordsIn, recordsOr, recordsOutput, textOr, textOfRecords, textOutput}
+use Rattle.schedule_input.specs.Input.{longestText, refusedLine, recordsIn, eitherOr, eitherForm, recordsOutput, textOr, textOutput}
 use Rattle.schedule_input.specs.InputLaws.{refused-line-length, refused-record-length}
 
 text-or : (x : Result) (n : ℕ) → n ≤ 327680 → Within n x → length (textOr x) ≤ 327680
 text-or (made t) n h w = omega arith
 text-or (refused k q) n h w = omega (arith, refused-record-length k q)
 
-few-lines : (r : List ℕ) → length r ≤ longestRecords → length (textOr (writeText r)) ≤ 327680
+few-lines : (r : List ℕ) → length r ≤ longestSchedule → length (textOr (writeText r)) ≤ 327680
 unfolding writeText
 few-lines r h = text-or (writeRecords 0 (count r) r) (80 * count r) (omega arith) (records-within (count r) 0 r)
 
-of-records : (s : List ℕ) (x : Result) → length (textOfRecords s x) ≤ 327680
-of-records s (refused k i) = omega (arith, refused-line-length s k i)
-of-records s (made r) =
-    by-cond (λ (t : List ℕ). length t ≤ 327680) (leb (length r) longestRecords) (textOr (writeText r)) (refusal 1)
-    (λ t. few-lines r (leb-true (length r) longestRecords t))
-    (λ _. omega (arith, refusal-length 1))
+-- what is printed of few records, or a refusal
+module _ (of : List ℕ → List ℕ) (m : ℕ) (room : 60 ≤ m) (within : (r : List ℕ) → length r ≤ longestSchedule → length (of r) ≤ m) (s : List ℕ) where
+  of-result : (x : Result) → length (eitherOr of s x) ≤ m
+  of-result (refused k i) = omega (arith, refused-line-length s k i)
+  of-result (made r) =
+      by-cond (λ (t : List ℕ). length t ≤ m) (leb (length r) longestSchedule) (of r) (refusal 1)
+      (λ t. within r (leb-true (length r) longestSchedule t))
+      (λ _. omega (arith, refusal-length 1))
 
--- 327,680 bytes hold every text that is printed
+  pub either-fits : length (eitherForm of s) ≤ m
+  unfolding eitherForm
+  either-fits =
+      by-cond (λ (t : List ℕ). length t ≤ m) (ltb longestText (length s)) (refusal 1) (eitherOr of s (recordsIn s))
+      (λ _. omega (arith, refusal-length 1))
+      (λ _. of-result (recordsIn s))
+
+-- and something is printed always, where it is of records
+module _ (of : List ℕ → List ℕ) (some : (r : List ℕ) → 1 ≤ length (of r)) (s : List ℕ) where
+  some-of : (x : Result) → 1 ≤ length (eitherOr of s x)
+  unfolding refusedLine
+  some-of (refused k i) = omega arith
+  some-of (made r) = by-cond (λ (t : List ℕ). 1 ≤ length t) (leb (length r) longestSchedule) (of r) (refusal 1) (λ _. some r) (λ _. omega arith)
+
+  pub either-some : 1 ≤ length (eitherForm of s)
+  unfolding eitherForm
+  either-some =
+      by-cond (λ (t : List ℕ). 1 ≤ length t) (ltb longestText (length s)) (refusal 1) (eitherOr of s (recordsIn s))
+      (λ _. omega arith)
+      (λ _. some-of (recordsIn s))
+
+-- 327,680 bytes hold every text that is printed, and 40,960 all records
 pub text-fits : (s : List ℕ) → length (textOutput s) ≤ 327680
-unfolding textOutput
-text-fits s =
-    by-cond (λ (t : List ℕ). length t ≤ 327680) (ltb longestText (length s)) (refusal 1) (textOfRecords s (recordsIn s))
-    (λ _. omega (arith, refusal-length 1))
-    (λ _. of-records s (recordsIn s))
+text-fits s = either-fits (λ r. textOr (writeText r)) 327680 (omega arith) few-lines s
 
-records-or : (s : List ℕ) (x : Result) → length (recordsOr s x) ≤ longestRecords
-records-or s (refused k i) = omega (arith, refused-line-length s k i)
-records-or s (made r) =
-    by-cond (λ (t : List ℕ). length t ≤ longestRecords) (leb (length r) longestRecords) r (refusal 1)
-    (λ t. leb-true (length r) longestRecords t)
-    (λ _. omega (arith, refusal-length 1))
-
--- and 40,960 all records
-pub records-fit : (s : List ℕ) → length (recordsOutput s) ≤ longestRecords
-unfolding recordsOutput
-records-fit s =
-    by-cond (λ (t : List ℕ). length t ≤ longestRecords) (ltb longestText (length s)) (refusal 1) (recordsOr s (recordsIn s))
-    (λ _. omega (arith, refusal-length 1))
-    (λ _. records-or s (recordsIn s))
+pub records-fit : (s : List ℕ) → length (recordsOutput s) ≤ longestSchedule
+records-fit s = either-fits (λ r. r) longestSchedule (omega arith) (λ r h. h) s

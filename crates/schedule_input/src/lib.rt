@@ -9,10 +9,8 @@ pub use output::render_text;
 pub use refusals::write_refused_line;
 ghost use Rattle.schedule_input.specs.NothingLost.{NothingLost};
 
-// The most bytes of a text that the programs take, and of the records that it may stand for.
+// The most bytes of a text that the programs take.
 pub const LONGEST_TEXT: usize = 327_680;
-
-pub const LONGEST_RECORDS: usize = 40_960;
 
 // No output is longer: 4,096 lines of 80 bytes (specs, Room).
 pub const LONGEST_OUTPUT: usize = 327_680;

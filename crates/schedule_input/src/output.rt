@@ -1,9 +1,9 @@
 // What the programs print.
-use crate::LONGEST_RECORDS;
 use crate::LONGEST_TEXT;
 use crate::forms::records_in;
 use crate::refusals::write_refused_line;
 use crate::refusals::write_refused_record;
+use bench_report::LONGEST_SCHEDULE;
 use schedule_text::Turned;
 use schedule_text::write;
 use text::write_bytes;
@@ -20,7 +20,7 @@ pub fn render_records(s: &[u8], out: &mut [u8]) -> usize
     if LONGEST_TEXT < s.len() {
         return write_refusal(&mut *out, 1);
     }
-    let mut records = [0u8; LONGEST_RECORDS];
+    let mut records = [0u8; LONGEST_SCHEDULE];
     match records_in(s, &mut records) {
         Turned::Done(n) => write_bytes(&mut *out, &records[..n]),
         Turned::Refused { at, by } => write_refused_line(&mut *out, s, at, by),
@@ -46,7 +46,7 @@ pub fn render_text(s: &[u8], out: &mut [u8]) -> usize
     if LONGEST_TEXT < s.len() {
         return write_refusal(&mut *out, 1);
     }
-    let mut records = [0u8; LONGEST_RECORDS];
+    let mut records = [0u8; LONGEST_SCHEDULE];
     match records_in(s, &mut records) {
         Turned::Done(n) => write_text(&mut *out, &records[..n]),
         Turned::Refused { at, by } => write_refused_line(&mut *out, s, at, by),
