@@ -33,11 +33,16 @@ pub fn output_of(command: &[String], input: &[u8]) -> io::Result<Vec<u8>> {
 /// Runs a schedule on the reference and on the bench program that the command runs; an error names the first line that
 /// differs.
 pub fn compare_bench(schedule: &[u8], command: &[String]) -> io::Result<()> {
-    let expected = bench_report(schedule);
-    let printed = output_of(command, schedule)?;
-    if printed == expected.as_bytes() {
+    compare_output(schedule, bench_report(schedule).as_bytes(), command)
+}
+
+/// Looks that the program prints what is expected.
+pub fn compare_output(input: &[u8], expected: &[u8], command: &[String]) -> io::Result<()> {
+    let printed = output_of(command, input)?;
+    if printed == expected {
         return Ok(());
     }
+    let expected = String::from_utf8_lossy(expected);
     let printed = String::from_utf8_lossy(&printed);
     let lines = expected.split('\n').zip(printed.split('\n'));
     let same = lines.take_while(|(a, b)| a == b).count();

@@ -1,7 +1,7 @@
 //! Schedules as text, one event a line, and as records: the one from the other.
 
 use crate::records::event::Event;
-use crate::text::MAX_SCHEDULE;
+use crate::text::{bench_report, MAX_SCHEDULE};
 use std::fmt::Write;
 
 /// The most bytes of a text.
@@ -177,8 +177,11 @@ fn read_text(bytes: &[u8]) -> Result<Vec<u8>, Unexpected> {
     Ok(records)
 }
 
+/// No text begins as records do, or has a control byte but tabs, newlines and returns.
 fn is_text(bytes: &[u8]) -> bool {
-    !bytes.starts_with(&Event::MARK) && !bytes.contains(&0)
+    let begun = &Event::MARK[..bytes.len().min(2)];
+    let begins = !bytes.is_empty() && bytes.starts_with(begun);
+    !begins && bytes.iter().all(|byte| matches!(byte, 9 | 10 | 13 | 32..))
 }
 
 /// The records of a schedule in either form, or the one line that is printed instead.
@@ -202,6 +205,14 @@ fn records_in(schedule: &[u8]) -> Result<Vec<u8>, Vec<u8>> {
         return Err(b"- 1\n".to_vec());
     }
     Ok(records)
+}
+
+/// What the bench program prints.
+pub fn bench(schedule: &[u8]) -> Vec<u8> {
+    match records_in(schedule) {
+        Ok(records) => bench_report(&records).into_bytes(),
+        Err(refusal) => refusal,
+    }
 }
 
 /// What the records program prints.

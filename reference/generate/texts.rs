@@ -155,10 +155,26 @@ fn records(rng: &mut Rng) -> Vec<u8> {
     bytes
 }
 
+/// Bytes that are of no form: any, or none below a space, now and then after the beginning of a mark.
+fn bytes(rng: &mut Rng) -> Vec<u8> {
+    let least = rng.pick(&[0, 32]);
+    let mut bytes = rng.pick(&[&b""[..], b"", b"L", b"LE", b"#"]).to_vec();
+    for _ in 0..rng.below(24) {
+        bytes.push(rng.between(least, 255) as u8);
+    }
+    bytes
+}
+
 pub fn frame(rng: &mut Rng) -> [u8; FRAME] {
     let mode = rng.below(2) as u8;
     let as_text = rng.chance(3, 4) || mode == 0;
-    let mut schedule = if as_text && !(mode == 0 && rng.chance(1, 8)) { text(rng) } else { records(rng) };
+    let mut schedule = if rng.chance(1, 20) {
+        bytes(rng)
+    } else if as_text && !(mode == 0 && rng.chance(1, 8)) {
+        text(rng)
+    } else {
+        records(rng)
+    };
     schedule.truncate(FRAME - HEAD);
     let mut frame = [0; FRAME];
     frame[0] = mode;

@@ -1,12 +1,10 @@
-//! The bench program of document 01: "It reads events from standard input".
+//! The bench program of document 01: "It reads events from standard input", and takes them as text too.
 
-use reference::text::bench_report;
+use reference::schedule_text::bench;
 use std::io::{self, Read, Write};
 
 fn main() -> io::Result<()> {
     let mut schedule = Vec::new();
     io::stdin().lock().read_to_end(&mut schedule)?;
-    io::stdout()
-        .lock()
-        .write_all(bench_report(&schedule).as_bytes())
+    io::stdout().lock().write_all(&bench(&schedule))
 }

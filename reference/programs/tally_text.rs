@@ -5,13 +5,16 @@ use reference::schedule_text::{records, text};
 use std::io::{self, Read};
 use std::process::exit;
 
-const ROWS: [&str; 8] = [
+const ROWS: [&str; 9] = [
     "records", "texts", "a word not expected", "a line ended", "records of another length", "another mark", "unlisted values", "nothing",
+    "other bytes as records",
 ];
 
-fn row(mode: u8, printed: &[u8]) -> usize {
+fn row(mode: u8, schedule: &[u8], printed: &[u8]) -> usize {
     if printed.is_empty() {
         7
+    } else if printed == schedule && !printed.starts_with(b"LE") && mode == 0 {
+        8
     } else if printed.starts_with(b"- line ") {
         2 + usize::from(printed.ends_with(b": end of line\n"))
     } else if printed.starts_with(b"- record ") {
@@ -29,7 +32,7 @@ fn main() -> io::Result<()> {
         let length = usize::from(u16::from_be_bytes([frame[1], frame[2]]));
         let schedule = &frame[HEAD..HEAD + length];
         let printed = if frame[0] == 0 { records(schedule) } else { text(schedule) };
-        met[row(frame[0], &printed)] += 1;
+        met[row(frame[0], schedule, &printed)] += 1;
     }
     for (name, count) in ROWS.iter().zip(met) {
         println!("{name} {count}");

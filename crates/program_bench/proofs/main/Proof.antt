@@ -22,18 +22,18 @@ returns c = search needs
 array-share-prefix-input : tie.Need-array-share-prefix-input
 array-share-prefix-input c = search needs
 
-slice-aggregate-render : tie.Need-slice-aggregate-render
-slice-aggregate-render c = search needs
+slice-aggregate-render-either : tie.Need-slice-aggregate-render-either
+slice-aggregate-render-either c = search needs
 
-slice-aggregate-render-2 : tie.Need-slice-aggregate-render-2
-slice-aggregate-render-2 c = search needs
+slice-aggregate-render-either-2 : tie.Need-slice-aggregate-render-either-2
+slice-aggregate-render-either-2 c = search needs
 
-render-requires : tie.Need-render-requires
-render-requires c κs = search needs
+render-either-requires : tie.Need-render-either-requires
+render-either-requires c κs = search needs
 
 -- the program prints always: its buffer holds whatever the schedule gives
-fits : (c : tie.After-render) → c .render .result ≤ length (c .render .last .1 .0)
-fits c = within-longest _ _ (c .render .last .1 .0) _ (length-replicate {A = ℕ} longestOutput 0) (c .render .ensures .0) (c .render .kept .1 .0)
+fits : (c : tie.After-render-either) → c .render-either .result ≤ length (c .render-either .last .1 .0)
+fits c = within-longest _ _ (c .render-either .last .1 .0) _ (length-replicate {A = ℕ} longestOutput 0) (c .render-either .ensures .0) (c .render-either .kept .1 .0)
 
 array-share-prefix-text : tie.Need-array-share-prefix-text
 array-share-prefix-text c = fits (c .before)
@@ -55,9 +55,9 @@ main-spec =
     read-input-requires
     returns
     array-share-prefix-input
-    slice-aggregate-render
-    slice-aggregate-render-2
-    render-requires
+    slice-aggregate-render-either
+    slice-aggregate-render-either-2
+    render-either-requires
     array-share-prefix-text
     slice-aggregate-write-output
     write-output-requires
