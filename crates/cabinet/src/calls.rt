@@ -24,17 +24,12 @@ use cabinet_turns::woken;
 use checkpoint_record::read_checkpoint;
 use message_bytes::read_telegram;
 ghost use mathlib.Core.Path.{_≡_};
-ghost use Rattle.model.specs.Questions.{number, firstNo};
-ghost use Rattle.records.specs.Codec.{reads};
-ghost use Rattle.checkpoint_record.specs.Checkpoints.{checkpoints};
-ghost use Rattle.message_record.specs.Telegrams.{telegrams};
-ghost use Rattle.cabinet_state.specs.States.{leaveNumber, leaveWords};
-ghost use Rattle.cabinet_turns.specs.Asked.{beginAsked};
-ghost use Rattle.cabinet_turns.specs.Turns.{begun, ordered, voted, timedOut, decided, halted, woken};
-ghost use Rattle.cabinet_turns.specs.Ballots.{opened, received};
-ghost use Rattle.cabinet.specs.Calls.{callNumber, callWords, orderNumber, voteNumber, timeoutNumber, decideNumber, presentNumber, receiveNumber, wakeNumber, openNumber};
+ghost use Rattle.cabinet.specs.Calls.{orderNumber, voteNumber, timeoutNumber, decideNumber, presentNumber};
+ghost use Rattle.cabinet.specs.Acts.{beginAnswer, beginWords, answerTo, wordsAfter};
+ghost use Rattle.cabinet.specs.Acts.{Ordering, Voting, Receiving, TimingOut, Deciding, Stopping, Waking, Opening};
 
-// A controller begins: `own` is 1 at a lock without arbiter, else 0; `position` is where its gate stands, in two's complement of millimetres.
+// A controller begins: `own` is 1 at a lock without arbiter, else 0; `position` is where its gate stands, in two's
+// complement of millimetres.
 #[no_mangle]
 pub extern "C" fn cabinet_begin(
     state: &mut [u32],
@@ -44,7 +39,8 @@ pub extern "C" fn cabinet_begin(
     own: u8,
     position: u32,
 ) -> u8
-    ensures { λ r. ⌜ (r ≡ leaveNumber (now (state .entry)) (number (firstNo (beginAsked n f id own position)))) × (now (state .exit) ≡ leaveWords (now (state .entry)) (number (firstNo (beginAsked n f id own position))) (begun n f id own position)) ⌝ }
+    ensures { λ r. ⌜ (r ≡ beginAnswer (now (state .entry)) n f id own position)
+        × (now (state .exit) ≡ beginWords (now (state .entry)) n f id own position) ⌝ }
 {
     leave(
         state,
@@ -96,7 +92,8 @@ fn stop_number(s: Cabinet) -> u8
 // A new order.
 #[no_mangle]
 pub extern "C" fn cabinet_order(state: &mut [u32], order: u32) -> u8
-    ensures { λ r. ⌜ (r ≡ callNumber (now (state .entry)) (orderNumber order)) × (now (state .exit) ≡ callWords (now (state .entry)) (orderNumber order) (ordered order)) ⌝ }
+    ensures { λ r. ⌜ (r ≡ answerTo (Ordering order) (now (state .entry)))
+        × (now (state .exit) ≡ wordsAfter (Ordering order) (now (state .entry))) ⌝ }
 {
     let refusal = state_refusal(state);
     if refusal != 0 {
@@ -109,7 +106,8 @@ pub extern "C" fn cabinet_order(state: &mut [u32], order: u32) -> u8
 // Its vote, 1 willing or 0, and its gate's target.
 #[no_mangle]
 pub extern "C" fn cabinet_vote(state: &mut [u32], willing: u8, target: u32) -> u8
-    ensures { λ r. ⌜ (r ≡ callNumber (now (state .entry)) (voteNumber willing target)) × (now (state .exit) ≡ callWords (now (state .entry)) (voteNumber willing target) (voted willing target)) ⌝ }
+    ensures { λ r. ⌜ (r ≡ answerTo (Voting willing target) (now (state .entry)))
+        × (now (state .exit) ≡ wordsAfter (Voting willing target) (now (state .entry))) ⌝ }
 {
     let refusal = state_refusal(state);
     if refusal != 0 {
@@ -126,7 +124,8 @@ pub extern "C" fn cabinet_vote(state: &mut [u32], willing: u8, target: u32) -> u
 // A wait is over.
 #[no_mangle]
 pub extern "C" fn cabinet_timeout(state: &mut [u32]) -> u8
-    ensures { λ r. ⌜ (r ≡ callNumber (now (state .entry)) timeoutNumber) × (now (state .exit) ≡ callWords (now (state .entry)) timeoutNumber timedOut) ⌝ }
+    ensures { λ r. ⌜ (r ≡ answerTo TimingOut (now (state .entry)))
+        × (now (state .exit) ≡ wordsAfter TimingOut (now (state .entry))) ⌝ }
 {
     let refusal = state_refusal(state);
     if refusal != 0 {
@@ -139,7 +138,8 @@ pub extern "C" fn cabinet_timeout(state: &mut [u32]) -> u8
 // The arbiter's word, or the one that a ballot has settled: 1 Move or 0 Stay.
 #[no_mangle]
 pub extern "C" fn cabinet_decide(state: &mut [u32], to_move: u8) -> u8
-    ensures { λ r. ⌜ (r ≡ callNumber (now (state .entry)) (decideNumber «to_move»)) × (now (state .exit) ≡ callWords (now (state .entry)) (decideNumber «to_move») (decided «to_move»)) ⌝ }
+    ensures { λ r. ⌜ (r ≡ answerTo (Deciding «to_move») (now (state .entry)))
+        × (now (state .exit) ≡ wordsAfter (Deciding «to_move») (now (state .entry))) ⌝ }
 {
     let refusal = state_refusal(state);
     if refusal != 0 {
@@ -152,7 +152,8 @@ pub extern "C" fn cabinet_decide(state: &mut [u32], to_move: u8) -> u8
 // It ends everything but the position of its gate.
 #[no_mangle]
 pub extern "C" fn cabinet_stop(state: &mut [u32]) -> u8
-    ensures { λ r. ⌜ (r ≡ callNumber (now (state .entry)) presentNumber) × (now (state .exit) ≡ callWords (now (state .entry)) presentNumber halted) ⌝ }
+    ensures { λ r. ⌜ (r ≡ answerTo Stopping (now (state .entry)))
+        × (now (state .exit) ≡ wordsAfter Stopping (now (state .entry))) ⌝ }
 {
     let refusal = state_refusal(state);
     if refusal != 0 {
@@ -165,7 +166,8 @@ pub extern "C" fn cabinet_stop(state: &mut [u32]) -> u8
 // A telegram's bytes arrive, of any form.
 #[no_mangle]
 pub extern "C" fn cabinet_receive(state: &mut [u32], telegram: &[u8]) -> u8
-    ensures { λ r. ⌜ (r ≡ callNumber (now (state .entry)) (receiveNumber (reads telegrams (now (telegram .entry))))) × (now (state .exit) ≡ callWords (now (state .entry)) (receiveNumber (reads telegrams (now (telegram .entry)))) (received (reads telegrams (now (telegram .entry))))) ⌝ }
+    ensures { λ r. ⌜ (r ≡ answerTo (Receiving (now (telegram .entry))) (now (state .entry)))
+        × (now (state .exit) ≡ wordsAfter (Receiving (now (telegram .entry))) (now (state .entry))) ⌝ }
 {
     let refusal = state_refusal(state);
     if refusal != 0 {
@@ -179,7 +181,8 @@ pub extern "C" fn cabinet_receive(state: &mut [u32], telegram: &[u8]) -> u8
 // It comes back from a card: stopped and restored in one, so that it stands by.
 #[no_mangle]
 pub extern "C" fn cabinet_wake(state: &mut [u32], card: &[u8]) -> u8
-    ensures { λ r. ⌜ (r ≡ callNumber (now (state .entry)) (wakeNumber (reads checkpoints (now (card .entry))))) × (now (state .exit) ≡ callWords (now (state .entry)) (wakeNumber (reads checkpoints (now (card .entry)))) (woken (reads checkpoints (now (card .entry))))) ⌝ }
+    ensures { λ r. ⌜ (r ≡ answerTo (Waking (now (card .entry))) (now (state .entry)))
+        × (now (state .exit) ≡ wordsAfter (Waking (now (card .entry))) (now (state .entry))) ⌝ }
 {
     let refusal = state_refusal(state);
     if refusal != 0 {
@@ -193,7 +196,8 @@ pub extern "C" fn cabinet_wake(state: &mut [u32], card: &[u8]) -> u8
 // It opens its ballot b.
 #[no_mangle]
 pub extern "C" fn cabinet_open(state: &mut [u32], b: u8) -> u8
-    ensures { λ r. ⌜ (r ≡ callNumber (now (state .entry)) (openNumber b)) × (now (state .exit) ≡ callWords (now (state .entry)) (openNumber b) (opened b)) ⌝ }
+    ensures { λ r. ⌜ (r ≡ answerTo (Opening b) (now (state .entry)))
+        × (now (state .exit) ≡ wordsAfter (Opening b) (now (state .entry))) ⌝ }
 {
     let refusal = state_refusal(state);
     if refusal != 0 {

@@ -107,9 +107,22 @@ module _ (g : Gate) (c : Controller) where
   unfolding renew becomes cleared
   renewed = either (isStopped (c .condition)) _ _ _ _ refl refl
 
+  -- what it answers to a message
+  answered-alike : (me : Identity) (m : Message) → (receive me m d) .reception ≡ (receive me m c) .reception
+  unfolding receive tested contradicted contradictsHeld passedOver
+  answered-alike me m =
+      let e = heard (m .kind) (me .n) (me .f) (m .from) (m .votes) in
+      told (validIdentity me && runs c && addressed me m && suits m) _ _ _ _
+      (ap (λ (r : Reception). (cond (isTaken r && contradictsHeld (me .n) c (m .votes)) (contradicted d) (arrives (m .kind) (me .n) (me .f) (m .from) (m .votes) d)) .reception) e
+      ∙ told (isTaken ((arrives (m .kind) (me .n) (me .f) (m .from) (m .votes) c) .reception) && contradictsHeld (me .n) c (m .votes)) _ _ _ _ refl e)
+      refl
+
 -- so of any two that differ in their gates alone
-across : (F : Controller → Controller) → ((g : Gate) (c : Controller) → F (with-gate g c) ≡ F c) → (c d : Controller) → bare c ≡ bare d → F c ≡ F d
+across : {A : Type 0} (F : Controller → A) → ((g : Gate) (c : Controller) → F (with-gate g c) ≡ F c) → (c d : Controller) → bare c ≡ bare d → F c ≡ F d
 across F h c d e = sym (h (record { target = 0; position = 0 }) c) ∙ ap F e ∙ h (record { target = 0; position = 0 }) d
+
+pub same-reception : (me : Identity) (m : Message) (c d : Controller) → bare c ≡ bare d → (receive me m c) .reception ≡ (receive me m d) .reception
+same-reception me m = across (λ (x : Controller). (receive me m x) .reception) (λ g x. answered-alike g x me m)
 
 module _ (me : Identity) where
   -- .. and after any calls
@@ -124,3 +137,15 @@ module _ (me : Identity) where
   gates-alone (stopping ∷ ks) o c d e = gates-alone ks o _ _ (across (λ x. left (stop x)) (λ g x. stopped g x) c d e)
   gates-alone (restoring p ∷ ks) o c d e = gates-alone ks o _ _ (across (λ x. left (restore (inOrder me o) p x)) (λ g x. restored g x (inOrder me o) p) c d e)
   gates-alone (renewing k ∷ ks) o c d e = gates-alone ks k _ _ (across (λ x. left (becomes (renew x))) (λ g x. renewed g x) c d e)
+
+  -- the order goes by the calls alone
+  pub orders-alone : (ks : List Call) (o : ℕ) (c d : Controller) → (calledAll me (record { order = o; controller = c }) ks) .order ≡ (calledAll me (record { order = o; controller = d }) ks) .order
+  unfolding calledAll called
+  orders-alone [] o c d = refl
+  orders-alone (voting w t ∷ ks) o c d = orders-alone ks o _ _
+  orders-alone (receiving m ∷ ks) o c d = orders-alone ks o _ _
+  orders-alone (timing-out ∷ ks) o c d = orders-alone ks o _ _
+  orders-alone (deciding w ∷ ks) o c d = orders-alone ks o _ _
+  orders-alone (stopping ∷ ks) o c d = orders-alone ks o _ _
+  orders-alone (restoring p ∷ ks) o c d = orders-alone ks o _ _
+  orders-alone (renewing k ∷ ks) o c d = orders-alone ks k _ _

@@ -1,2 +1,6 @@
 mod Carried
 mod Gates
+mod Fits
+mod BallotsFit
+mod Lent
+mod Theorem

@@ -1,42 +1,50 @@
--- WHAT HOLDS OF A CONTROLLER ALONE (`ControllerAlone` of `protocol`) holds of the controller in a cabinet, after any list of calls, accepted or refused, from a begun
--- cabinet on, wherever its gate stands. `cabinet_alone` in src/lib.rt has it as its contract.
+-- WHAT HOLDS OF A CONTROLLER ALONE (`ControllerAlone` of `protocol`) holds of the controller in the words that C lends, after any list of calls of the exported
+-- functions, accepted or refused, wherever its gate stands. `cabinet_alone` in src/lib.rt has it as its contract.
 use Prim.Native.Nat.{ℕ, _≤_}
 use mathlib.Core.Path.{_≡_}
 use mathlib.Core.Bool.{true, false}
-use mathlib.Core.List.{List}
+use mathlib.Core.List.{List, _∷_}
 use Rattle.ground.specs.Quantify.{countTo}
-use Rattle.votes.specs.VoteSets.{knows}
+use Rattle.votes.specs.VoteSets.{knows, wills, single, union}
 use Rattle.votes.specs.declared.Joined.the-variants.{Agreed}
-use Rattle.protocol.specs.declared.Identity.{Identity}
+use Rattle.model.specs.declared.Message.{Message}
+use Rattle.records.specs.Codes.{flagOf}
 use Rattle.protocol.specs.declared.Controller.{Controller}
 use Rattle.protocol.specs.Controllers.{phase, hasAck, hasHelped}
-use Rattle.protocol.specs.Rules.{ackJoin}
-use Rattle.protocol.specs.NoContradiction.{Agreeing, acksUnion}
-use Rattle.protocol.specs.Alone.{alone}
-use Rattle.cabinet_turns.specs.Turns.{begun}
-use Rattle.cabinet_alone.specs.Acts.{Act, afterAll, allCalls}
-
--- controller `id` of the lock, and the controller in its cabinet after these calls
-abbrev pub who : ℕ → ℕ → ℕ → Identity
-who n f id = record { n = n; f = f; id = id; order = 0 }
-
-abbrev pub inside : ℕ → ℕ → ℕ → ℕ → ℕ → List Act → Controller
-inside n f id own p acts = (afterAll acts (begun n f id own p)) .controller
+use Rattle.protocol.specs.Rules.{isTaken, ackJoin, helpVotes}
+use Rattle.protocol.specs.Calls.{receive}
+use Rattle.protocol.specs.NoContradiction.{Agreeing, acksUnion, JoinIsUnion}
+use Rattle.cabinet_state.specs.States.{stateRefusal}
+use Rattle.cabinet.specs.Acts.{Act, Voting, answerTo}
+use Rattle.cabinet_alone.specs.Runs.{Run, lent, cabinet, inside, further, made, aside, noneEnds}
 
 -- a controller but for its gate: a controller alone begins with its gate at 0
 abbrev pub bare : Controller → Controller
 bare c = record { condition = c .condition; votes = c .votes; acks = c .acks; helped = c .helped; help = c .help; proposal = c .proposal; gate = record { target = 0; position = 0 } }
 
 pub record CabinetAlone : Type 0 where
-  -- but for its gate it is a controller alone, after the calls that the accepted ones come to
-  pub as-alone : (n f id own p : ℕ) (acts : List Act) → bare (inside n f id own p acts) ≡ bare (alone (who n f id) (allCalls acts (begun n f id own p)))
-  -- so it never holds two vote sets that contradict each other, and the join of its acknowledgements is there
-  pub held : (n f id own p : ℕ) (acts : List Act) → Agreeing (inside n f id own p acts)
-  pub acks-joined : (n f id own p : ℕ) (acts : List Act) → ackJoin n (inside n f id own p acts) ≡ Agreed (acksUnion n (alone (who n f id) (allCalls acts (begun n f id own p))))
+  -- the words after any list of calls are those of a cabinet: the next call takes them, and reads in them the cabinet that the accepted calls have made
+  pub taken-again : (r : Run) → stateRefusal (lent r) ≡ 0
+  pub read-back : (r : Run) → cabinet r ≡ made r
+  -- but for its gate the controller in it is a controller alone, after the calls that the accepted ones come to
+  pub as-alone : (r : Run) → bare (inside r) ≡ bare (aside r)
+  -- so what holds of a controller alone holds of it. It never holds two vote sets that contradict each other,
+  pub held : (r : Run) → Agreeing (inside r)
+  -- and each join that its rules make is there, and is the union of the vote sets: the acknowledgements'; the help vote set, and its join with the help answers;
+  pub acks-joined : (r : Run) → ackJoin (r .n) (inside r) ≡ Agreed (acksUnion (r .n) (inside r))
+  pub help-votes : (r : Run) → helpVotes (r .n) (inside r) ≡ union (acksUnion (r .n) (inside r)) ((inside r) .votes)
+  pub own-answer : (r : Run) → JoinIsUnion ((inside r) .helped .votes) (helpVotes (r .n) (inside r))
+  -- the own vote, where it is answered 0, with the own vote set; a vote set that is taken with the own vote set, and with the help answers
+  pub own-vote : (r : Run) (w t : ℕ) → answerTo (Voting w t) (lent r) ≡ 0 → JoinIsUnion ((inside r) .votes) (single (r .id) (flagOf w))
+  pub taken : (r : Run) (m : Message) → isTaken ((receive ((cabinet r) .me) m (inside r)) .reception) ≡ true
+      → JoinIsUnion ((inside r) .votes) (m .votes) × JoinIsUnion ((inside r) .helped .votes) (m .votes)
+  -- its own vote stands on its vote set with its word until a stop, a new order or a waking, whatever is called meanwhile
+  pub own-word : (r : Run) (w t : ℕ) (later : List Act) → answerTo (Voting w t) (lent r) ≡ 0 → noneEnds later ≡ true
+      → (knows ((inside (further r (Voting w t ∷ later))) .votes) (r .id) ≡ true) × (wills ((inside (further r (Voting w t ∷ later))) .votes) (r .id) ≡ flagOf w)
   -- before its vote its own vote set does not know it
-  pub unvoted : (n f id own p : ℕ) (acts : List Act) → phase (inside n f id own p acts) ≡ 0 → knows ((inside n f id own p acts) .votes) id ≡ false
+  pub unvoted : (r : Run) → phase (inside r) ≡ 0 → knows ((inside r) .votes) (r .id) ≡ false
   -- the two counts are the numbers of senders held, all of 1 to n
-  pub ack-count : (n f id own p : ℕ) (acts : List Act) → (inside n f id own p acts) .acks .cnt .0 ≡ countTo n (hasAck (inside n f id own p acts))
-  pub answer-count : (n f id own p : ℕ) (acts : List Act) → (inside n f id own p acts) .helped .«cnt_help» .0 ≡ countTo n (hasHelped (inside n f id own p acts))
-  pub ack-senders : (n f id own p : ℕ) (acts : List Act) (j : ℕ) → hasAck (inside n f id own p acts) j ≡ true → (1 ≤ j) × (j ≤ n)
-  pub answer-senders : (n f id own p : ℕ) (acts : List Act) (j : ℕ) → hasHelped (inside n f id own p acts) j ≡ true → (1 ≤ j) × (j ≤ n)
+  pub ack-count : (r : Run) → (inside r) .acks .cnt .0 ≡ countTo (r .n) (hasAck (inside r))
+  pub answer-count : (r : Run) → (inside r) .helped .«cnt_help» .0 ≡ countTo (r .n) (hasHelped (inside r))
+  pub ack-senders : (r : Run) (j : ℕ) → hasAck (inside r) j ≡ true → (1 ≤ j) × (j ≤ r .n)
+  pub answer-senders : (r : Run) (j : ℕ) → hasHelped (inside r) j ≡ true → (1 ≤ j) × (j ≤ r .n)

@@ -1,11 +1,14 @@
 // What holds of a controller alone, whatever is called of it, holds of the controller in a cabinet, whatever C calls.
 ghost use Rattle.cabinet_alone.specs.CabinetAlone.{CabinetAlone};
+use cabinet_state::encoding;
 use protocol::controller_alone;
 
-// Any list of calls on a cabinet is, for its controller, a list of calls on a controller alone; so no two vote sets that it holds ever contradict each other, and
-// the two counts are the numbers of senders held.
+// Any list of calls on the words that C lends leaves words that the next call takes; for the controller in them it is a
+// list of calls on a controller alone. So no two vote sets that it holds ever contradict each other, and the two counts
+// are the numbers of senders held.
 pub fn cabinet_alone()
     ensures { λ _. ⌜ CabinetAlone ⌝ }
 {
+    encoding();
     controller_alone();
 }
