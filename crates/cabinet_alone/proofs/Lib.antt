@@ -4,3 +4,5 @@ mod Fits
 mod BallotsFit
 mod Lent
 mod Theorem
+mod Counting
+mod Settled

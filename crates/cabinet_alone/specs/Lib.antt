@@ -1,3 +1,4 @@
 pub mod Acts
 pub mod Runs
 pub mod CabinetAlone
+pub mod SettledWord

@@ -1,5 +1,6 @@
-// What holds of a controller alone, whatever is called of it, holds of the controller in a cabinet, whatever C calls.
+// What holds of a cabinet, whatever C calls.
 ghost use Rattle.cabinet_alone.specs.CabinetAlone.{CabinetAlone};
+ghost use Rattle.cabinet_alone.specs.SettledWord.{SettledWord};
 use cabinet_state::encoding;
 use protocol::controller_alone;
 
@@ -12,3 +13,8 @@ pub fn cabinet_alone()
     encoding();
     controller_alone();
 }
+
+// The word that its own ballot has settled: who is counted has taken it.
+pub fn settled_word()
+    ensures { λ _. ⌜ SettledWord ⌝ }
+{}
