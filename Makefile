@@ -7,9 +7,11 @@ STRICT = -std=gnu11 -Wall -Wextra -Werror -Iinclude
 
 all: $(ARCHIVE)
 
-# rt proves what has changed, and nothing else
-$(ARCHIVE): FORCE
+# proved and built where it was not yet, or where a source is newer; `rt` is asked for nothing else
+CRATES := $(shell bin/below cabinet)
+$(ARCHIVE): crates.txt $(shell find $(foreach c,$(CRATES),$(wildcard crates/$(c)/src crates/$(c)/specs crates/$(c)/proofs)))
 	rt staticlib cabinet
+	touch $@
 
 target/cabinets: examples/cabinets/cabinets.c include/cabinet.h $(ARCHIVE)
 	$(CC) $(CFLAGS) $(STRICT) -o $@ $< $(ARCHIVE)
@@ -33,6 +35,4 @@ install:
 uninstall:
 	rm -f $(DESTDIR)$(PREFIX)/lib/libcabinet.a $(DESTDIR)$(PREFIX)/include/cabinet.h $(DESTDIR)$(PREFIX)/include/cabinet.rs $(DESTDIR)$(PREFIX)/lib/pkgconfig/cabinet.pc
 
-FORCE:
-
-.PHONY: all examples install uninstall FORCE
+.PHONY: all examples install uninstall
