@@ -1,11 +1,13 @@
-/* Cabinets that run: n processes, each with one controller of the library, telegrams by UDP on the loopback address, over a line that loses, repeats, delays and so
- * reorders by a seed; an arbiter process, or none (ballots); cabinets killed at any moment, and started again from their cards.
+/* Cabinets that run: n processes, each with one controller of the library, telegrams by UDP on the loopback
+ * address, over a line that loses, repeats, delays and so reorders by a seed; an arbiter process, or none
+ * (ballots); cabinets killed at any moment, and started again from their cards.
  *
- *     cabinets SEED DIR N F OWN ORDERS LOSS KILLS AGAIN
+ *     cabinets SEED DIR N F OWN ORDERS LOSS KILLS AGAIN [SLOW]
  *
- * LOSS is in percent (of lost, of repeated and of late telegrams each), KILLS at most how many are killed in the run, AGAIN 0 to send nothing twice. Leaves in DIR
- * `schedule` (what the cabinets accepted, in an order that the causes allow, for the bench) and `lines` (the C line of each). Prints one line of counts.
- * Exit status 0: every order ended; 3: a running cabinet was left open. */
+ * LOSS is in percent (of lost, of repeated and of late telegrams each), KILLS at most how many are killed in the
+ * run, AGAIN 0 to send nothing twice; SLOW makes every wait so many times longer, for a slow machine. Leaves in
+ * DIR `schedule` (what the cabinets accepted, in an order that the causes allow, for the bench) and `lines` (the C
+ * line of each). Prints one line of counts. Exit status 0: every order ended; 3: a running cabinet was left open. */
 #define _GNU_SOURCE
 #include "cabinet.h"
 #include <arpa/inet.h>
@@ -24,7 +26,8 @@
 #include <unistd.h>
 
 enum { MOST = 32, ARBITER = 0, QUEUE = 4096, RECORDS = 200000 };
-/* an order is left open after ORDER_MS, or after LONE_MS where nothing is sent twice: long on a slow machine, since else all end */
+/* an order is left open after ORDER_MS, or after LONE_MS where nothing is sent twice: long on a slow machine,
+ * since else all end */
 enum { WAIT_MS = 10, AGAIN_MS = 5, LATE_MS = 15, ORDER_MS = 20000, LONE_MS = 1500 };
 /* kinds of events, as the bench has them */
 enum { LOCK, ORDER, VOTE, DELIVER, BELL, WORD, STOP, SAVE, RESTORE, OPEN = 10 };
@@ -35,13 +38,15 @@ struct record { uint64_t at; uint32_t order, position; uint8_t event[10], outcom
 /* what the processes count together */
 struct counts { long sent, lost, repeated, late, refused; };
 
-static unsigned n, f, own, orders, loss, kills, again;
+static unsigned n, f, own, orders, loss, kills, again, slow = 1;
 static const char *dir;
 static int line[MOST + 1];
 static struct sockaddr_in address[MOST + 1];
 static struct counts *total;
 static uint32_t draws;
 static volatile sig_atomic_t ended;
+
+static void count(long *of) { __atomic_add_fetch(of, 1, __ATOMIC_RELAXED); }
 
 static void end(int signal) { (void)signal; ended = 1; }
 
@@ -53,7 +58,7 @@ static uint64_t now_ns(void) {
     return (uint64_t)t.tv_sec * 1000000000u + (uint64_t)t.tv_nsec;
 }
 
-static uint64_t ms(unsigned k) { return (uint64_t)k * 1000000u; }
+static uint64_t ms(unsigned k) { return (uint64_t)k * slow * 1000000u; }
 
 static unsigned draw(unsigned below) {
     draws ^= draws << 13;
@@ -71,10 +76,10 @@ static void carry(unsigned me, unsigned to, const uint8_t *bytes, size_t length)
 }
 
 static void put(unsigned me, unsigned to, const uint8_t *bytes, size_t length) {
-    __atomic_add_fetch(&total->sent, 1, __ATOMIC_RELAXED);
-    if (draw(100) < loss) { __atomic_add_fetch(&total->lost, 1, __ATOMIC_RELAXED); return; }
+    count(&total->sent);
+    if (draw(100) < loss) { count(&total->lost); return; }
     unsigned times = 1;
-    if (draw(100) < loss) { times = 2; __atomic_add_fetch(&total->repeated, 1, __ATOMIC_RELAXED); }
+    if (draw(100) < loss) { times = 2; count(&total->repeated); }
     while (times--) {
         if (draw(100) < loss && queued < QUEUE) {
             struct late *l = &queue[queued++];
@@ -82,7 +87,7 @@ static void put(unsigned me, unsigned to, const uint8_t *bytes, size_t length) {
             l->to = to;
             l->length = length;
             memcpy(l->bytes, bytes, length);
-            __atomic_add_fetch(&total->late, 1, __ATOMIC_RELAXED);
+            count(&total->late);
         } else {
             carry(me, to, bytes, length);
         }
@@ -98,13 +103,21 @@ static void carry_late(unsigned me) {
     }
 }
 
-/* Datagrams beside the telegrams, which begin with 4C: a letter, the order, a word. O: an order is called. P: a word is put. W: the word of the order. D: done. */
+/* Datagrams beside the telegrams, which begin with 4C: a letter, the order, a word. O: an order is called. P: a word is
+ * put. W: the word of the order. D: done. */
+static void big_endian(uint8_t *b, uint32_t v) {
+    for (int k = 0; k < 4; k++) b[k] = (uint8_t)(v >> (24 - 8 * k));
+}
+
 static void tell(unsigned me, unsigned to, char letter, uint32_t order, uint8_t word) {
-    uint8_t b[7] = { (uint8_t)letter, (uint8_t)(order >> 24), (uint8_t)(order >> 16), (uint8_t)(order >> 8), (uint8_t)order, word, (uint8_t)me };
+    uint8_t b[7] = { (uint8_t)letter, 0, 0, 0, 0, word, (uint8_t)me };
+    big_endian(b + 1, order);
     put(me, to, b, sizeof b);
 }
 
-static uint32_t order_in(const uint8_t *b) { return (uint32_t)b[1] << 24 | (uint32_t)b[2] << 16 | (uint32_t)b[3] << 8 | b[4]; }
+static uint32_t order_in(const uint8_t *b) {
+    return (uint32_t)b[1] << 24 | (uint32_t)b[2] << 16 | (uint32_t)b[3] << 8 | b[4];
+}
 
 static ssize_t next(unsigned me, uint8_t *in, size_t room, int wait) {
     struct pollfd p = { line[me], POLLIN, 0 };
@@ -120,7 +133,8 @@ static void store(unsigned id, const uint8_t *card) {
     path_of(path, "card", id);
     snprintf(made, sizeof made, "%s.new", path);
     int file = open(made, O_WRONLY | O_CREAT | O_TRUNC, 0600);
-    if (file < 0 || write(file, card, CABINET_CARD) != CABINET_CARD || fsync(file) || close(file) || rename(made, path)) fail(path);
+    if (file < 0 || write(file, card, CABINET_CARD) != CABINET_CARD || fsync(file) || close(file)) fail(made);
+    if (rename(made, path)) fail(path);
     int folder = open(dir, O_RDONLY | O_DIRECTORY); /* the new name is on disk too */
     if (folder < 0 || fsync(folder) || close(folder)) fail(dir);
 }
@@ -145,10 +159,18 @@ static void look(struct cabinet *c) {
     if (cabinet_show(c->state, CABINET_WORDS, c->shown, CABINET_SHOWN)) fail("show");
 }
 
+/* an event's ten bytes */
+static void event_bytes(uint8_t *r, uint8_t kind, uint8_t a, uint8_t b, uint8_t e, uint32_t v) {
+    uint8_t head[6] = { 0x4C, 0x45, kind, a, b, e };
+    memcpy(r, head, sizeof head);
+    big_endian(r + 6, v);
+}
+
 static void note(struct cabinet *c, uint8_t kind, uint8_t a, uint8_t b, uint8_t e, uint32_t v) {
     look(c);
-    struct record r = { now_ns(), c->shown[CABINET_ORDER], c->shown[CABINET_POSITION], { 0x4C, 0x45, kind, a, b, e, (uint8_t)(v >> 24), (uint8_t)(v >> 16), (uint8_t)(v >> 8), (uint8_t)v },
-        (uint8_t)c->shown[CABINET_OUTCOME], { 0 } };
+    struct record r = { .at = now_ns(), .order = c->shown[CABINET_ORDER], .position = c->shown[CABINET_POSITION],
+        .outcome = (uint8_t)c->shown[CABINET_OUTCOME] };
+    event_bytes(r.event, kind, a, b, e, v);
     if (write(c->file, &r, sizeof r) != sizeof r) fail("record");
 }
 
@@ -167,21 +189,32 @@ static int recorded(unsigned id, struct record *last, struct record *saved) {
     struct record r;
     memset(last, 0, sizeof *last);
     memset(saved, 0, sizeof *saved);
-    while (file >= 0 && read(file, &r, sizeof r) == sizeof r) { *last = r; any = 1; if (r.event[2] == SAVE) *saved = r; }
+    while (file >= 0 && read(file, &r, sizeof r) == sizeof r) {
+        *last = r;
+        any = 1;
+        if (r.event[2] == SAVE) *saved = r;
+    }
     if (file >= 0) close(file);
     return any;
 }
 
-/* One comes back: it begins where its gate stands, and wakes from its card. Killed between card and record, it records the save first. */
+static void begin(struct cabinet *c, uint32_t position) {
+    uint8_t id = (uint8_t)c->id;
+    if (cabinet_begin(c->state, CABINET_WORDS, (uint8_t)n, (uint8_t)f, id, (uint8_t)own, position)) fail("begin");
+}
+
+/* One comes back: it begins where its gate stands, and wakes from its card. Killed between card and record, it
+ * records the save first. */
 static void come_back(struct cabinet *c) {
     struct record last, saved;
     uint8_t card[CABINET_CARD];
     recorded(c->id, &last, &saved);
-    if (cabinet_begin(c->state, CABINET_WORDS, (uint8_t)n, (uint8_t)f, (uint8_t)c->id, (uint8_t)own, last.position)) fail("begin");
+    begin(c, last.position);
     if (!load(c->id, card)) { look(c); return; } /* killed before its first order: it begins as new */
     if (cabinet_wake(c->state, CABINET_WORDS, card, CABINET_CARD)) fail("wake");
     look(c);
-    if (saved.order != c->shown[CABINET_ORDER] || saved.outcome != c->shown[CABINET_OUTCOME]) note(c, SAVE, (uint8_t)c->id, 0, 0, 0);
+    if (saved.order != c->shown[CABINET_ORDER] || saved.outcome != c->shown[CABINET_OUTCOME])
+        note(c, SAVE, (uint8_t)c->id, 0, 0, 0);
     note(c, STOP, (uint8_t)c->id, 0, 0, 0);
     note(c, RESTORE, (uint8_t)c->id, 0, 0, 0);
 }
@@ -203,7 +236,7 @@ static void word_came(struct cabinet *c, uint32_t order, uint8_t word) {
 static void telegram_came(struct cabinet *c, const uint8_t *in, size_t length) {
     uint32_t before[CABINET_WORDS];
     memcpy(before, c->state, sizeof before);
-    if (cabinet_receive(c->state, CABINET_WORDS, in, length)) { __atomic_add_fetch(&total->refused, 1, __ATOMIC_RELAXED); return; }
+    if (cabinet_receive(c->state, CABINET_WORDS, in, length)) { count(&total->refused); return; }
     if (memcmp(before, c->state, sizeof before) == 0) return; /* passed over, or known */
     uint32_t ballot = in[2] >= 5 ? in[length - 4] : 0;
     note(c, DELIVER, in[5], (uint8_t)c->id, in[2], ballot);
@@ -241,9 +274,20 @@ static void open_ballot(struct cabinet *c) {
 static void settle(struct cabinet *c) {
     uint32_t order = c->shown[CABINET_ORDER];
     unsigned stage = c->shown[CABINET_STAGE];
-    if (!own && !c->shown[CABINET_OUTCOME] && (c->shown[CABINET_PUT] || stage == 9)) tell(c->id, ARBITER, 'P', order, (uint8_t)c->shown[CABINET_PUT]);
-    if (own && c->shown[CABINET_SETTLED])
-        for (unsigned i = 1; i <= n; i++) if (i != c->id) tell(c->id, i, 'W', order, (uint8_t)c->shown[CABINET_SETTLED]);
+    uint8_t word = (uint8_t)c->shown[CABINET_PUT], settled = (uint8_t)c->shown[CABINET_SETTLED];
+    if (!own && !c->shown[CABINET_OUTCOME] && (word || stage == 9)) tell(c->id, ARBITER, 'P', order, word);
+    if (own && settled)
+        for (unsigned i = 1; i <= n; i++) if (i != c->id) tell(c->id, i, 'W', order, settled);
+}
+
+/* its C line */
+static void write_line(unsigned id, unsigned stage, char outcome, uint32_t position) {
+    char path[300];
+    path_of(path, "line", id);
+    FILE *out = fopen(path, "w");
+    if (!out) fail(path);
+    fprintf(out, "C %u %u %c %d\n", id, stage, outcome, (int32_t)position);
+    fclose(out);
 }
 
 static void cabinet(unsigned id, unsigned seed, int back) {
@@ -259,7 +303,7 @@ static void cabinet(unsigned id, unsigned seed, int back) {
     c.file = open(path, O_WRONLY | O_CREAT | O_APPEND, 0600);
     if (c.file < 0) fail(path);
     if (back) come_back(&c);
-    else if (cabinet_begin(c.state, CABINET_WORDS, (uint8_t)n, (uint8_t)f, (uint8_t)id, (uint8_t)own, 0)) fail("begin");
+    else begin(&c, 0);
     look(&c);
     uint64_t again_at = 0, bell_at = 0, open_at = 0;
     uint32_t stage = 99, order = 0, had = c.shown[CABINET_OUTCOME];
@@ -268,7 +312,11 @@ static void cabinet(unsigned id, unsigned seed, int back) {
         if (length > 0) { came(&c, in, (size_t)length); look(&c); }
         carry_late(id);
         uint64_t now = now_ns();
-        if (c.shown[CABINET_ORDER] != order || c.shown[CABINET_STAGE] != stage) { bell_at = now + ms(WAIT_MS); open_at = now + ms(1 + draw(10)); again_at = now; }
+        if (c.shown[CABINET_ORDER] != order || c.shown[CABINET_STAGE] != stage) {
+            bell_at = now + ms(WAIT_MS);
+            open_at = now + ms(1 + draw(10));
+            again_at = now;
+        }
         order = c.shown[CABINET_ORDER];
         stage = c.shown[CABINET_STAGE];
         if ((stage == 1 || stage == 2) && now >= bell_at) {
@@ -276,7 +324,12 @@ static void cabinet(unsigned id, unsigned seed, int back) {
             note(&c, BELL, (uint8_t)id, 0, 0, 0);
             continue;
         }
-        if (own && stage == 3 && c.shown[CABINET_PUT] && !c.shown[CABINET_OUTCOME] && now >= open_at) { open_ballot(&c); look(&c); open_at = now + ms(15 + draw(10 * n)); again_at = now; }
+        if (own && stage == 3 && c.shown[CABINET_PUT] && !c.shown[CABINET_OUTCOME] && now >= open_at) {
+            open_ballot(&c);
+            look(&c);
+            open_at = now + ms(15 + draw(10 * n));
+            again_at = now;
+        }
         if (own && c.shown[CABINET_SETTLED]) { word_came(&c, order, (uint8_t)c.shown[CABINET_SETTLED]); look(&c); }
         if (c.shown[CABINET_OUTCOME] != had) { had = c.shown[CABINET_OUTCOME]; if (had) save(&c); }
         if (now >= again_at && order) {
@@ -286,15 +339,12 @@ static void cabinet(unsigned id, unsigned seed, int back) {
             if (had || stage == 9) tell(id, ARBITER, 'D', order, (uint8_t)had);
         }
     }
-    path_of(path, "line", id);
-    FILE *out = fopen(path, "w");
-    if (!out) fail(path);
-    fprintf(out, "C %u %u %c %d\n", id, c.shown[CABINET_STAGE], "-SM"[c.shown[CABINET_OUTCOME]], (int32_t)c.shown[CABINET_POSITION]);
-    fclose(out);
+    write_line(id, c.shown[CABINET_STAGE], "-SM"[c.shown[CABINET_OUTCOME]], c.shown[CABINET_POSITION]);
     _exit(0);
 }
 
-/* THE KEEPER, who is the arbiter too: it calls the orders, gives the first word put in an order, kills and starts again. */
+/* THE KEEPER, who is the arbiter too: it calls the orders, gives the first word put in an order, kills and starts
+ * again. */
 static pid_t process[MOST + 1];
 static uint32_t killed_in[MOST + 1];
 
@@ -314,7 +364,8 @@ static int earlier(const void *x, const void *y) {
 }
 
 static void event(FILE *out, uint8_t kind, uint8_t a, uint8_t b, uint8_t e, uint32_t v) {
-    uint8_t r[10] = { 0x4C, 0x45, kind, a, b, e, (uint8_t)(v >> 24), (uint8_t)(v >> 16), (uint8_t)(v >> 8), (uint8_t)v };
+    uint8_t r[10];
+    event_bytes(r, kind, a, b, e, v);
     fwrite(r, 1, sizeof r, out);
 }
 
@@ -352,17 +403,15 @@ static void write_schedule(void) {
     fclose(out);
 }
 
-/* one that was killed and is not started again is stopped, in the order of its last record, or in the one in which it was killed if it has none */
+/* one that was killed and is not started again is stopped, in the order of its last record, or in the one in which
+ * it was killed if it has none */
 static void stopped(unsigned id, uint32_t order) {
     char path[300];
     struct record last, saved;
     if (recorded(id, &last, &saved)) order = last.order;
-    path_of(path, "line", id);
-    FILE *out = fopen(path, "w");
-    if (!out) fail(path);
-    fprintf(out, "C %u 8 - %d\n", id, (int32_t)last.position);
-    fclose(out);
-    struct record r = { now_ns(), order, last.position, { 0x4C, 0x45, STOP, (uint8_t)id }, 0, { 0 } };
+    write_line(id, 8, '-', last.position);
+    struct record r = { .at = now_ns(), .order = order, .position = last.position };
+    event_bytes(r.event, STOP, (uint8_t)id, 0, 0, 0);
     path_of(path, "record", id);
     int file = open(path, O_WRONLY | O_CREAT | O_APPEND, 0600);
     if (file < 0 || write(file, &r, sizeof r) != sizeof r) fail(path);
@@ -370,11 +419,14 @@ static void stopped(unsigned id, uint32_t order) {
 }
 
 int main(int argc, char **argv) {
-    if (argc != 10) { fprintf(stderr, "usage: cabinets SEED DIR N F OWN ORDERS LOSS KILLS AGAIN\n"); return 2; }
+    if (argc != 10 && argc != 11) {
+        fprintf(stderr, "usage: cabinets SEED DIR N F OWN ORDERS LOSS KILLS AGAIN [SLOW]\n");
+        return 2;
+    }
     unsigned seed = (unsigned)atoi(argv[1]);
     dir = argv[2];
-    n = (unsigned)atoi(argv[3]); f = (unsigned)atoi(argv[4]); own = (unsigned)atoi(argv[5]); orders = (unsigned)atoi(argv[6]);
-    loss = (unsigned)atoi(argv[7]); kills = (unsigned)atoi(argv[8]); again = (unsigned)atoi(argv[9]);
+    unsigned *numbers[] = { &n, &f, &own, &orders, &loss, &kills, &again, &slow };
+    for (int k = 3; k < argc; k++) *numbers[k - 3] = (unsigned)atoi(argv[k]);
     total = mmap(NULL, sizeof *total, PROT_READ | PROT_WRITE, MAP_SHARED | MAP_ANONYMOUS, -1, 0);
     if (total == MAP_FAILED) fail("mmap");
     for (unsigned i = 0; i <= n; i++) {
@@ -384,7 +436,8 @@ int main(int argc, char **argv) {
         setsockopt(line[i], SOL_SOCKET, SO_RCVBUF, &room, sizeof room);
         address[i].sin_family = AF_INET;
         address[i].sin_addr.s_addr = htonl(INADDR_LOOPBACK);
-        if (line[i] < 0 || bind(line[i], (struct sockaddr *)&address[i], sizeof address[i]) || getsockname(line[i], (struct sockaddr *)&address[i], &size)) fail("line");
+        struct sockaddr *at = (struct sockaddr *)&address[i];
+        if (line[i] < 0 || bind(line[i], at, sizeof address[i]) || getsockname(line[i], at, &size)) fail("line");
     }
     draws = seed * 69069u + 1234567u;
     if (!draws) draws = 1;
@@ -415,13 +468,19 @@ int main(int argc, char **argv) {
                 }
             }
             if (now >= back_at) { back_at = until + 1; start(victim, seed + order, 1); back++; done[victim] = 0; }
-            if (now >= call_at) { call_at = now + ms(AGAIN_MS); for (unsigned i = 1; i <= n; i++) if (!done[i]) tell(ARBITER, i, 'O', order, 0); }
+            if (now >= call_at) {
+                call_at = now + ms(AGAIN_MS);
+                for (unsigned i = 1; i <= n; i++) if (!done[i]) tell(ARBITER, i, 'O', order, 0);
+            }
             carry_late(ARBITER);
             ssize_t length = next(ARBITER, in, sizeof in, 1);
             if (length != 7 || order_in(in) != order) continue;
             if (in[0] == 'D') {
                 done[in[6]] = 1;
-                if (in[5] && outcome && in[5] != outcome) { fprintf(stderr, "order %u: two outcomes\n", order); return 9; }
+                if (in[5] && outcome && in[5] != outcome) {
+                    fprintf(stderr, "order %u: two outcomes\n", order);
+                    return 9;
+                }
                 if (in[5]) outcome = in[5];
             }
             if (in[0] == 'P') { if (!word) word = in[5]; if (word) tell(ARBITER, in[6], 'W', order, word); }
@@ -432,10 +491,14 @@ int main(int argc, char **argv) {
     for (unsigned id = 1; id <= n; id++) if (process[id] > 0) kill(process[id], SIGTERM);
     for (unsigned id = 1; id <= n; id++) {
         int status = 0;
-        if (process[id] > 0) { waitpid(process[id], &status, 0); if (status) { fprintf(stderr, "cabinet %u ended with %x\n", id, status); return 9; } }
+        if (process[id] > 0) waitpid(process[id], &status, 0);
         else stopped(id, killed_in[id]);
+        if (status) { fprintf(stderr, "cabinet %u ended with %x\n", id, status); return 9; }
     }
     write_schedule();
-    printf("orders %u of %u in %.3f s, open %u, killed %u, back %u; datagrams %ld, lost %ld, repeated %ld, late %ld, refused %ld\n", ended_orders, orders, seconds, open_left, killed, back, total->sent, total->lost, total->repeated, total->late, total->refused);
+    printf("orders %u of %u in %.3f s, open %u, killed %u, back %u; ",
+        ended_orders, orders, seconds, open_left, killed, back);
+    printf("datagrams %ld, lost %ld, repeated %ld, late %ld, refused %ld\n",
+        total->sent, total->lost, total->repeated, total->late, total->refused);
     return open_left ? 3 : 0;
 }

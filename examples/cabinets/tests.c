@@ -1,5 +1,11 @@
-/* Every single turned bit of a state is refused by every call, a state of another length or version too, and what is refused stays as it was; the numbers of calls that
- * fail a question of their own; and how much stack the calls take. The states are those of a lock of 3 and of 32 through an order, with and without an arbiter. */
+/* Every single turned bit of a state is refused by every call, a state of another length or version too, and what
+ * is refused stays as it was; the numbers of calls that fail a question of their own; and how much stack the calls
+ * take. The states are those of a lock of 3 and of 32 through an order, with and without an arbiter.
+ *
+ *     cabinet_tests [STEP]
+ *
+ * With STEP just one bit of so many is turned, and no stack is measured: for valgrind, to which a painted stack is
+ * foreign. */
 #define _GNU_SOURCE
 #include "cabinet.h"
 #include <stdio.h>
@@ -8,6 +14,7 @@
 #include <ucontext.h>
 
 static long refusals, states;
+static int step = 1;
 
 static void check(int right, const char *what) {
     if (!right) { fprintf(stderr, "cabinet tests: FAILED: %s\n", what); exit(1); }
@@ -18,7 +25,11 @@ static void all_refuse(uint32_t *s, size_t words, uint8_t a, uint8_t b) {
     uint32_t before[CABINET_WORDS + 1], shown[CABINET_SHOWN], kept[CABINET_SHOWN];
     uint8_t card[CABINET_CARD], t[CABINET_TELEGRAM], same[CABINET_TELEGRAM], r[12];
     memcpy(before, s, words * sizeof *s);
-    memset(card, 0xA5, sizeof card); memset(t, 0xA5, sizeof t); memset(same, 0xA5, sizeof same); memset(shown, 0xA5, sizeof shown); memset(kept, 0xA5, sizeof kept);
+    memset(card, 0xA5, sizeof card);
+    memset(t, 0xA5, sizeof t);
+    memset(same, 0xA5, sizeof same);
+    memset(shown, 0xA5, sizeof shown);
+    memset(kept, 0xA5, sizeof kept);
     r[0] = cabinet_order(s, words, 4000000000u);
     r[1] = cabinet_vote(s, words, 1, 0);
     r[2] = cabinet_receive(s, words, t, 16);
@@ -33,7 +44,8 @@ static void all_refuse(uint32_t *s, size_t words, uint8_t a, uint8_t b) {
     check(cabinet_telegram_length(s, words, 0) == 0, "a length of a refused state");
     for (int k = 0; k < 11; k++) { check(r[k] == a || r[k] == b, "a damaged state is taken"); refusals++; }
     check(memcmp(before, s, words * sizeof *s) == 0, "a refused state was changed");
-    check(memcmp(t, same, sizeof t) == 0 && memcmp(card, same, sizeof card) == 0 && memcmp(shown, kept, sizeof shown) == 0, "a buffer was changed");
+    check(memcmp(t, same, sizeof t) == 0 && memcmp(card, same, sizeof card) == 0, "a buffer was changed");
+    check(memcmp(shown, kept, sizeof shown) == 0, "the display's words were changed");
 }
 
 static void turn_every_bit(const uint32_t *state) {
@@ -41,12 +53,11 @@ static void turn_every_bit(const uint32_t *state) {
     memcpy(s, state, CABINET_WORDS * sizeof *s);
     s[CABINET_WORDS] = 0;
     states++;
-    for (int w = 0; w < CABINET_WORDS; w++)
-        for (int b = 0; b < 32; b++) {
-            s[w] ^= (uint32_t)1 << b;
-            all_refuse(s, CABINET_WORDS, 2, 3);
-            s[w] ^= (uint32_t)1 << b;
-        }
+    for (int at = 0; at < CABINET_WORDS * 32; at += step) {
+        s[at / 32] ^= (uint32_t)1 << at % 32;
+        all_refuse(s, CABINET_WORDS, 2, 3);
+        s[at / 32] ^= (uint32_t)1 << at % 32;
+    }
     all_refuse(s, CABINET_WORDS - 1, 1, 1);
     all_refuse(s, CABINET_WORDS + 1, 1, 1);
     all_refuse(s, 0, 1, 1);
@@ -57,7 +68,8 @@ static void deliver(uint32_t lock[][CABINET_WORDS], unsigned n, unsigned from) {
     uint8_t t[CABINET_TELEGRAM], length;
     for (unsigned k = 0; (length = cabinet_telegram_length(lock[from], CABINET_WORDS, (uint8_t)k)) != 0; k++) {
         check(cabinet_telegram(lock[from], CABINET_WORDS, (uint8_t)k, t, length) == 0, "a telegram");
-        check(t[6] >= 1 && t[6] <= n && cabinet_receive(lock[t[6]], CABINET_WORDS, t, length) == 0, "a telegram is received");
+        check(t[6] >= 1 && t[6] <= n, "its receiver");
+        check(cabinet_receive(lock[t[6]], CABINET_WORDS, t, length) == 0, "a telegram is received");
     }
 }
 
@@ -66,7 +78,8 @@ static void order(unsigned n, unsigned f, unsigned own) {
     uint32_t d[CABINET_SHOWN];
     for (unsigned i = 1; i <= n; i++) {
         check(cabinet_begin(lock[i], CABINET_WORDS, (uint8_t)n, (uint8_t)f, (uint8_t)i, (uint8_t)own, 0) == 0, "begin");
-        check(cabinet_order(lock[i], CABINET_WORDS, 7) == 0 && cabinet_vote(lock[i], CABINET_WORDS, i != 2, 100) == 0, "vote");
+        check(cabinet_order(lock[i], CABINET_WORDS, 7) == 0, "order");
+        check(cabinet_vote(lock[i], CABINET_WORDS, i != 2, 100) == 0, "vote");
     }
     turn_every_bit(lock[1]);
     for (int bell = 1; bell <= 2; bell++) /* no telegram comes before the bells: all put a word */
@@ -134,7 +147,8 @@ static void own_questions(void) {
 /* how deep each call goes, by a painted stack */
 static ucontext_t here, there;
 static uint32_t state[CABINET_WORDS], display[CABINET_SHOWN];
-static uint8_t card[CABINET_CARD], ack[20] = { 0x4C, 0x4C, 2, 32, 5, 2, 1, 0, 0, 0, 0, 5, 0xFF, 0xFF, 0xFF, 0xFF, 0xFF, 0xFF, 0xFF, 0xFF }, out[20];
+static uint8_t card[CABINET_CARD], out[20];
+static uint8_t ack[20] = { 0x4C, 0x4C, 2, 32, 5, 2, 1, 0, 0, 0, 0, 5, 0xFF, 0xFF, 0xFF, 0xFF, 0xFF, 0xFF, 0xFF, 0xFF };
 static int which;
 
 static void call(void) {
@@ -174,11 +188,18 @@ static int deepest(void) {
     return most;
 }
 
-int main(void) {
+int main(int argc, char **argv) {
+    if (argc == 2) step = atoi(argv[1]);
+    check(step > 0, "STEP is a number from 1 on");
     for (unsigned own = 0; own < 2; own++) { order(3, 1, own); order(32, 5, own); }
     own_questions();
-    int stack = deepest();
-    check(stack < 8192, "a call takes less than 8 KB of stack");
-    printf("cabinet tests: %ld states, each of their %d bits turned: %ld refusals, nothing changed; at most %d bytes of stack a call\n", states, CABINET_WORDS * 32, refusals, stack);
+    printf("cabinet tests: %ld states, one of %d of their %d bits turned: %ld refusals, nothing changed",
+        states, step, CABINET_WORDS * 32, refusals);
+    if (argc == 1) {
+        int stack = deepest();
+        check(stack < 8192, "a call takes less than 8 KB of stack");
+        printf("; at most %d bytes of stack a call", stack);
+    }
+    printf("\n");
     return 0;
 }

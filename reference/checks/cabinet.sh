@@ -9,3 +9,4 @@ rustc --edition 2021 -O -D warnings -L native="$root/target/staticlib" --extern 
 sed 's/^/compare: cabinets: /' "$work/cabinet.out"
 timeout 600 "$root/examples/cabinets/runs.sh" 1 50 || stop "cabinets as processes"
 timeout 300 "$root/examples/cabinets/runs.sh" 1 20 0 || stop "cabinets as processes, nothing sent twice"
+timeout 400 "$root/examples/cabinets/valgrind.sh" || stop "valgrind on the cabinets' C programs"
