@@ -20,9 +20,10 @@ echo "docs/QUESTIONS.md: $(grep -c . <<< "$asked") questions, in the words of cr
 # The `ensures` lines of a function: those between its `fn` line and its body.
 contract() { # crate, function
     find "crates/$1/src" -name '*.rt' -exec cat {} + | awk -v name="$2" '
-        $0 ~ "(^|[ \t])fn " name "[(<]" { inside = 1; next }
+        $0 ~ "(^|[ \t])fn " name "[(<]" { inside = 1; told = 0; next }
         inside && /^[ \t]*[{]/ { inside = 0 }
-        inside && /^[ \t]*ensures/ { print }'
+        inside && /^[ \t]*ensures/ { told = 1 }
+        inside && told { print }'
 }
 
 rows=0

@@ -1,47 +1,57 @@
-/* The controller of a lock's gate in a cabinet, for C. One controller is CABINET_WORDS words of 32 bits that the caller owns and lends; the library allocates
- * nothing and has no globals, so any number of them may stand in one program, each used by one thread at a time.
+/* The controller of a lock's gate in a cabinet, for C. One controller is CABINET_WORDS words of 32 bits that the
+ * caller owns and lends; the library allocates nothing and has no globals, so any number of them may stand in one
+ * program, each used by one thread at a time.
  *
- * Every call answers 0, or the number of the first question that was answered "no" (docs/QUESTIONS.md of the project; CABINET_OTHER_CARD is this library's own). What is refused
- * changes nothing: neither the state nor a lent buffer. Questions 1 to 3 are first asked of the state: is it CABINET_WORDS long, does it begin with the mark and
- * this version, and is every word as the library wrote it. Any change of one word, a turned bit among them, is refused with 2 or 3. A telegram that is passed
- * over (of another order, n or f, for another controller, at a wrong stage, or where the controller is stopped or stands by) is answered 0 and changes
- * nothing; so is one of an order that was not called here yet: sending again brings it. A call takes less than 8 KB of stack.
+ * Every call answers 0, or the number of the first question that was answered "no" (docs/QUESTIONS.md of the
+ * project; CABINET_OTHER_CARD is this library's own). What is refused changes nothing: neither the state nor a lent
+ * buffer. Questions 1 to 3 are first asked of the state: is it CABINET_WORDS long, does it begin with the mark and
+ * this version, and is every word as the library wrote it. Any change of one word, a turned bit among them, is
+ * refused with 2 or 3. A telegram that is passed over (of another order, n or f, for another controller, at a wrong
+ * stage, or where the controller is stopped or stands by) is answered 0 and changes nothing; so is one of an order
+ * that was not called here yet: sending again brings it. A call takes less than 8 KB of stack.
  *
- * Buffers: a pointer and a length. They stay the caller's; nothing is kept of them after the call. No two buffers of one call may overlap, and a length must be
- * that of the memory behind its pointer. Pointers are never null, also where the length is 0.
+ * Buffers: a pointer and a length. They stay the caller's; nothing is kept of them after the call. No two buffers of
+ * one call may overlap, and a length must be that of the memory behind its pointer. Pointers are never null, also
+ * where the length is 0.
  *
  * An order, in a cabinet:
  *
  *     uint32_t s[CABINET_WORDS], d[CABINET_SHOWN];
- *     cabinet_begin(s, CABINET_WORDS, n, f, me, 0, position);                      // once, when the program starts
- *     if (read_card(card)) cabinet_wake(s, CABINET_WORDS, card, CABINET_CARD);     // it was here before: it stands by until the next order
- *     cabinet_order(s, CABINET_WORDS, number);                                     // the keeper has called order `number`
- *     cabinet_save(s, CABINET_WORDS, card, CABINET_CARD); write_card(card);        // on disk before the first telegram leaves
+ *     cabinet_begin(s, CABINET_WORDS, n, f, me, 0, position);                            // once, when the program starts
+ *     if (read_card(card)) cabinet_wake(s, CABINET_WORDS, card, CABINET_CARD);           // it was here before: it stands by
+ *     cabinet_order(s, CABINET_WORDS, number);                                           // the keeper has called this order
+ *     cabinet_save(s, CABINET_WORDS, card, CABINET_CARD); write_card(card);              // before any telegram leaves
  *     cabinet_vote(s, CABINET_WORDS, willing, target);
- *     for (k = 0; (len = cabinet_telegram_length(s, CABINET_WORDS, k)) != 0; k++)  // all that it has sent in this order: now, and again until the outcome
- *         if (cabinet_telegram(s, CABINET_WORDS, k, t, len) == 0) send_to(t[6], t, len);
- *     cabinet_receive(s, CABINET_WORDS, in, length);                               // whenever a telegram comes
- *     cabinet_show(s, CABINET_WORDS, d, CABINET_SHOWN);                            // for the display, and to know when to ring
- *     if (waited(d[CABINET_STAGE])) cabinet_timeout(s, CABINET_WORDS);             // once at stage 1 and once at stage 2
+ *     for (k = 0; (len = cabinet_telegram_length(s, CABINET_WORDS, k)) != 0; k++)        // now, and again
+ *         if (cabinet_telegram(s, CABINET_WORDS, k, t, len) == 0) send_to(t[6], t, len); // until the outcome
+ *     cabinet_receive(s, CABINET_WORDS, in, length);                                     // whenever a telegram comes
+ *     cabinet_show(s, CABINET_WORDS, d, CABINET_SHOWN);                                  // for the display, and for the bell
+ *     if (waited(d[CABINET_STAGE])) cabinet_timeout(s, CABINET_WORDS);                   // once at stage 1, once at stage 2
  *
- * When to ring: controllers 1 to f + 1 go from stage 0 to stage 1 at their vote, those above to stage 2. So go by the stage: a wait begins when the stage becomes
- * 1 or 2 and ends with one cabinet_timeout. A wait should be as long as a telegram takes when nothing is late; too short costs telegrams, never agreement.
+ * When to ring: controllers 1 to f + 1 go from stage 0 to stage 1 at their vote, those above to stage 2. So go by
+ * the stage: a wait begins when the stage becomes 1 or 2 and ends with one cabinet_timeout. A wait should be as long
+ * as a telegram takes when nothing is late; too short costs telegrams, never agreement.
  *
- * What to send again: all of cabinet_telegram, every few waits, until the display shows an outcome, and for some time after: others may still need them. Each of them
- * is what was sent before, byte for byte, and a repeated one changes nothing where it comes in. Of ballots these are the last own one, and the last promise and taken
- * for another's.
+ * What to send again: all of cabinet_telegram, every few waits, until the display shows an outcome, and for some
+ * time after: others may still need them. Each of them is what was sent before, byte for byte, and a repeated one
+ * changes nothing where it comes in. Of ballots these are the last own one, and the last promise and taken for
+ * another's.
  *
- * The word put (CABINET_PUT) goes to the arbiter, whose answer comes in by cabinet_decide. At a lock without arbiter (own = 1) a cabinet that has put a word and has
- * no outcome opens a ballot of its own: the least b above CABINET_HIGHEST with (b - 1) % n + 1 == number, at most 255; after a while, at random, another. When the
- * display shows a settled word (CABINET_SETTLED), this cabinet decides by it and tells the others, which decide by it too. The library has no telegram for the word put,
- * nor for the word given: these are messages of your own.
+ * The word put (CABINET_PUT) goes to the arbiter, whose answer comes in by cabinet_decide. At a lock without arbiter
+ * (own = 1) a cabinet that has put a word and has no outcome opens a ballot of its own: the least b above
+ * CABINET_HIGHEST with (b - 1) % n + 1 == number, at most 255; after a while, at random, another. When the display
+ * shows a settled word (CABINET_SETTLED), this cabinet decides by it and tells the others, which decide by it too.
+ * The library has no telegram for the word put, nor for the word given: these are messages of your own.
  *
- * cabinet_decide cannot know whose word it is given. Let every such message carry its order's number, and call it only where that is CABINET_ORDER. The arbiter must
- * give only a word that was put in this order, and never two in one order: agreement rests on both.
+ * cabinet_decide cannot know whose word it is given. Let every such message carry its order's number, and call it
+ * only where that is CABINET_ORDER. The arbiter must give only a word that was put in this order, and never two in
+ * one order: agreement rests on both.
  *
- * A cabinet that was ended and comes back: begin, with where its gate stands now, then wake with its card. It stands by (stage 9) in the card's order, or in the state's
- * where that is later, sends nothing and moves nothing, and runs in the next. Without cabinet_wake it would run in an order in which it may have voted before: so write the card after cabinet_order, before anything is sent, and
- * again at the outcome; to a temporary file, fsync, rename, so that a torn write is noticed.
+ * A cabinet that was ended and comes back: begin, with where its gate stands now, then wake with its card. It stands
+ * by (stage 9) in the card's order, or in the state's where that is later, sends nothing and moves nothing, and runs
+ * in the next. Without cabinet_wake it would run in an order in which it may have voted before: so write the card
+ * after cabinet_order, before anything is sent, and again at the outcome; to a temporary file, fsync, rename, so
+ * that a torn write is noticed.
  */
 #ifndef CABINET_H
 #define CABINET_H
@@ -70,8 +80,10 @@ enum {
     CABINET_SHOWN     /* how many words these are */
 };
 
-/* n and f of the lock, the controller's number, 1 if the lock has no arbiter or 0, and where the gate stands, in mm, two's complement: refused with 1, 3, 4, 7, 11 */
-uint8_t cabinet_begin(uint32_t *state, size_t words, uint8_t n, uint8_t f, uint8_t number, uint8_t own, uint32_t position);
+/* n and f of the lock, the controller's number, 1 if the lock has no arbiter or 0, and where the gate stands, in mm,
+ * two's complement: refused with 1, 3, 4, 7, 11 */
+uint8_t cabinet_begin(uint32_t *state, size_t words, uint8_t n, uint8_t f, uint8_t number, uint8_t own,
+    uint32_t position);
 
 /* 8, 12; 13 if it runs and has no outcome of the order before */
 uint8_t cabinet_order(uint32_t *state, size_t words, uint32_t number);
@@ -100,7 +112,8 @@ uint8_t cabinet_wake(uint32_t *state, size_t words, const uint8_t *card, size_t 
 /* ballot 1 to 255: 14, 15, 28, 29 */
 uint8_t cabinet_open(uint32_t *state, size_t words, uint8_t ballot);
 
-/* the k-th telegram, from 0 on (k below 256 reaches every one), of all that it has sent in this order, into a buffer of just its length; its receiver is byte 6: 17 if there are not so many, 1 */
+/* the k-th telegram, from 0 on (k below 256 reaches every one), of all that it has sent in this order, into a buffer of
+ * just its length; its receiver is byte 6: 17 if there are not so many, 1 */
 uint8_t cabinet_telegram(const uint32_t *state, size_t words, uint8_t k, uint8_t *out, size_t room);
 
 /* how long that one is: 16, 20 or 24; 0 if there are not so many, or the state is refused */

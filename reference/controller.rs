@@ -150,6 +150,11 @@ impl Controller {
         }
     }
 
+    /// The same with its gate at this position.
+    pub fn standing_at(self, position: i32) -> Controller {
+        Controller { position, ..self }
+    }
+
     pub fn group(&self) -> Group {
         self.group
     }

@@ -122,8 +122,22 @@ static void own_questions(void) {
     refused(cabinet_begin(s, CABINET_WORDS, 3, 1, 4, 0, 0), 7, s, b, "begin, 7");
     refused(cabinet_begin(s, CABINET_WORDS, 3, 1, 0, 0, 0), 7, s, b, "begin, 7 of 0");
     refused(cabinet_begin(s, CABINET_WORDS, 3, 1, 1, 0, 0x7FFFFFFF), 11, s, b, "begin, 11");
-    check(cabinet_begin(s, CABINET_WORDS, 3, 1, 1, 0, 0) == 0, "begin");
+    /* of two faults the question that comes first */
+    refused(cabinet_begin(s, CABINET_WORDS - 1, 3, 1, 1, 2, 0), 1, s, b, "begin, 1 before 3");
+    refused(cabinet_begin(s, CABINET_WORDS, 33, 1, 1, 2, 0), 3, s, b, "begin, 3 before 4");
+    refused(cabinet_begin(s, CABINET_WORDS, 33, 1, 0, 0, 0), 4, s, b, "begin, 4 before 7");
+    refused(cabinet_begin(s, CABINET_WORDS, 3, 1, 0, 0, 0x7FFFFFFF), 7, s, b, "begin, 7 before 11");
+    check(cabinet_begin(s, CABINET_WORDS, 3, 1, 1, 0, 77) == 0, "begin");
+    check(s[0] == 0x4C430001, "the mark and the version");
+    check(cabinet_show(s, CABINET_WORDS, d, CABINET_SHOWN) == 0 && d[CABINET_POSITION] == 77, "where the gate stands");
     memcpy(b, s, sizeof s);
+    refused(cabinet_vote(s, CABINET_WORDS, 2, 0x7FFFFFFF), 3, s, b, "vote, 3 before 11");
+    refused(cabinet_vote(s, CABINET_WORDS, 1, 0x7FFFFFFF), 11, s, b, "vote, 11 before 14");
+    refused(cabinet_decide(s, CABINET_WORDS, 2), 3, s, b, "decide, 3 before 14");
+    refused(cabinet_decide(s, CABINET_WORDS, 1), 14, s, b, "decide, 14");
+    refused(cabinet_stop(s, CABINET_WORDS), 14, s, b, "stop, 14");
+    refused(cabinet_open(s, CABINET_WORDS, 2), 14, s, b, "open, 14 before 28");
+    refused(cabinet_save(s, CABINET_WORDS, c, CABINET_CARD + 1), 14, s, b, "save, 14 before 1");
     refused(cabinet_vote(s, CABINET_WORDS, 1, 0), 14, s, b, "vote, 14");
     refused(cabinet_timeout(s, CABINET_WORDS), 14, s, b, "timeout, 14");
     refused(cabinet_order(s, CABINET_WORDS, 0), 8, s, b, "order, 8");
@@ -142,6 +156,38 @@ static void own_questions(void) {
     refused(cabinet_show(s, CABINET_WORDS, d, CABINET_SHOWN + 1), 1, s, b, "show, 1");
     refused(cabinet_telegram(s, CABINET_WORDS, 0, t, 16), 17, s, b, "telegram, 17");
     refused(cabinet_receive(s, CABINET_WORDS, t, CABINET_TELEGRAM + 1), 1, s, b, "receive, 1");
+    refused(cabinet_wake(s, CABINET_WORDS, c, CABINET_CARD + 1), 1, s, b, "wake, 1");
+}
+
+/* what a restart may do: stopped it answers 15; awake it stands by in the later of the two orders, and runs in the
+ * next */
+static void restarts(void) {
+    uint32_t s[CABINET_WORDS], b[CABINET_WORDS], d[CABINET_SHOWN];
+    uint8_t older[CABINET_CARD], other[CABINET_CARD];
+    check(cabinet_begin(s, CABINET_WORDS, 3, 1, 2, 0, 0) == 0 && cabinet_order(s, CABINET_WORDS, 5) == 0, "order 5");
+    check(cabinet_save(s, CABINET_WORDS, other, CABINET_CARD) == 0, "another controller's card");
+    check(cabinet_begin(s, CABINET_WORDS, 3, 1, 1, 0, 9) == 0 && cabinet_order(s, CABINET_WORDS, 5) == 0, "order 5");
+    check(cabinet_save(s, CABINET_WORDS, older, CABINET_CARD) == 0, "save");
+    check(cabinet_vote(s, CABINET_WORDS, 1, 7) == 0 && cabinet_telegram_length(s, CABINET_WORDS, 0) == 16, "vote");
+    memcpy(b, s, sizeof s);
+    refused(cabinet_wake(s, CABINET_WORDS, other, CABINET_CARD), CABINET_OTHER_CARD, s, b, "wake, another's card");
+    check(cabinet_stop(s, CABINET_WORDS) == 0, "stop");
+    check(cabinet_telegram_length(s, CABINET_WORDS, 0) == 16, "what was sent stays in the list");
+    memcpy(b, s, sizeof s);
+    refused(cabinet_vote(s, CABINET_WORDS, 1, 0), 15, s, b, "vote, 15");
+    refused(cabinet_timeout(s, CABINET_WORDS), 15, s, b, "timeout, 15");
+    refused(cabinet_decide(s, CABINET_WORDS, 1), 15, s, b, "decide, 15");
+    refused(cabinet_stop(s, CABINET_WORDS), 15, s, b, "stop, 15");
+    refused(cabinet_open(s, CABINET_WORDS, 1), 15, s, b, "open, 15");
+    refused(cabinet_save(s, CABINET_WORDS, other, CABINET_CARD), 15, s, b, "save, 15");
+    check(cabinet_order(s, CABINET_WORDS, 6) == 0 && cabinet_wake(s, CABINET_WORDS, older, CABINET_CARD) == 0, "wake");
+    check(cabinet_show(s, CABINET_WORDS, d, CABINET_SHOWN) == 0, "show");
+    check(d[CABINET_ORDER] == 6 && d[CABINET_STAGE] == 9, "it stands by, in the later order");
+    check(d[CABINET_POSITION] == 9, "its gate is where it stood");
+    check(cabinet_telegram_length(s, CABINET_WORDS, 0) == 0, "it has nothing to send");
+    memcpy(b, s, sizeof s);
+    refused(cabinet_vote(s, CABINET_WORDS, 1, 0), 15, s, b, "vote, 15 of one standing by");
+    check(cabinet_order(s, CABINET_WORDS, 7) == 0 && cabinet_vote(s, CABINET_WORDS, 1, 0) == 0, "it runs in the next");
 }
 
 /* how deep each call goes, by a painted stack */
@@ -193,6 +239,7 @@ int main(int argc, char **argv) {
     check(step > 0, "STEP is a number from 1 on");
     for (unsigned own = 0; own < 2; own++) { order(3, 1, own); order(32, 5, own); }
     own_questions();
+    restarts();
     printf("cabinet tests: %ld states, one of %d of their %d bits turned: %ld refusals, nothing changed",
         states, step, CABINET_WORDS * 32, refusals);
     if (argc == 1) {

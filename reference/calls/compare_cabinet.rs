@@ -51,10 +51,10 @@ fn number(result: Result<(), u8>) -> u8 {
 }
 
 impl Pair {
-    fn begin(group: Group, has_ballots: bool, id: u8) -> Pair {
+    fn begin(group: Group, has_ballots: bool, id: u8, position: i32) -> Pair {
         Pair {
-            own: Cabinet::begin(group.n, group.f, id, has_ballots, 0).expect("a controller of a lock"),
-            other: Controller::of_lock(group, has_ballots, id, 0),
+            own: Cabinet::begin(group.n, group.f, id, has_ballots, position).expect("a controller of a lock"),
+            other: Controller::of_lock(group, has_ballots, id, 0).standing_at(position),
             plain: BTreeSet::new(),
             ballots: Default::default(),
             ballot: 0,
@@ -130,6 +130,7 @@ impl Pair {
         let (plain, ballots): (Vec<_>, Vec<_>) = self.own.telegrams().map(|t| t.bytes().to_vec()).partition(|t| t[2] < 5);
         assert_eq!(plain.len(), self.plain.len());
         assert!(plain.iter().all(|t| self.plain.contains(t)));
+        assert_eq!(ballots.len(), self.ballots.iter().map(BTreeSet::len).sum());
         assert_eq!(ballots.into_iter().collect::<BTreeSet<_>>(), self.ballots.iter().flatten().cloned().collect());
     }
 
@@ -164,7 +165,7 @@ fn sequence(rng: &mut Rng, met: &mut dyn FnMut(&'static str)) -> u64 {
     let n = if rng.chance(1, 50) { rng.between(2, 32) } else { rng.between(2, 4) } as u8;
     let group = Group { n, f: rng.between(1, n as usize - 1) as u8 };
     let has_ballots = rng.chance(1, 2);
-    let mut lock: Vec<Pair> = group.ids().map(|id| Pair::begin(group, has_ballots, id)).collect();
+    let mut lock: Vec<Pair> = group.ids().map(|id| Pair::begin(group, has_ballots, id, rng.below(40_001) as i32 - 20_000)).collect();
     let mut cards: Vec<[u8; 14]> = Vec::new();
     let mut line: Vec<Vec<u8>> = Vec::new();
     let mut order = 0;

@@ -1,6 +1,9 @@
 # The cabinet library from C and from Rust: its calls beside the reference on 100,000 sequences, every turned bit of a state, and 50 runs of cabinets as processes over UDP on
 # the loopback address, whose recordings the bench accepts with the same C lines; the first twenty seeds with nothing sent twice disagree nowhere. `make` links the archive.
 (cd "$root" && make examples) > "$work/cabinet.log" 2>&1 || { tail -n 5 "$work/cabinet.log"; stop "the cabinet library or its examples do not build"; }
+# no globals, and nothing of the C library but to copy and to fill: so nothing is allocated
+nm "$root/target/staticlib/libcabinet.a" 2> /dev/null | awk 'NF == 3 && $2 ~ /^[BbCDdSsGg]$/ || $1 == "U" && $2 !~ /^(mem(cpy|set|move|cmp)|cabinet_.*)$/' > "$work/cabinet.symbols"
+[ ! -s "$work/cabinet.symbols" ] || { cat "$work/cabinet.symbols"; stop "the cabinet library has globals, or calls more than memory's copying"; }
 "$root/target/cabinet_from_rust" > "$work/cabinet_rust.out" || stop "the cabinet library gives something else to Rust"
 say "$(cat "$work/cabinet_rust.out")"
 "$root/target/cabinet_tests" || stop "a damaged state of a cabinet is taken"

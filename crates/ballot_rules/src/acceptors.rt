@@ -9,7 +9,7 @@ ghost use mathlib.Core.Bool.{not, _&&_};
 ghost use lib.Dec.{eqb, leb};
 ghost use Rattle.protocol.specs.BallotRules.{noPromise, unanswered, promising, reporting, givePromise, prepareArrives, accepting, accept, acceptArrives};
 
-fn no_promise() -> Report
+pub fn no_promise() -> Report
     ensures { λ r. ⌜ r ≡ noPromise ⌝ }
 {
     Report {

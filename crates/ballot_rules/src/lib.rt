@@ -7,6 +7,7 @@ mod owners;
 mod rows;
 
 pub use acceptors::accept_arrives;
+pub use acceptors::no_promise;
 pub use acceptors::prepare_arrives;
 pub use acceptors::unanswered;
 pub use chosen::chosen_in;

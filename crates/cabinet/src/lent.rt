@@ -7,20 +7,22 @@ use cabinet_turns::nth_telegram;
 use cabinet_turns::shown;
 use checkpoint_record::write_checkpoint;
 use controller::save;
+use message_bytes::telegram_length;
 use message_bytes::write_telegram;
-use model::Telegram;
 use protocol::Saved;
 ghost use mathlib.Core.Path.{_≡_};
 ghost use lib.ListN.{length};
-ghost use Rattle.message_record.specs.Telegrams.{telegrams};
-ghost use Rattle.records.specs.Codec.{recordLength};
 ghost use Rattle.cabinet_state.specs.Tables.{tabulate};
 ghost use Rattle.cabinet_state.specs.Words.{word};
-ghost use Rattle.cabinet.specs.Calls.{callNumber, callBuffer, cardReply, cardAfter, cardNumber, cardBytes, nthTelegram, sentNumber, sentBytes, sentLength, lengthNumber, telegramNumber, telegramBytes, shownNumber, shownWords};
+ghost use Rattle.cabinet.specs.Calls.{callNumber, callBuffer, cardReply, cardAfter, cardNumber};
+ghost use Rattle.cabinet.specs.Calls.{cardBytes, nthTelegram, sentNumber, sentBytes, sentLength};
+ghost use Rattle.cabinet.specs.Calls.{lengthNumber, telegramNumber, telegramBytes, shownNumber};
+ghost use Rattle.cabinet.specs.Calls.{shownWords};
 
 // A card into its buffer, or 15.
 fn write_saved(saved: Saved, out: &mut [u8]) -> u8
-    ensures { λ r. ⌜ (r ≡ cardReply (now (out .entry)) saved) × (now (out .exit) ≡ cardAfter (now (out .entry)) saved) ⌝ }
+    ensures { λ r. ⌜ (r ≡ cardReply (now (out .entry)) saved)
+        × (now (out .exit) ≡ cardAfter (now (out .entry)) saved) ⌝ }
 {
     match saved {
         Saved::Nothing => 15,
@@ -40,7 +42,8 @@ fn write_card(s: Cabinet, out: &mut [u8]) -> u8
 // Its card, fourteen bytes.
 #[no_mangle]
 pub extern "C" fn cabinet_save(state: &[u32], card: &mut [u8]) -> u8
-    ensures { λ r. ⌜ (r ≡ callNumber (now (state .entry)) (cardNumber (now (card .entry)))) × (now (card .exit) ≡ callBuffer (now (state .entry)) (now (card .entry)) (cardBytes (now (card .entry)))) ⌝ }
+    ensures { λ r. ⌜ (r ≡ callNumber (now (state .entry)) (cardNumber (now (card .entry))))
+        × (now (card .exit) ≡ callBuffer (now (state .entry)) (now (card .entry)) (cardBytes (now (card .entry)))) ⌝ }
 {
     let refusal = state_refusal(state);
     if refusal != 0 {
@@ -61,7 +64,9 @@ fn write_sent(t: SentTelegram, out: &mut [u8]) -> u8
 // The telegram that has k before it, of all that it has sent in its order, into a buffer of its length.
 #[no_mangle]
 pub extern "C" fn cabinet_telegram(state: &[u32], k: u8, out: &mut [u8]) -> u8
-    ensures { λ r. ⌜ (r ≡ callNumber (now (state .entry)) (telegramNumber k (now (out .entry)))) × (now (out .exit) ≡ callBuffer (now (state .entry)) (now (out .entry)) (telegramBytes k (now (out .entry)))) ⌝ }
+    ensures { λ r. ⌜ (r ≡ callNumber (now (state .entry)) (telegramNumber k (now (out .entry))))
+        × (now (out .exit) ≡ callBuffer (now (state .entry)) (now (out .entry))
+        (telegramBytes k (now (out .entry)))) ⌝ }
 {
     let refusal = state_refusal(state);
     if refusal != 0 {
@@ -70,31 +75,12 @@ pub extern "C" fn cabinet_telegram(state: &[u32], k: u8, out: &mut [u8]) -> u8
     write_sent(nth_telegram(cabinet_of(state), k), out)
 }
 
-fn length_of(t: Telegram) -> u8
-    ensures { λ r. ⌜ r ≡ recordLength telegrams t ⌝ }
-{
-    match t {
-        Telegram::Plain(m) => {
-            if m.n <= 16 {
-                return 16;
-            }
-            20
-        }
-        Telegram::OfBallot(m) => {
-            if m.n <= 16 {
-                return 20;
-            }
-            24
-        }
-    }
-}
-
 fn length_sent(t: SentTelegram) -> u8
     ensures { λ r. ⌜ r ≡ sentLength t ⌝ }
 {
     match t {
         SentTelegram::Nothing => 0,
-        SentTelegram::Sent(t) => length_of(t),
+        SentTelegram::Sent(t) => telegram_length(t) as u8,
     }
 }
 
@@ -133,7 +119,8 @@ fn write_shown(s: Cabinet, out: &mut [u32]) -> u8
 // What a display needs, seven words.
 #[no_mangle]
 pub extern "C" fn cabinet_show(state: &[u32], out: &mut [u32]) -> u8
-    ensures { λ r. ⌜ (r ≡ callNumber (now (state .entry)) (shownNumber (now (out .entry)))) × (now (out .exit) ≡ callBuffer (now (state .entry)) (now (out .entry)) (shownWords (now (out .entry)))) ⌝ }
+    ensures { λ r. ⌜ (r ≡ callNumber (now (state .entry)) (shownNumber (now (out .entry))))
+        × (now (out .exit) ≡ callBuffer (now (state .entry)) (now (out .entry)) (shownWords (now (out .entry)))) ⌝ }
 {
     let refusal = state_refusal(state);
     if refusal != 0 {

@@ -1,4 +1,7 @@
 // The check word.
+use crate::BALLOTS;
+use crate::CHECK;
+use crate::HEAD;
 use crate::writing::column;
 use ground::LIMIT;
 use votes::VoteSet;
@@ -18,12 +21,12 @@ fn mixed(acc: u32, w: u32) -> u32
     ((wide64(acc) * 31 + wide64(w)) % 4294967296) as u32
 }
 
-pub(crate) fn check_of(head: [u32; 36], ballots: [u32; 13], sets: [VoteSet; LIMIT]) -> u32
+pub(crate) fn check_of(head: [u32; HEAD], ballots: [u32; BALLOTS], sets: [VoteSet; LIMIT]) -> u32
     ensures { λ r. ⌜ r ≡ checkTo checkPlace (columnIn head ballots sets) ⌝ }
 {
     let mut acc: u32 = 1;
     let mut k: usize = 0;
-    while k < 113 {
+    while k < CHECK {
         acc = mixed(acc, column(head, ballots, sets, k));
         k += 1;
     }

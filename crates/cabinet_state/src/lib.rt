@@ -17,14 +17,32 @@ pub use reading::cabinet_of;
 use votes::VoteSet;
 pub use writing::leave;
 pub use writing::state_refusal;
+pub use writing::wide;
 ghost use mathlib.Core.Path.{_≡_};
 ghost use Prim.Native.Nat.{_<_};
 ghost use lib.ListN.{length};
 ghost use Rattle.ground.specs.Limit.{limit};
 ghost use Rattle.cabinet_state.specs.Encoding.{InBytes, Encoding};
 
-// What a cabinet keeps of the ballots of its order: what it has promised and accepted; the promise that it gave last, as it was given; its own ballot that it
-// opened last, 0 for none, with what it has counted for that one, and who has accepted its word, by what came in.
+// The places of a state's words: the mark with the version, how many the head is, and what is kept of ballots; where
+// who is known and who is willing on each acknowledgement begin; the check word, and how many words there are.
+const MARK: u32 = 0x4C430001;
+
+const HEAD: usize = 36;
+
+const BALLOTS: usize = 13;
+
+const KNOWN: usize = 49;
+
+const WILLING: usize = 81;
+
+const CHECK: usize = 113;
+
+const WORDS: usize = 114;
+
+// What a cabinet keeps of the ballots of its order: what it has promised and accepted; the promise that it gave
+// last, as it was given; its own ballot that it opened last, 0 for none, with what it has counted for that one, and
+// who has accepted its word, by what came in.
 pub struct BallotState {
     pub acceptor: Acceptor,
     pub report: Report,
@@ -33,7 +51,8 @@ pub struct BallotState {
     pub accepted_by: u32,
 }
 
-// Which controller of which lock in which order, and whether the lock settles the word by ballots; the controller itself; what it has sent in this order.
+// Which controller of which lock in which order, and whether the lock settles the word by ballots; the controller
+// itself; what it has sent in this order.
 pub struct Cabinet {
     pub me: Identity,
     pub own: bool,
@@ -89,7 +108,9 @@ fn tally_fits(t: Tally) -> u8
 }
 
 fn ballots_fit(b: BallotState) -> u8
-    ensures { λ _. ⌜ ((b .acceptor .highest < 256) × ((b .acceptor .promised < 256) × (b .acceptor .last < 256))) × ((b .report .last < 256) × ((b .opened < 256) × (b .tally .top < 256))) ⌝ }
+    ensures { λ _. ⌜ ((b .acceptor .highest < 256)
+        × ((b .acceptor .promised < 256)
+        × (b .acceptor .last < 256))) × ((b .report .last < 256) × ((b .opened < 256) × (b .tally .top < 256))) ⌝ }
 {
     acceptor_fits(b.acceptor);
     report_fits(b.report);

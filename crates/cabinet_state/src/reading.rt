@@ -1,6 +1,8 @@
 // The cabinet that words stand for.
 use crate::BallotState;
 use crate::Cabinet;
+use crate::KNOWN;
+use crate::WILLING;
 use controller_state::in_phase;
 use ground::LIMIT;
 use protocol::Acceptor;
@@ -24,7 +26,9 @@ use votes::VoteSet;
 use votes::empty_set;
 ghost use mathlib.Core.Path.{_≡_};
 ghost use Prim.Native.Nat.{_<_};
-ghost use Rattle.cabinet_state.specs.Words.{word, small, setIn, outgoingIn, conditionFrom, identityIn, conditionIn, setsIn, acksIn, helpedIn, helpIn, controllerIn, sentIn, acceptorIn, reportIn, tallyIn, ballotsIn, cabinetOf};
+ghost use Rattle.cabinet_state.specs.Words.{word, small, setIn, outgoingIn, conditionFrom, identityIn};
+ghost use Rattle.cabinet_state.specs.Words.{conditionIn, setsIn, acksIn, helpedIn, helpIn, controllerIn, sentIn};
+ghost use Rattle.cabinet_state.specs.Words.{acceptorIn, reportIn, tallyIn, ballotsIn, cabinetOf};
 
 // The word at a place; past the end there is none, and it counts as 0.
 pub(crate) fn word(s: &[u32], k: usize) -> u32
@@ -99,8 +103,8 @@ fn sets_in(s: &[u32]) -> [VoteSet; LIMIT]
     let mut j: usize = 0;
     while j < LIMIT {
         sets[j] = VoteSet {
-            known: word(s, 49 + j),
-            willing: word(s, 81 + j),
+            known: word(s, KNOWN + j),
+            willing: word(s, WILLING + j),
         };
         j += 1;
     }

@@ -1,6 +1,13 @@
 // The words of a cabinet, and whether words are those of one.
+use crate::BALLOTS;
 use crate::BallotState;
+use crate::CHECK;
 use crate::Cabinet;
+use crate::HEAD;
+use crate::KNOWN;
+use crate::MARK;
+use crate::WILLING;
+use crate::WORDS;
 use crate::checks::check_of;
 use crate::reading::cabinet_of;
 use crate::reading::word;
@@ -15,7 +22,8 @@ ghost use mathlib.Core.Path.{_≡_};
 ghost use Prim.Native.Nat.{_<_};
 ghost use lib.ListN.{length};
 ghost use Rattle.cabinet_state.specs.Tables.{tabulate};
-ghost use Rattle.cabinet_state.specs.Words.{checkPlace, stateWords, tagOf, headFrom, headOf, ballotsFrom, ballotsOf, columnIn, checkTo, withCheck, wordsOf};
+ghost use Rattle.cabinet_state.specs.Words.{checkPlace, stateWords, tagOf, headFrom, headOf, ballotsFrom};
+ghost use Rattle.cabinet_state.specs.Words.{ballotsOf, columnIn, checkOf, columnOf, withCheck, wordsOf};
 ghost use Rattle.cabinet_state.specs.States.{sameWords, writtenForm, stateRefusal, leaveNumber, leaveWords};
 
 fn tag_of(k: Condition) -> u8
@@ -28,8 +36,9 @@ fn tag_of(k: Condition) -> u8
     }
 }
 
-fn wide(x: u8) -> u32
-    ensures { λ r. ⌜ r ≡ x ⌝ }
+// A byte as a word.
+pub fn wide(x: u8) -> u32
+    ensures { λ r. ⌜ (r ≡ x) × (r < 256) ⌝ }
 {
     x as u32
 }
@@ -48,12 +57,12 @@ fn head_from(
     waiting: u32,
     proposal: u32,
     s: Cabinet,
-) -> [u32; 36]
+) -> [u32; HEAD]
     ensures { λ r. ⌜ r ≡ headFrom n f id own tag phase outcome cnt «cnt_help» waiting proposal s ⌝ }
 {
     let c = s.controller;
     [
-        0x4C430001,
+        MARK,
         n,
         f,
         id,
@@ -92,7 +101,7 @@ fn head_from(
     ]
 }
 
-fn head_of(s: Cabinet) -> [u32; 36]
+fn head_of(s: Cabinet) -> [u32; HEAD]
     ensures { λ r. ⌜ r ≡ headOf s ⌝ }
 {
     let c = s.controller;
@@ -130,7 +139,7 @@ fn ballots_from(
     top_word: u32,
     put: u32,
     by: u32,
-) -> [u32; 13]
+) -> [u32; BALLOTS]
     ensures { λ r. ⌜ r ≡ ballotsFrom highest promised last taken given rlast rword opened from top «top_word» put by ⌝ }
 {
     [
@@ -150,7 +159,7 @@ fn ballots_from(
     ]
 }
 
-fn ballots_of(b: BallotState) -> [u32; 13]
+fn ballots_of(b: BallotState) -> [u32; BALLOTS]
     ensures { λ r. ⌜ r ≡ ballotsOf b ⌝ }
 {
     let acceptor = b.acceptor;
@@ -178,44 +187,55 @@ fn ballots_of(b: BallotState) -> [u32; 13]
 }
 
 // The word at a place before the check word.
-pub(crate) fn column(head: [u32; 36], ballots: [u32; 13], sets: [VoteSet; LIMIT], k: usize) -> u32
+pub(crate) fn column(
+    head: [u32; HEAD],
+    ballots: [u32; BALLOTS],
+    sets: [VoteSet; LIMIT],
+    k: usize,
+) -> u32
     requires { ⌜ k < checkPlace ⌝ }
     ensures { λ r. ⌜ r ≡ columnIn head ballots sets k ⌝ }
 {
-    if k < 36 {
+    if k < HEAD {
         return head[k];
     }
-    if k < 49 {
-        return ballots[k - 36];
+    if k < KNOWN {
+        return ballots[k - HEAD];
     }
-    if k < 81 {
-        return sets[k - 49].known;
+    if k < WILLING {
+        return sets[k - KNOWN].known;
     }
-    sets[k - 81].willing
+    sets[k - WILLING].willing
 }
 
 // The word at any place.
 fn with_check(
     check: u32,
-    head: [u32; 36],
-    ballots: [u32; 13],
+    head: [u32; HEAD],
+    ballots: [u32; BALLOTS],
     sets: [VoteSet; LIMIT],
     k: usize,
 ) -> u32
     ensures { λ r. ⌜ r ≡ withCheck check (columnIn head ballots sets) k ⌝ }
 {
-    if k < 113 {
+    if k < CHECK {
         return column(head, ballots, sets, k);
     }
     check
 }
 
-fn fill(check: u32, head: [u32; 36], ballots: [u32; 13], sets: [VoteSet; LIMIT], out: &mut [u32])
+fn fill(
+    check: u32,
+    head: [u32; HEAD],
+    ballots: [u32; BALLOTS],
+    sets: [VoteSet; LIMIT],
+    out: &mut [u32],
+)
     requires { ⌜ length (now out) ≡ stateWords ⌝ }
     ensures { λ _. ⌜ now (out .exit) ≡ tabulate stateWords (withCheck check (columnIn head ballots sets)) ⌝ }
 {
     let mut k: usize = 0;
-    while k < 114 {
+    while k < WORDS {
         out[k] = with_check(check, head, ballots, sets, k);
         k += 1;
     }
@@ -234,15 +254,15 @@ fn write(s: Cabinet, out: &mut [u32])
 
 fn same_words(
     check: u32,
-    head: [u32; 36],
-    ballots: [u32; 13],
+    head: [u32; HEAD],
+    ballots: [u32; BALLOTS],
     sets: [VoteSet; LIMIT],
     s: &[u32],
 ) -> bool
     ensures { λ r. ⌜ r ≡ sameWords check (columnIn head ballots sets) (now (s .entry)) ⌝ }
 {
     let mut k: usize = 0;
-    while k < 114 {
+    while k < WORDS {
         if with_check(check, head, ballots, sets, k) != word(s, k) {
             return false;
         }
@@ -253,7 +273,7 @@ fn same_words(
 
 // Would the cabinet that the words stand for be written as they are?
 fn written_as(s: &[u32], cabinet: Cabinet) -> bool
-    ensures { λ r. ⌜ r ≡ sameWords (checkTo checkPlace (columnIn (headOf cabinet) (ballotsOf (cabinet .ballots)) (cabinet .controller .acks .sets))) (columnIn (headOf cabinet) (ballotsOf (cabinet .ballots)) (cabinet .controller .acks .sets)) (now (s .entry)) ⌝ }
+    ensures { λ r. ⌜ r ≡ sameWords (checkOf cabinet) (columnOf cabinet) (now (s .entry)) ⌝ }
 {
     let c = cabinet.controller;
     let sets = c.acks.sets;
@@ -272,10 +292,10 @@ fn written_form(s: &[u32]) -> bool
 pub fn state_refusal(s: &[u32]) -> u8
     ensures { λ r. ⌜ r ≡ stateRefusal (now (s .entry)) ⌝ }
 {
-    if s.len() != 114 {
+    if s.len() != WORDS {
         return 1;
     }
-    if word(s, 0) != 0x4C430001 {
+    if word(s, 0) != MARK {
         return 2;
     }
     if !written_form(s) {
@@ -286,9 +306,10 @@ pub fn state_refusal(s: &[u32]) -> u8
 
 // Leaves a cabinet in the words, unless there is a refusal or they are too few or too many; then they are untouched.
 pub fn leave(state: &mut [u32], refusal: u8, s: Cabinet) -> u8
-    ensures { λ r. ⌜ (r ≡ leaveNumber (now (state .entry)) refusal) × (now (state .exit) ≡ leaveWords (now (state .entry)) refusal s) ⌝ }
+    ensures { λ r. ⌜ (r ≡ leaveNumber (now (state .entry)) refusal)
+        × (now (state .exit) ≡ leaveWords (now (state .entry)) refusal s) ⌝ }
 {
-    if state.len() != 114 {
+    if state.len() != WORDS {
         return 1;
     }
     if refusal != 0 {

@@ -19,7 +19,8 @@ ghost use mathlib.Core.List.{[], _∷_};
 ghost use lib.Dec.{eqb};
 ghost use Rattle.model.specs.Questions.{ask, number, firstNo};
 ghost use Rattle.protocol.specs.Controllers.{isStandby, phaseIn};
-ghost use Rattle.cabinet_turns.specs.Asked.{beginAsked, mayFollow, orderAsked, voteAsked, timeoutAsked, decideAsked, presentAsked, ownCard, wakeAsked};
+ghost use Rattle.cabinet_turns.specs.Asked.{beginAsked, mayFollow, orderAsked, voteAsked, timeoutAsked};
+ghost use Rattle.cabinet_turns.specs.Asked.{decideAsked, presentAsked, ownCard, wakeAsked};
 
 pub fn begin_question(n: u8, f: u8, id: u8, own: u8, position: u32) -> u8
     ensures { λ r. ⌜ r ≡ number (firstNo (beginAsked n f id own position)) ⌝ }

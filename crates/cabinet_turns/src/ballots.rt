@@ -35,7 +35,10 @@ ghost use Rattle.model.specs.declared.Telegram.the-variants.{Plain};
 ghost use Rattle.protocol.specs.BallotCalls.{isOwner};
 ghost use Rattle.protocol.specs.Rules.{isContradicted};
 ghost use Rattle.cabinet_turns.specs.Asked.{openAsked};
-ghost use Rattle.cabinet_turns.specs.Ballots.{tallyFor, reportAfter, withBallots, mayOpen, hasPut, openingAsked, byItself, openedBy, opened, saysAccepted, sameWord, accepts, byAfter, tallyAfter, answeredIn, receivedBallot, telegramAsked, receiveAsked, receivedTelegram, received, settled};
+ghost use Rattle.cabinet_turns.specs.Ballots.{tallyFor, reportAfter, withBallots, mayOpen, hasPut, openingAsked};
+ghost use Rattle.cabinet_turns.specs.Ballots.{byItself, openedBy, opened, saysAccepted, sameWord, accepts};
+ghost use Rattle.cabinet_turns.specs.Ballots.{byAfter, tallyAfter, answeredIn, receivedBallot, telegramAsked};
+ghost use Rattle.cabinet_turns.specs.Ballots.{receiveAsked, receivedTelegram, received, settled};
 
 // What it has counted for a ballot.
 fn tally_for(b: u8, x: BallotState) -> Tally

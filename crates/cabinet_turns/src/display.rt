@@ -1,6 +1,7 @@
 // What a keeper's display shows.
 use crate::ballots::settled;
 use cabinet_state::Cabinet;
+use cabinet_state::wide;
 use controller_state::outcome_in;
 use model::outcome_number;
 use protocol::Condition;
@@ -16,12 +17,6 @@ fn stage_shown(k: Condition) -> u8
         Condition::Stopped => 8,
         Condition::Standby(_) => 9,
     }
-}
-
-fn wide(x: u8) -> u32
-    ensures { λ r. ⌜ r ≡ x ⌝ }
-{
-    x as u32
 }
 
 pub fn shown(s: Cabinet) -> [u32; 7]

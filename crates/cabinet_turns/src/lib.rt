@@ -1,4 +1,5 @@
-// What each call makes of a cabinet: what is asked of it, the next cabinet, the telegrams that it has sent, and what a display shows.
+// What each call makes of a cabinet: what is asked of it, the next cabinet, the telegrams that it has sent, and what
+// a display shows.
 mod asked;
 mod ballots;
 mod display;

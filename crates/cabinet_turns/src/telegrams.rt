@@ -3,6 +3,7 @@ use crate::SentTelegram;
 use ballot_rules::owner;
 use cabinet_state::BallotState;
 use cabinet_state::Cabinet;
+use cabinet_state::wide;
 use controller::ballot_to;
 use controller::count_others;
 use controller::nth_message;
@@ -24,12 +25,13 @@ use records::low_byte;
 ghost use mathlib.Core.Path.{_≡_};
 ghost use mathlib.Core.Bool.{not, cond, _||_};
 ghost use mathlib.Core.List.{[], _∷_};
-ghost use Prim.Native.Nat.{_<_};
 ghost use lib.Dec.{eqb};
 ghost use lib.ListN.{length};
 ghost use Rattle.protocol.specs.Sequence.{messagesOf};
 ghost use Rattle.protocol.specs.BallotCalls.{isOwner, nthBallotOf};
-ghost use Rattle.cabinet_turns.specs.Telegrams.{plainTelegram, ballotTelegram, sendOf, sendsOf, promiseMessage, promiseSent, acceptanceMessage, acceptanceSent, asksSent, putsSent, ballotsSent, telegramsSent, nthSent};
+ghost use Rattle.cabinet_turns.specs.Telegrams.{plainTelegram, ballotTelegram, sendOf, sendsOf, promiseMessage};
+ghost use Rattle.cabinet_turns.specs.Telegrams.{promiseSent, acceptanceMessage, acceptanceSent, asksSent};
+ghost use Rattle.cabinet_turns.specs.Telegrams.{putsSent, ballotsSent, telegramsSent, nthSent};
 
 fn send_of(o: Outgoing) -> Send
     ensures { λ r. ⌜ r ≡ sendOf o ⌝ }
@@ -50,12 +52,6 @@ fn sends_of(s: Sent) -> Sends
 }
 
 // How many of kinds 1 to 4.
-fn wide(x: u8) -> u32
-    ensures { λ r. ⌜ (r ≡ x) × (r < 256) ⌝ }
-{
-    x as u32
-}
-
 fn count_plain(me: Identity, s: Sent) -> u32
     ensures { λ r. ⌜ r ≡ length (messagesOf me (sendsOf s)) ⌝ }
 {

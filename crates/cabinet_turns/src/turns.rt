@@ -1,6 +1,7 @@
 // What each accepted call makes of a cabinet.
 use ballot_rules::new_acceptor;
 use ballot_rules::new_tally;
+use ballot_rules::no_promise;
 use cabinet_state::BallotState;
 use cabinet_state::Cabinet;
 use checkpoint_record::ReadCheckpoint;
@@ -20,7 +21,6 @@ use model::Outcome;
 use protocol::Answer;
 use protocol::Controller;
 use protocol::Identity;
-use protocol::Report;
 use records::flag_of;
 use votes::empty_set;
 ghost use mathlib.Core.Path.{_≡_};
@@ -31,9 +31,9 @@ ghost use Rattle.model.specs.declared.Outcome.the-variants.{None};
 ghost use Rattle.protocol.specs.Alone.{inOrder};
 ghost use Rattle.protocol.specs.Controllers.{inPhase, blank};
 ghost use Rattle.protocol.specs.Benches.{unsentAll};
-ghost use Rattle.protocol.specs.BallotRules.{noPromise};
 ghost use Rattle.protocol.specs.Calls.{stop, restore};
-ghost use Rattle.cabinet_turns.specs.Turns.{answered, noBallots, begun, ordered, voted, timedOut, decided, halted, laterOrder, wokenBy, woken};
+ghost use Rattle.cabinet_turns.specs.Turns.{answered, noBallots, begun, ordered, voted, timedOut, decided};
+ghost use Rattle.cabinet_turns.specs.Turns.{halted, laterOrder, wokenBy, woken};
 
 // The cabinet after an answer of its controller.
 pub(crate) fn answered(s: Cabinet, a: Answer) -> Cabinet
@@ -49,16 +49,6 @@ pub(crate) fn answered(s: Cabinet, a: Answer) -> Cabinet
         controller,
         sent,
         ballots,
-    }
-}
-
-fn no_promise() -> Report
-    ensures { λ r. ⌜ r ≡ noPromise ⌝ }
-{
-    Report {
-        given: false,
-        last: 0,
-        word: Outcome::None,
     }
 }
 
@@ -112,7 +102,13 @@ fn in_order(me: Identity, order: u32) -> Identity
 
 // A cabinet in an order of which it has sent nothing.
 fn unsent_in(order: u32, s: Cabinet, controller: Controller) -> Cabinet
-    ensures { λ r. ⌜ r ≡ record { me = inOrder (s .me) order; own = s .own; controller = controller; sent = unsentAll; ballots = noBallots } ⌝ }
+    ensures { λ r. ⌜ r ≡ record {
+      me = inOrder (s .me) order;
+      own = s .own;
+      controller = controller;
+      sent = unsentAll;
+      ballots = noBallots;
+    } ⌝ }
 {
     let me = in_order(s.me, order);
     let sent = unsent_all();

@@ -4,12 +4,13 @@ use message_record::MessageWidth;
 use message_record::TelegramForm;
 use model::Telegram;
 use records::frame_question;
+ghost use Prim.Native.Nat.{_<_};
 ghost use mathlib.Core.Path.{_≡_};
 ghost use Rattle.model.specs.Questions.{firstNo, number};
-ghost use Rattle.records.specs.Codec.{formLength};
+ghost use Rattle.records.specs.Codec.{formLength, recordLength};
 ghost use Rattle.records.specs.Frames.{frameQuestions};
 ghost use Rattle.message_record.specs.declared.MessageBody.the-variants.{Votes, Ballot};
-ghost use Rattle.message_record.specs.Telegrams.{formed, sizeOf, bodyOf, widthFor, suitsWidth, markOf, telegramForm, formOfTwenty, formFor, formOf};
+ghost use Rattle.message_record.specs.Telegrams.{formed, sizeOf, bodyOf, widthFor, suitsWidth, markOf, telegramForm, formOfTwenty, formFor, formOf, telegrams};
 
 // Of 20 bytes the mark says which form they are.
 fn form_of_twenty(mark: u32) -> TelegramForm
@@ -120,6 +121,16 @@ fn length_of(width: MessageWidth, body: MessageBody) -> usize
         MessageBody::Votes => plain_length(width),
         MessageBody::Ballot => ballot_length(width),
     }
+}
+
+// How long a telegram is.
+pub fn telegram_length(t: Telegram) -> usize
+    ensures { λ r. ⌜ (r ≡ recordLength telegrams t) × (r < 256) ⌝ }
+{
+    let form = form_of(t);
+    let width = form.width;
+    let body = form.body;
+    length_of(width, body)
 }
 
 fn mark_of(width: MessageWidth) -> u32

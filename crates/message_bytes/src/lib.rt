@@ -8,6 +8,7 @@ use forms::form_on;
 use forms::frame_in;
 use forms::size_of;
 use forms::suits_width;
+pub use forms::telegram_length;
 use layout::fields_in;
 use layout::fields_of;
 use layout::listed;

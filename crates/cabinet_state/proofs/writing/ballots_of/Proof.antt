@@ -86,18 +86,18 @@ unfolding ballotsOf
 returns c =
     c .ballots-from .ensures
     ∙ same-ballots
-    (c .before .before .before .before .before .before .before .before .before .before .before .before .before .before .before .before .wide .ensures)
-    (c .before .before .before .before .before .before .before .before .before .before .before .before .before .before .before .wide2 .ensures)
-    (c .before .before .before .before .before .before .before .before .before .before .before .before .before .before .wide3 .ensures)
-    (c .before .before .before .before .before .before .before .before .before .before .before .before .wide4 .ensures ∙ c .before .before .before .before .before .before .before .before .before .before .before .before .before .outcome-number .ensures)
-    (c .before .before .before .before .before .before .before .before .before .before .wide5 .ensures ∙ c .before .before .before .before .before .before .before .before .before .before .before .flag-number .ensures)
-    (c .before .before .before .before .before .before .before .before .before .wide6 .ensures)
-    (c .before .before .before .before .before .before .before .wide7 .ensures ∙ c .before .before .before .before .before .before .before .before .outcome-number2 .ensures)
-    (c .before .before .before .before .before .before .wide8 .ensures)
+    (c .before .before .before .before .before .before .before .before .before .before .before .before .before .before .before .before .wide .ensures .0)
+    (c .before .before .before .before .before .before .before .before .before .before .before .before .before .before .before .wide2 .ensures .0)
+    (c .before .before .before .before .before .before .before .before .before .before .before .before .before .before .wide3 .ensures .0)
+    (c .before .before .before .before .before .before .before .before .before .before .before .before .wide4 .ensures .0 ∙ c .before .before .before .before .before .before .before .before .before .before .before .before .before .outcome-number .ensures)
+    (c .before .before .before .before .before .before .before .before .before .before .wide5 .ensures .0 ∙ c .before .before .before .before .before .before .before .before .before .before .before .flag-number .ensures)
+    (c .before .before .before .before .before .before .before .before .before .wide6 .ensures .0)
+    (c .before .before .before .before .before .before .before .wide7 .ensures .0 ∙ c .before .before .before .before .before .before .before .before .outcome-number2 .ensures)
+    (c .before .before .before .before .before .before .wide8 .ensures .0)
     refl
-    (c .before .before .before .before .before .wide9 .ensures)
-    (c .before .before .before .wide10 .ensures ∙ c .before .before .before .before .outcome-number3 .ensures)
-    (c .before .wide11 .ensures ∙ c .before .before .outcome-number4 .ensures)
+    (c .before .before .before .before .before .wide9 .ensures .0)
+    (c .before .before .before .wide10 .ensures .0 ∙ c .before .before .before .before .outcome-number3 .ensures)
+    (c .before .wide11 .ensures .0 ∙ c .before .before .outcome-number4 .ensures)
     refl
 
 pub ballots-of-spec : {M : Type 1} → statement M

@@ -7,7 +7,7 @@ use Rattle.cabinet_turns.proofs.display.shown.Reads as reads
 use Rattle.cabinet_turns.proofs.display.shown.Lts as lts
 use Rattle.cabinet_turns.proofs.ballots.settled.Reads as settled-reads
 use Rattle.cabinet_turns.proofs.display.stage_shown.Reads as stage-shown-reads
-use Rattle.cabinet_turns.proofs.display.wide.Reads as wide-reads
+use Rattle.cabinet_state.proofs.wide.Reads as wide-reads
 use Rattle.controller_state.proofs.outcome_in.Reads as outcome-in-reads
 use Rattle.model.proofs.outcome_number.Reads as outcome-number-reads
 
@@ -58,7 +58,7 @@ wide-requires-5 c κs = search needs
 -- src/display.rt:27:1
 returns : tie.Need-returns
 unfolding shown
-returns c = simp (← c .before .before .before .before .before .before .before .before .before .before .stage-shown .ensures, ← c .before .before .before .before .before .before .before .before .before .wide .ensures, ← c .before .before .before .before .before .before .before .before .outcome-in .ensures, ← c .before .before .before .before .before .before .before .outcome-number .ensures, ← c .before .before .before .before .before .before .wide2 .ensures, ← c .before .before .before .before .before .outcome-number2 .ensures, ← c .before .before .before .before .wide3 .ensures, ← c .before .before .before .settled .ensures, ← c .before .before .outcome-number3 .ensures, ← c .before .wide4 .ensures, c .wide5 .ensures)
+returns c = simp (← c .before .before .before .before .before .before .before .before .before .before .stage-shown .ensures, ← c .before .before .before .before .before .before .before .before .before .wide .ensures .0, ← c .before .before .before .before .before .before .before .before .outcome-in .ensures, ← c .before .before .before .before .before .before .before .outcome-number .ensures, ← c .before .before .before .before .before .before .wide2 .ensures .0, ← c .before .before .before .before .before .outcome-number2 .ensures, ← c .before .before .before .before .wide3 .ensures .0, ← c .before .before .before .settled .ensures, ← c .before .before .outcome-number3 .ensures, ← c .before .wide4 .ensures .0, c .wide5 .ensures .0)
 
 pub shown-spec : {M : Type 1} → statement M
 shown-spec =

@@ -5,7 +5,7 @@ use Rattle.cabinet_turns.proofs.telegrams.count_plain.Statement.{statem
 use Rattle.cabinet_turns.proofs.telegrams.count_plain.Tie as tie
 use Rattle.cabinet_turns.proofs.telegrams.count_plain.Reads as reads
 use Rattle.cabinet_turns.proofs.telegrams.count_plain.Lts as lts
-use Rattle.cabinet_turns.proofs.telegrams.wide.Reads as wide-reads
+use Rattle.cabinet_state.proofs.wide.Reads as wide-reads
 use Rattle.ground.proofs.size.Reads as size-reads
 
 -- src/telegrams.rt:60:10

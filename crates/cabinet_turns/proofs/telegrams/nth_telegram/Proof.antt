@@ -16,7 +16,7 @@ use Rattle.cabinet_turns.proofs.telegrams.count_plain.Reads as count-pl
 use Rattle.cabinet_turns.proofs.telegrams.nth_of_ballots.Reads as nth-of-ballots-reads
 use Rattle.cabinet_turns.proofs.telegrams.plain_telegram.Reads as plain-telegram-reads
 use Rattle.cabinet_turns.proofs.telegrams.sends_of.Reads as sends-of-reads
-use Rattle.cabinet_turns.proofs.telegrams.wide.Reads as wide-reads
+use Rattle.cabinet_state.proofs.wide.Reads as wide-reads
 use Rattle.controller.proofs.nth_message.Reads as nth-message-reads
 use Rattle.records.proofs.low_byte.Reads as low-byte-reads
 

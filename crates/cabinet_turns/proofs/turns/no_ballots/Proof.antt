@@ -7,7 +7,7 @@ use Rattle.cabinet_turns.proofs.turns.no_ballots.Reads as reads
 use Rattle.cabinet_turns.proofs.turns.no_ballots.Lts as lts
 use Rattle.ballot_rules.proofs.new_acceptor.Reads as new-acceptor-reads
 use Rattle.ballot_rules.proofs.new_tally.Reads as new-tally-reads
-use Rattle.cabinet_turns.proofs.turns.no_promise.Reads as no-promise-reads
+use Rattle.ballot_rules.proofs.no_promise.Reads as no-promise-reads
 
 -- src/turns.rt:67:9
 new-acceptor-requires : tie.Need-new-acceptor-requires
