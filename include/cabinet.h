@@ -17,16 +17,16 @@
  * An order, in a cabinet:
  *
  *     uint32_t s[CABINET_WORDS], d[CABINET_SHOWN];
- *     cabinet_begin(s, CABINET_WORDS, n, f, me, 0, position);                            // once, when the program starts
- *     if (read_card(card)) cabinet_wake(s, CABINET_WORDS, card, CABINET_CARD);           // it was here before: it stands by
- *     cabinet_order(s, CABINET_WORDS, number);                                           // the keeper has called this order
- *     cabinet_save(s, CABINET_WORDS, card, CABINET_CARD); write_card(card);              // before any telegram leaves
+ *     cabinet_begin(s, CABINET_WORDS, n, f, me, 0, position);                   // once, when the program starts
+ *     if (read_card(card)) cabinet_wake(s, CABINET_WORDS, card, CABINET_CARD);  // it was here before: it stands by
+ *     cabinet_order(s, CABINET_WORDS, number);                                  // the keeper has called this order
+ *     cabinet_save(s, CABINET_WORDS, card, CABINET_CARD); write_card(card);     // before any telegram leaves
  *     cabinet_vote(s, CABINET_WORDS, willing, target);
- *     for (k = 0; (len = cabinet_telegram_length(s, CABINET_WORDS, k)) != 0; k++)        // now, and again
+ *     for (k = 0; (len = cabinet_telegram_length(s, CABINET_WORDS, k)) != 0; k++) // now, and again
  *         if (cabinet_telegram(s, CABINET_WORDS, k, t, len) == 0) send_to(t[6], t, len); // until the outcome
- *     cabinet_receive(s, CABINET_WORDS, in, length);                                     // whenever a telegram comes
- *     cabinet_show(s, CABINET_WORDS, d, CABINET_SHOWN);                                  // for the display, and for the bell
- *     if (waited(d[CABINET_STAGE])) cabinet_timeout(s, CABINET_WORDS);                   // once at stage 1, once at stage 2
+ *     cabinet_receive(s, CABINET_WORDS, in, length);                            // whenever a telegram comes
+ *     cabinet_show(s, CABINET_WORDS, d, CABINET_SHOWN);                         // for the display, and for the bell
+ *     if (waited(d[CABINET_STAGE])) cabinet_timeout(s, CABINET_WORDS);          // once at stage 1, once at stage 2
  *
  * When to ring: controllers 1 to f + 1 go from stage 0 to stage 1 at their vote, those above to stage 2. So go by
  * the stage: a wait begins when the stage becomes 1 or 2 and ends with one cabinet_timeout. A wait should be as long
