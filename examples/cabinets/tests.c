@@ -240,8 +240,9 @@ int main(int argc, char **argv) {
     for (unsigned own = 0; own < 2; own++) { order(3, 1, own); order(32, 5, own); }
     own_questions();
     restarts();
-    printf("cabinet tests: %ld states, one of %d of their %d bits turned: %ld refusals, nothing changed",
-        states, step, CABINET_WORDS * 32, refusals);
+    printf("cabinet tests: %ld states, each of their %d bits turned", states, CABINET_WORDS * 32);
+    if (step > 1) printf(", of %d one", step);
+    printf(": %ld refusals, nothing changed", refusals);
     if (argc == 1) {
         int stack = deepest();
         check(stack < 8192, "a call takes less than 8 KB of stack");
