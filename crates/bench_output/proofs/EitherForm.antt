@@ -1,6 +1,6 @@
 -- What is printed of an input, by what it is.
 use Prim.Native.Nat.{ℕ, _≤_, _<_}
-use mathlib.Core.Path.{_≡_, refl, sym, _∙_}
+use mathlib.Core.Path.{_≡_, refl, sym, _∙_, ap}
 use mathlib.Core.Bool.{true, false}
 use mathlib.Core.List.{List}
 use native.Mathlib.Omega.{arith}
@@ -8,9 +8,12 @@ use native.Mathlib.Decide.{decLt}
 use borrow.Author.Tests.{le-leb, lt-leb, lt-ltb, le-ltb}
 use lib.ListN.{length}
 use Rattle.text.specs.Text.{digits, decimal, refusal}
-use Rattle.schedule_text.specs.Texts.{Result, made, refused, readText}
-use Rattle.schedule_input.specs.Input.{isText, longestText, refusedLine, recordsIn, eitherOr, eitherForm}
+use Rattle.records.specs.Bytes.{AllBytes}
+use Rattle.schedule_text.specs.Texts.{Result, made, refused, readText, writeText}
+use Rattle.schedule_input.specs.Input.{isText, longestText, refusedLine, recordsIn, eitherOr, eitherForm, textOr}
 use Rattle.schedule_input.specs.InputLaws.{of-text, of-records}
+use Rattle.schedule_input.specs.Room.{few-lines}
+use Rattle.schedule_input.proofs.NothingLost.{nothing-lost}
 use Rattle.bench_report.specs.Limits.{longestSchedule, isTooLong}
 use Rattle.bench_report.specs.Report.{tooLong}
 use Rattle.bench_output.specs.Output.{outputOf, printedOf}
@@ -43,9 +46,27 @@ records s f = elim (decLt longestText (length s)) [
   | no n ↦ short s (made s) (omega arith) (of-records s f) ∙ of-made s s
 ]
 
+-- a text that is too long stands for records that are
+too-many : (s t : List ℕ) → writeText s ≡ made t → longestText < length t → longestSchedule < length s
+too-many s t e h = elim (decLt longestSchedule (length s)) [
+  | yes l ↦ l
+  | no n ↦
+      let f : length (textOr (writeText s)) ≤ 327680 = few-lines s (omega arith) in
+      let g : length (textOr (writeText s)) ≡ length t = ap (λ (x : Result). length (textOr x)) e in
+      absurd (omega arith)
+]
+
+as-written : (s t : List ℕ) → AllBytes s → writeText s ≡ made t → printedOf t ≡ outputOf s
+unfolding eitherForm
+as-written s t all e = elim (decLt longestText (length t)) [
+  | yes h ↦ rw (lt-ltb longestText (length t) h) (too-long s (too-many s t e h))
+  | no n ↦ short t (made s) (omega arith) (sym (nothing-lost .back s t all e)) ∙ of-made t s
+]
+
 pub either-form : EitherForm
 either-form = record {
   records = records;
   text = λ s r t h e. short s (made r) h (sym e ∙ of-text s t) ∙ of-made s r;
   refused-text = λ s k i t h e. short s (refused k i) h (sym e ∙ of-text s t);
+  written = as-written;
 }

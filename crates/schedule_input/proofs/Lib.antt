@@ -1,1 +1,2 @@
+pub mod WrittenText
 pub mod NothingLost

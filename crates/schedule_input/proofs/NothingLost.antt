@@ -18,7 +18,11 @@ use Rattle.event_record.specs.declared.ReadEvent.the-variants.{Read}
 use Rattle.event_record.proofs.RoundTrips.{promises}
 use Rattle.schedule_reader.specs.Pieces.{pieceAt, recordAt}
 use Rattle.schedule_text.proofs.Held.{bytes-taken, bytes-left}
-use Rattle.schedule_input.specs.Input.{marked, isControl, hasControl, isText}
+use Rattle.schedule_text.proofs.RoundTrips.{both-ways}
+use Rattle.schedule_text.specs.Texts.{made, writeText}
+use Rattle.schedule_input.specs.Input.{marked, isControl, hasControl, isText, recordsIn}
+use Rattle.schedule_input.specs.InputLaws.{of-text}
+use Rattle.schedule_input.proofs.WrittenText.{text-of}
 use Rattle.schedule_input.specs.NothingLost.{NothingLost}
 
 -- kinds 0 to 8 are control bytes; a step back has no field but 0, and the opening of a ballot has b = 0
@@ -76,5 +80,8 @@ unfolding isText recordsOf
 no-text act acts zero = refl
 no-text act acts (suc k) = refl
 
+back : (s t : List ℕ) → AllBytes s → writeText s ≡ made t → recordsIn t ≡ made s
+back s t all e = sym (of-text t (text-of s t e)) ∙ both-ways .back s t all e
+
 pub nothing-lost : NothingLost
-nothing-lost = record { none-reads = none-reads; no-text = no-text }
+nothing-lost = record { none-reads = none-reads; no-text = no-text; back = back }

@@ -9,10 +9,13 @@ use Rattle.records.specs.Bytes.{AllBytes}
 use Rattle.event_record.specs.Events.{recordsOf}
 use Rattle.event_record.specs.declared.ReadEvent.the-variants.{Read}
 use Rattle.schedule_reader.specs.Pieces.{recordAt}
-use Rattle.schedule_input.specs.Input.{isText}
+use Rattle.schedule_text.specs.Texts.{made, writeText}
+use Rattle.schedule_input.specs.Input.{isText, recordsIn}
 
 pub record NothingLost : Type 0 where
   -- no record of a text reads: as records it would get refusals by 1 to 3 alone
   pub none-reads : (s : List ℕ) (at : ℕ) (act : Act) → AllBytes s → isText s ≡ true → recordAt s at ≡ Read act → ⊥
   -- and no schedule is a text, nor is one that breaks off
   pub no-text : (act : Act) (acts : List Act) (k : ℕ) → isText (take (suc k) (recordsOf (act ∷ acts))) ≡ false
+  -- the text of a schedule is a text, and its records are that schedule
+  pub back : (s t : List ℕ) → AllBytes s → writeText s ≡ made t → recordsIn t ≡ made s

@@ -18,7 +18,7 @@ text-or : (x : Result) (n : ℕ) → n ≤ 327680 → Within n x → length (tex
 text-or (made t) n h w = omega arith
 text-or (refused k q) n h w = omega (arith, refused-record-length k q)
 
-few-lines : (r : List ℕ) → length r ≤ longestSchedule → length (textOr (writeText r)) ≤ 327680
+pub few-lines : (r : List ℕ) → length r ≤ longestSchedule → length (textOr (writeText r)) ≤ 327680
 unfolding writeText
 few-lines r h = text-or (writeRecords 0 (count r) r) (80 * count r) (omega arith) (records-within (count r) 0 r)
 

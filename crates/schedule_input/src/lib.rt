@@ -15,7 +15,7 @@ pub const LONGEST_TEXT: usize = 327_680;
 // No output is longer: 4,096 lines of 80 bytes (specs, Room).
 pub const LONGEST_OUTPUT: usize = 327_680;
 
-// Of bytes that are taken as text no record reads.
+// Of bytes that are taken as text no record reads, and the text of a schedule is taken as text.
 pub fn nothing_lost()
     ensures { λ _. ⌜ NothingLost ⌝ }
 {}

@@ -11,7 +11,7 @@ ghost use Rattle.schedule_text.specs.LineForLine.{LineForLine};
 
 // What may stand at a place of a line: the word for the kind; controllers, or n and f, in a and b; a number in the value; a target in it; willing or not; the
 // arbiter's word; the kind of a telegram; that a lock's controllers are their own arbiter; nothing more.
-pub(crate) enum Slot {
+pub enum Slot {
     Verb,
     A,
     B,
