@@ -33,4 +33,5 @@ pub mod survey;
 pub mod tally;
 pub mod telegrams;
 pub mod text;
+pub mod trace;
 pub mod vote_set;

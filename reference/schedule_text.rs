@@ -23,7 +23,7 @@ enum Place {
 }
 
 #[derive(Clone, Copy, Default)]
-struct Record {
+pub(crate) struct Record {
     kind: u8,
     a: u8,
     b: u8,
@@ -32,7 +32,7 @@ struct Record {
 }
 
 impl Record {
-    fn bytes(self) -> [u8; 10] {
+    pub(crate) fn bytes(self) -> [u8; 10] {
         let v = self.value.to_be_bytes();
         [0x4C, 0x45, self.kind, self.a, self.b, self.c, v[0], v[1], v[2], v[3]]
     }
@@ -125,7 +125,7 @@ fn fill(record: &mut Record, place: &Place, word: &str) -> bool {
 }
 
 /// A line's record, none where it is blank; or the word that was not expected, empty at the line's end.
-fn read_line(line: &str) -> Result<Option<Record>, String> {
+pub(crate) fn read_line(line: &str) -> Result<Option<Record>, String> {
     let line = line.split('#').next().unwrap_or("");
     let mut words = line.split([' ', '\t', '\r']).filter(|word| !word.is_empty());
     let Some(verb) = words.next() else {
@@ -161,7 +161,7 @@ fn read_line(line: &str) -> Result<Option<Record>, String> {
 }
 
 /// A byte is a character here, whatever it is.
-fn characters(bytes: &[u8]) -> String {
+pub(crate) fn characters(bytes: &[u8]) -> String {
     bytes.iter().map(|&byte| char::from(byte)).collect()
 }
 
@@ -184,20 +184,23 @@ fn is_text(bytes: &[u8]) -> bool {
     !begins && bytes.iter().all(|byte| matches!(byte, 9 | 10 | 13 | 32..))
 }
 
+/// What is printed of a line with a word that was not expected, empty at the line's end.
+pub(crate) fn refused_line(line: usize, word: &str) -> Vec<u8> {
+    let shown: Vec<u8> = if word.is_empty() {
+        b"end of line".to_vec()
+    } else {
+        word.chars().take(40).map(|character| character as u8).collect()
+    };
+    [format!("- line {line}: ").as_bytes(), &shown, b"\n"].concat()
+}
+
 /// The records of a schedule in either form, or the one line that is printed instead.
 fn records_in(schedule: &[u8]) -> Result<Vec<u8>, Vec<u8>> {
     if schedule.len() > MAX_TEXT {
         return Err(b"- 1\n".to_vec());
     }
     let records = if is_text(schedule) {
-        read_text(schedule).map_err(|Unexpected { line, word }| {
-            let shown: Vec<u8> = if word.is_empty() {
-                b"end of line".to_vec()
-            } else {
-                word.chars().take(40).map(|character| character as u8).collect()
-            };
-            [format!("- line {line}: ").as_bytes(), &shown, b"\n"].concat()
-        })?
+        read_text(schedule).map_err(|Unexpected { line, word }| refused_line(line, &word))?
     } else {
         schedule.to_vec()
     };
@@ -224,7 +227,12 @@ fn name(names: &'static [(&'static str, u8)], number: u8) -> &'static str {
     names.iter().find(|(_, n)| *n == number).map_or("", |(name, _)| name)
 }
 
-fn line(event: &Event) -> String {
+/// The word for a telegram of that kind.
+pub(crate) fn telegram(kind: u8) -> &'static str {
+    name(TELEGRAMS, kind)
+}
+
+pub(crate) fn line(event: &Event) -> String {
     let x = event.fields();
     let (a, b, value) = (x.a, x.b, x.value);
     match x.kind {

@@ -30,20 +30,23 @@ pub fn bench_state(bench: &Bench) -> String {
     let mut text = String::new();
     // "With no lock there are no C lines"
     for controller in bench.lock().map_or(&[][..], Lock::controllers) {
-        // "Then per controller: C, number, stage (8 stopped, 9 standing by), outcome (M, S, -), position."
-        let _ = writeln!(
-            text,
-            "C {} {} {} {}",
-            controller.id(),
-            stage(controller),
-            word(controller.outcome()),
-            controller.position()
-        );
+        let _ = writeln!(text, "{}", controller_state(controller));
     }
     // "Then T and the telegrams sent in this order, by kind." "with no order T is all 0"
     let [votes, acks, helps, helpeds] = sent_by_kind(bench);
     let _ = writeln!(text, "T {votes} {acks} {helps} {helpeds}");
     text
+}
+
+/// "Then per controller: C, number, stage (8 stopped, 9 standing by), outcome (M, S, -), position."
+pub fn controller_state(controller: &Controller) -> String {
+    format!(
+        "C {} {} {} {}",
+        controller.id(),
+        stage(controller),
+        word(controller.outcome()),
+        controller.position()
+    )
 }
 
 pub fn sent_by_kind(bench: &Bench) -> [u64; 4] {

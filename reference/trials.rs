@@ -34,6 +34,8 @@ mod strays;
 mod support;
 #[path = "trials/survey.rs"]
 mod survey;
+#[path = "trials/trace.rs"]
+mod trace;
 #[path = "trials/levels.rs"]
 mod levels;
 #[path = "trials/dues.rs"]
