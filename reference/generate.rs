@@ -16,6 +16,7 @@ pub mod schedules;
 pub mod sheets;
 pub mod steps_back;
 pub mod texts;
+pub mod traces;
 pub mod wanted;
 
 use std::io;

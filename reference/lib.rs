@@ -20,6 +20,7 @@ pub mod levels;
 pub mod line;
 pub mod members;
 pub mod message_kind;
+pub mod picture;
 pub mod process;
 pub mod questions;
 pub mod records;

@@ -2,25 +2,12 @@
 
 use crate::text::bench_report;
 use std::io::{self, Write};
-use std::process::{Command, Stdio};
+use std::process::{Command, Output, Stdio};
 use std::thread;
 
 /// What a program prints for an input on its standard input.
 pub fn output_of(command: &[String], input: &[u8]) -> io::Result<Vec<u8>> {
-    let [program, arguments @ ..] = command else {
-        return Err(io::Error::other("no program to compare with"));
-    };
-    let mut child = Command::new(program)
-        .args(arguments)
-        .stdin(Stdio::piped())
-        .stdout(Stdio::piped())
-        .spawn()?;
-    let mut pipe = child.stdin.take().expect("a pipe");
-    let output = thread::scope(|scope| {
-        // A program may stop reading early; what it prints is compared all the same.
-        scope.spawn(move || pipe.write_all(input).ok());
-        child.wait_with_output()
-    })?;
+    let output = run(command, input, Stdio::inherit())?;
     if !output.status.success() {
         return Err(io::Error::other(format!(
             "the program ended with {}",
@@ -28,6 +15,30 @@ pub fn output_of(command: &[String], input: &[u8]) -> io::Result<Vec<u8>> {
         )));
     }
     Ok(output.stdout)
+}
+
+/// The status with which it ended, none where it was killed, and what it printed.
+pub fn status_and_output(command: &[String], input: &[u8]) -> io::Result<(Option<i32>, Vec<u8>)> {
+    let output = run(command, input, Stdio::null())?;
+    Ok((output.status.code(), output.stdout))
+}
+
+fn run(command: &[String], input: &[u8], errors: Stdio) -> io::Result<Output> {
+    let [program, arguments @ ..] = command else {
+        return Err(io::Error::other("no program to compare with"));
+    };
+    let mut child = Command::new(program)
+        .args(arguments)
+        .stdin(Stdio::piped())
+        .stdout(Stdio::piped())
+        .stderr(errors)
+        .spawn()?;
+    let mut pipe = child.stdin.take().expect("a pipe");
+    thread::scope(|scope| {
+        // A program may stop reading early; what it prints is compared all the same.
+        scope.spawn(move || pipe.write_all(input).ok());
+        child.wait_with_output()
+    })
 }
 
 /// Runs a schedule on the reference and on the bench program that the command runs; an error names the first line that

@@ -16,6 +16,8 @@ mod generator;
 mod kept;
 #[path = "trials/listed.rs"]
 mod listed;
+#[path = "trials/picture.rs"]
+mod picture;
 #[path = "trials/questions.rs"]
 mod questions;
 #[path = "trials/open_gates.rs"]

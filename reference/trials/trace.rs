@@ -29,7 +29,7 @@ fn refusals_in_words() {
     assert_eq!(words_of(0), "");
     // Each that the bench can give has words.
     for question in (1..=19).chain([24, 26, 28, 29]) {
-        assert!(words_of(question).ends_with('?') || question == 13, "{question}");
+        assert!(words_of(question).ends_with('?'), "{question}");
     }
 }
 
