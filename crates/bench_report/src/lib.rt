@@ -8,6 +8,7 @@ ghost use Rattle.bench_report.specs.Lines.{reportOf};
 ghost use Rattle.bench_report.specs.Report.{tooLong, reported};
 use ground::LIMIT;
 use lines::put_answers;
+pub use lines::put_controller;
 use lines::put_controllers;
 use lines::put_messages;
 pub use lines::row_at;

@@ -128,7 +128,7 @@ fn put_answer(out: &mut [u8], at: usize, i: u32, answer: u8) -> usize
 }
 
 // The C line of controller k.
-fn put_controller(out: &mut [u8], at: usize, k: u32, row: Row) -> usize
+pub fn put_controller(out: &mut [u8], at: usize, k: u32, row: Row) -> usize
     ensures { λ r. ⌜ Put (now (out .entry)) (now (out .exit)) at r (controllerLine k row) ⌝ }
 {
     let next = put_byte(&mut *out, at, b'C');

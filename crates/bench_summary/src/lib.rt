@@ -3,4 +3,5 @@ mod message_count;
 mod rows;
 mod summary;
 
+pub use message_count::receivers;
 pub use summary::summary_of;

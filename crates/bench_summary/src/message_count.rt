@@ -15,7 +15,7 @@ use protocol::Shared;
 use protocol::Station;
 
 // To whom a controller has sent messages of this kind.
-fn receivers(kind: Kind, sent: Sent) -> u32
+pub fn receivers(kind: Kind, sent: Sent) -> u32
     ensures { λ r. ⌜ r ≡ (ofKind kind sent) .to ⌝ }
 {
     match kind {

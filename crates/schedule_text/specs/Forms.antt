@@ -144,8 +144,11 @@ leftOut Telegram c = false
 unfoldable pub spaced : Slot → Fields → List ℕ
 spaced s x = cond (leftOut s (x .c)) [] (ascii " " ++ shown s (fieldOf s x))
 
--- the line of a record
-unfoldable pub lineOf : Fields → List ℕ
-lineOf x =
+-- the line of a record: its first word, and what follows
+abbrev pub restOf : Fields → List ℕ
+restOf x =
     let r = rowOf (x .kind) (x .c) in
-    shown Verb (x .kind) ++ (spaced (r .first) x ++ (spaced (r .second) x ++ (spaced (r .third) x ++ (spaced (r .fourth) x ++ ascii "\n"))))
+    spaced (r .first) x ++ (spaced (r .second) x ++ (spaced (r .third) x ++ (spaced (r .fourth) x ++ ascii "\n")))
+
+unfoldable pub lineOf : Fields → List ℕ
+lineOf x = shown Verb (x .kind) ++ restOf x

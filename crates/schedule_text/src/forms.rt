@@ -17,7 +17,7 @@ ghost use Prim.Native.Nat.{_-_, _≤_};
 ghost use Rattle.text.specs.Text.{ascii};
 ghost use Rattle.text.specs.Writing.{Put};
 ghost use Rattle.words.specs.Words.{nthWord};
-ghost use Rattle.schedule_text.specs.Forms.{row, delivery, rowOf, slotIn, fieldOf, withField, room, valueIn, shown, spaced, lineOf};
+ghost use Rattle.schedule_text.specs.Forms.{row, delivery, rowOf, slotIn, fieldOf, withField, room, valueIn, shown, spaced, restOf, lineOf};
 
 fn row(first: Slot, second: Slot, third: Slot, fourth: Slot) -> Row
     ensures { λ r. ⌜ r ≡ row first second third fourth ⌝ }
@@ -230,19 +230,26 @@ fn put_verb(out: &mut [u8], at: usize, kind: u8) -> usize
     )
 }
 
-// The line of a record.
-pub(crate) fn put_line(out: &mut [u8], at: usize, x: Fields) -> usize
-    ensures { λ r. ⌜ Put (now (out .entry)) (now (out .exit)) at r (lineOf x) ⌝ }
+// What follows the first word.
+pub fn put_rest(out: &mut [u8], at: usize, x: Fields) -> usize
+    ensures { λ r. ⌜ Put (now (out .entry)) (now (out .exit)) at r (restOf x) ⌝ }
 {
     let row = row_of(x.kind, x.c);
     let first = row.first;
     let second = row.second;
     let third = row.third;
     let fourth = row.fourth;
-    let next = put_verb(&mut *out, at, x.kind);
-    let next = put_spaced(&mut *out, next, first, x);
+    let next = put_spaced(&mut *out, at, first, x);
     let next = put_spaced(&mut *out, next, second, x);
     let next = put_spaced(&mut *out, next, third, x);
     let next = put_spaced(&mut *out, next, fourth, x);
     put_byte(&mut *out, next, b'\n')
+}
+
+// The line of a record.
+pub(crate) fn put_line(out: &mut [u8], at: usize, x: Fields) -> usize
+    ensures { λ r. ⌜ Put (now (out .entry)) (now (out .exit)) at r (lineOf x) ⌝ }
+{
+    let next = put_verb(&mut *out, at, x.kind);
+    put_rest(&mut *out, next, x)
 }

@@ -4,6 +4,7 @@ mod reading;
 mod writing;
 
 use event_record::Fields;
+pub use forms::put_rest;
 pub use reading::read;
 pub use writing::write;
 ghost use Rattle.schedule_text.specs.BothWays.{BothWays};
