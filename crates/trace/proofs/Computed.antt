@@ -3,6 +3,7 @@ use mathlib.Core.Path.{refl}
 use Rattle.ground.specs.Lists.{nth}
 use Rattle.text.specs.Text.{digits, decimal, signed}
 use Rattle.words.specs.Words.{belongs, run, pieces, wordsOf}
+use Rattle.question_words.specs.Questions.{questionWords}
 use Rattle.event_record.specs.Events.{ballotFields, eventFields, fieldsOf}
 use Rattle.schedule_text.specs.Forms.{rowOf, fieldOf, shown as shownWord, leftOut, spaced}
 use Rattle.protocol.specs.Computing.{wholeRun}
@@ -14,5 +15,5 @@ use Rattle.trace.specs.Traces.{nextSession, shownOf, traceFrom}
 use Rattle.trace.specs.Examples.{ExamplesHold}
 
 pub examples : ExamplesHold
-unfolding belongs run pieces wordsOf digits decimal signed ballotFields eventFields fieldsOf rowOf fieldOf shownWord leftOut spaced pastAfter setBack answer done next summaryOf verdict toldOf lineText text when each sameRow unchanged changedRows changed sentTo sentOf sent newIn sentFrom sentIn inBallot ballotSent ballots wordPut put given told cameOf shown nextSession shownOf traceFrom wholeRun
+unfolding questionWords belongs run pieces wordsOf digits decimal signed ballotFields eventFields fieldsOf rowOf fieldOf shownWord leftOut spaced pastAfter setBack answer done next summaryOf verdict toldOf lineText text when each sameRow unchanged changedRows changed sentTo sentOf sent newIn sentFrom sentIn inBallot ballotSent ballots wordPut put given told cameOf shown nextSession shownOf traceFrom wholeRun
 examples = record { listing-traced = refl; helped-traced = refl; ballot-traced = refl }

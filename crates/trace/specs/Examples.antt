@@ -45,7 +45,7 @@ pub record ExamplesHold : Type 0 where
       "4 0 accepted" ∷ "C 2 2 - 0" ∷ "sent acknowledgement 2 1" ∷
       "5 0 accepted" ∷ "C 2 3 - 0" ∷ "sent help-call 2 3" ∷
       "6 0 accepted" ∷ "C 3 3 - 0" ∷ "sent help-call 3 2" ∷
-      "7 7 refused: 7" ∷
+      "7 7 refused: Are the controllers' numbers in 1 to n, sender and receiver different?" ∷
       "8 0 accepted" ∷ "sent help-answer 2 3" ∷
       "9 0 accepted" ∷ "put 3 stay" ∷
       "10 0 accepted" ∷ "C 3 3 S 0" ∷ "given 3 stay" ∷

@@ -7,6 +7,7 @@ use lib.Dec.{eqb}
 use Rattle.text.specs.Text.{ascii, decimal, line}
 use Rattle.model.specs.declared.Event.{Event}
 use Rattle.model.specs.declared.Act.the-variants.{Play}
+use Rattle.question_words.specs.Questions.{questionWords}
 use Rattle.event_record.specs.Events.{fieldsOf}
 use Rattle.schedule_text.specs.Forms.{restOf}
 use Rattle.bench_report.specs.declared.Row.{Row}
@@ -27,7 +28,7 @@ pub data Line : Type 0 where
 
 -- "accepted, or the question in words"
 unfoldable pub verdict : ℕ → List ℕ
-verdict a = cond (eqb a 0) (ascii "accepted") (ascii "refused: " ++ decimal a)
+verdict a = cond (eqb a 0) (ascii "accepted") (ascii "refused: " ++ questionWords a)
 
 -- what follows the first word of an event's line
 unfoldable pub toldOf : Event → List ℕ

@@ -89,7 +89,7 @@ ballotSent e n old new = cond (isBallot (ballotNumber e)) (inBallot n (ballotNum
 
 -- THE WORD PUT, to the arbiter or for ballots: controller i has put one now, and had not before
 unfoldable pub wordPut : ℕ → Outcome → Outcome → List Line
-wordPut i old new = when (isNew (not (isNone old)) (not (isNone new))) (Puts (Decide i (isMove new)))
+wordPut i old new = when (isNone old && not (isNone new)) (Puts (Decide i (isMove new)))
 
 unfoldable pub put : List Station → List Station → List Line
 put old new = each limit (λ i. wordPut i ((stationAt old i) .controller .proposal) ((stationAt new i) .controller .proposal))

@@ -2,6 +2,7 @@
 use event_record::fields_of;
 use model::Act;
 use model::Event;
+use question_words::put_question;
 use schedule_text::put_rest;
 use text::put_byte;
 use text::put_bytes;
@@ -19,7 +20,7 @@ fn put_verdict(out: &mut [u8], at: usize, answer: u8) -> usize
         return put_bytes(&mut *out, at, b"accepted");
     }
     let next = put_bytes(&mut *out, at, b"refused: ");
-    put_number(&mut *out, next, answer as u32)
+    put_question(&mut *out, next, answer)
 }
 
 pub(crate) fn put_answered(out: &mut [u8], at: usize, k: u32, answer: u8) -> usize

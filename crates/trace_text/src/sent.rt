@@ -11,32 +11,32 @@ use model::is_move;
 use model::is_none;
 use protocol::Station;
 ghost use mathlib.Core.Path.{_≡_};
-ghost use mathlib.Core.Bool.{not};
+ghost use mathlib.Core.Bool.{not, _&&_};
 ghost use Rattle.text.specs.Writing.{Put};
 ghost use Rattle.ground.specs.Mask.{has};
 ghost use Rattle.model.specs.Numbers.{isNone};
 ghost use Rattle.trace.specs.Lines.{text};
 ghost use Rattle.trace.specs.Shown.{isNew, sentTo, sentOf, sent, put};
 
-fn is_new(before: u32, now: u32, k: u8) -> bool
-    ensures { λ r. ⌜ r ≡ isNew (has before k) (has now k) ⌝ }
+fn is_new(old: u32, new: u32, k: u8) -> bool
+    ensures { λ r. ⌜ r ≡ isNew (has old k) (has new k) ⌝ }
 {
-    if has(now, k) {
-        return !has(before, k);
+    if has(new, k) {
+        return !has(old, k);
     }
     false
 }
 
 // The messages of one kind from i.
-fn put_sent_to(out: &mut [u8], at: usize, kind: Kind, i: u8, before: u32, now: u32) -> usize
-    ensures { λ r. ⌜ Put (now (out .entry)) (now (out .exit)) at r (text (sentTo kind i before now)) ⌝ }
+fn put_sent_to(out: &mut [u8], at: usize, kind: Kind, i: u8, old: u32, new: u32) -> usize
+    ensures { λ r. ⌜ Put (now (out .entry)) (now (out .exit)) at r (text (sentTo kind i old new)) ⌝ }
 {
     let mut next = at;
     let mut j: usize = 0;
     while j < LIMIT {
         let to = j as u8 + 1;
         let e = Event::Deliver { from: i, to, kind };
-        next = put_told_if(&mut *out, next, is_new(before, now, to), b"sent", e);
+        next = put_told_if(&mut *out, next, is_new(old, new, to), b"sent", e);
         j += 1;
     }
     next
@@ -80,12 +80,12 @@ pub(crate) fn put_all_sent(
 }
 
 fn is_word_new(old: Outcome, new: Outcome) -> bool
-    ensures { λ r. ⌜ r ≡ isNew (not (isNone old)) (not (isNone new)) ⌝ }
+    ensures { λ r. ⌜ r ≡ (isNone old && not (isNone new)) ⌝ }
 {
-    if is_none(new) {
-        return false;
+    if is_none(old) {
+        return !is_none(new);
     }
-    is_none(old)
+    false
 }
 
 // The words put.

@@ -1,0 +1,86 @@
+-- `trace_text::ballots::put_sent_from` meets its contract.
+use Prim.Native.Nat.{ℕ, suc, _≤_, _-_}
+use mathlib.Core.List.{List}
+use mathlib.Core.Path.{_∙_, ap}
+use native.Mathlib.Numerals.{add-one}
+use native.Mathlib.Omega.{arith}
+use Rattle.text.specs.WritingLaws.{put-then, put-text, put-nothing, put-length}
+use Rattle.trace.specs.LineLaws.{put-no-lines, put-more, put-all, put-sent, put-word}
+use Rattle.ground.specs.Limit.{limit}
+use Rattle.model.specs.declared.BallotKind.{BallotKind}
+use Rattle.model.specs.declared.BallotEvent.the-variants.{Carry}
+use Rattle.model.specs.declared.Event.the-variants.{OfBallots}
+use Rattle.protocol.specs.declared.BallotRow.{BallotRow}
+use Rattle.text.specs.Writing.{Put}
+use Rattle.trace.specs.Lines.{Line, Sent, text, when, each}
+use Rattle.trace.specs.Shown.{newIn, sentFrom}
+use borrow.Author.Needs.{needs}
+use Rattle.trace_text.proofs.ballots.put_sent_from.Statement.{statement}
+use Rattle.trace_text.proofs.ballots.put_sent_from.Tie as tie
+
+abbrev told : BallotKind → ℕ → ℕ → ℕ → BallotRow → BallotRow → ℕ → List Line
+told kind n b i old new j = when (newIn kind n b i j old new) (Sent (OfBallots (Carry i j kind b)))
+
+abbrev Inv-loop : tie.InvT-loop
+Inv-loop out₀ at kind n b i old new next₀ k₀ t13 out next k = (k ≤ limit) × Put out₀ out at next (text (each k (told kind n b i old new)))
+
+abbrev μ-loop : tie.MeasureT-loop
+μ-loop out₀ at kind n b i old new next₀ k₀ t13 out next k = limit - k
+
+loop-holds : tie.Need-loop-holds Inv-loop μ-loop
+loop-holds c = (omega arith, put-no-lines _ _ _ (omega arith) (omega arith))
+
+cast-j : tie.Need-cast-j Inv-loop μ-loop
+cast-j c = omega arith
+
+add-j : tie.Need-add-j Inv-loop μ-loop
+add-j c = omega arith
+
+is-new-in-requires : tie.Need-is-new-in-requires Inv-loop μ-loop
+is-new-in-requires c κs = search needs
+
+slice-aggregate-put-told-if : tie.Need-slice-aggregate-put-told-if Inv-loop μ-loop
+slice-aggregate-put-told-if c = search needs
+
+put-told-if-requires : tie.Need-put-told-if-requires Inv-loop μ-loop
+put-told-if-requires c κs = search needs
+
+add-k : tie.Need-add-k Inv-loop μ-loop
+add-k c = omega arith
+
+loop-less : tie.Need-loop-less Inv-loop μ-loop
+loop-less c = omega arith
+
+loop-again : tie.Need-loop-again Inv-loop μ-loop
+loop-again c =
+    let l = c .before .before .before .before .before .before .before .loop in
+    let a = c .before .before .before .before .before .before .before .before .before .args in (
+      omega arith,
+      put-more (l .k) (told (a .kind) (a .n) (a .b) (a .i) (a .old) (a .new)) (l .inv .1)
+          (put-sent _ _ _ _ (c .before .before .before .before .is-new-in .ensures ∙ ap (λ (j : ℕ). newIn (a .kind) (a .n) (a .b) (a .i) j (a .old) (a .new)) (add-one (l .k))) (ap (λ (j : ℕ). OfBallots (Carry (a .i) j (a .kind) (a .b))) (add-one (l .k))) (c .before .before .put-told-if .ensures)),
+    )
+
+same-length : tie.Need-same-length Inv-loop μ-loop
+same-length c = put-length (c .before .loop .inv .1)
+
+returns : tie.Need-returns Inv-loop μ-loop
+unfolding sentFrom
+returns c = put-all _ (omega arith) (c .before .loop .inv .1)
+
+pub put-sent-from-spec : {M : Type 1} → statement M
+put-sent-from-spec =
+    tie.close
+    (tie.spec
+    Inv-loop
+    μ-loop
+    loop-holds
+    cast-j
+    add-j
+    is-new-in-requires
+    slice-aggregate-put-told-if
+    put-told-if-requires
+    add-k
+    loop-less
+    loop-again
+    same-length
+    returns)

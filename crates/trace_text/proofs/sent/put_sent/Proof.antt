@@ -1,0 +1,99 @@
+-- `trace_text::sent::put_sent` meets its contract.
+use borrow.Author.Needs.{needs}
+use Prim.Native.Nat.{ℕ, suc, _≤_, _-_}
+use mathlib.Core.List.{List, []}
+use native.Mathlib.Numerals.{add-one}
+use native.Mathlib.Omega.{arith}
+use Rattle.ground.specs.Limit.{limit}
+use Rattle.ground.specs.Lists.{nth}
+use Rattle.text.specs.Writing.{Put}
+use Rattle.text.specs.WritingLaws.{put-text, put-length}
+use Rattle.model.specs.declared.Kind.{Kind}
+use Rattle.protocol.specs.declared.Station.{Station}
+use Rattle.protocol.specs.Benches.{ofKind, freshStation, fresh, unsentAll}
+use Rattle.trace.specs.Lines.{Line, text, each}
+use Rattle.trace.specs.LineLaws.{put-no-lines, put-more, put-all}
+use Rattle.trace.specs.Shown.{stationAt, sentTo, sentOf}
+use Rattle.trace_text.proofs.sent.put_sent.Statement.{statement}
+use Rattle.trace_text.proofs.sent.put_sent.Tie as tie
+
+abbrev told : Kind → List Station → List Station → ℕ → List Line
+told kind old new i = sentTo kind i ((ofKind kind ((stationAt old i) .sent)) .to) ((ofKind kind ((stationAt new i) .sent)) .to)
+
+abbrev Inv-loop : tie.InvT-loop
+Inv-loop out₀ at kind old new next₀ i₀ out next i = (i ≤ limit) × Put out₀ out at next (text (each i (told kind old new)))
+
+abbrev μ-loop : tie.MeasureT-loop
+μ-loop out₀ at kind old new next₀ i₀ out next i = limit - i
+
+loop-holds : tie.Need-loop-holds Inv-loop μ-loop
+loop-holds c = (omega arith, put-no-lines _ _ _ (omega arith) (omega arith))
+
+mul-s : tie.Need-mul-s Inv-loop μ-loop
+mul-s c = search needs
+
+array-copy-out-s : tie.Need-array-copy-out-s Inv-loop μ-loop
+array-copy-out-s c = search needs
+
+mul-t : tie.Need-mul-t Inv-loop μ-loop
+mul-t c = search needs
+
+array-copy-out-t : tie.Need-array-copy-out-t Inv-loop μ-loop
+array-copy-out-t c = search needs
+
+receivers-requires : tie.Need-receivers-requires Inv-loop μ-loop
+receivers-requires c κs = search needs
+
+receivers-requires-2 : tie.Need-receivers-requires-2 Inv-loop μ-loop
+receivers-requires-2 c κs = search needs
+
+cast-put-sent-to : tie.Need-cast-put-sent-to Inv-loop μ-loop
+cast-put-sent-to c = omega arith
+
+add-put-sent-to : tie.Need-add-put-sent-to Inv-loop μ-loop
+add-put-sent-to c = omega arith
+
+put-sent-to-requires : tie.Need-put-sent-to-requires Inv-loop μ-loop
+put-sent-to-requires c κs = search needs
+
+add-i : tie.Need-add-i Inv-loop μ-loop
+add-i c = omega arith
+
+loop-less : tie.Need-loop-less Inv-loop μ-loop
+loop-less c = omega arith
+
+loop-again : tie.Need-loop-again Inv-loop μ-loop
+unfolding nth freshStation fresh unsentAll
+loop-again c =
+    let l = c .before .before .before .before .before .before .before .before .before .loop in
+    let a = c .before .before .before .before .before .before .before .before .before .before .before .args in
+    (omega arith, put-more (l .i) (told (a .kind) (a .t4) (a .t5)) (l .inv .1) (put-text (c .before .before .put-sent-to .ensures) (rw (add-one, c .before .before .before .before .receivers2 .ensures, c .before .before .before .before .before .receivers .ensures))))
+
+same-length : tie.Need-same-length Inv-loop μ-loop
+same-length c = put-length (c .before .loop .inv .1)
+
+returns : tie.Need-returns Inv-loop μ-loop
+unfolding sentOf
+returns c = put-all _ (omega arith) (c .before .loop .inv .1)
+
+pub put-sent-spec : {M : Type 1} → statement M
+put-sent-spec =
+    tie.close
+    (tie.spec
+    Inv-loop
+    μ-loop
+    loop-holds
+    mul-s
+    array-copy-out-s
+    mul-t
+    array-copy-out-t
+    receivers-requires
+    receivers-requires-2
+    cast-put-sent-to
+    add-put-sent-to
+    put-sent-to-requires
+    add-i
+    loop-less
+    loop-again
+    same-length
+    returns)
