@@ -47,8 +47,15 @@ fn read_on(buf: &mut [u8], from: usize) -> Input
     requires { ⌜ from ≤ length (now buf) ⌝ }
     ensures { λ r. ⌜ from + r .count ≤ length (now (buf .exit)) ⌝ }
 {
-    let part = &mut buf[from..];
-    let got = libc::read(STDIN_FILENO, part);
+    read_some(&mut buf[from..])
+}
+
+// One read: what is there now, as far as the buffer goes, so that whoever types a line is answered at once. With a count of 0 the input is at its end.
+pub fn read_some(buf: &mut [u8]) -> Input
+    ensures { λ r. ⌜ Counts (r .count) (now (buf .exit)) ⌝ }
+    ensures { λ r. ⌜ EitherWay (r .failed) × (length (now (buf .exit)) ≡ length (now (buf .entry))) ⌝ }
+{
+    let got = libc::read(STDIN_FILENO, &mut *buf);
     if got < 0 {
         os::fail(b"standard input");
         return Input {
@@ -56,11 +63,18 @@ fn read_on(buf: &mut [u8], from: usize) -> Input
             failed: true,
         };
     }
-    let count = io::count(got, part);
+    let count = io::count(got, &*buf);
     Input {
         count,
         failed: false,
     }
+}
+
+// Is standard input a terminal? The system says.
+pub fn is_terminal() -> bool
+    ensures { λ r. ⌜ EitherWay r ⌝ }
+{
+    libc::isatty(STDIN_FILENO) == 1
 }
 
 // Writes a text to standard output and answers whether all of it was taken, which is the system's to say.

@@ -1,0 +1,44 @@
+-- `streams::read_some` meets its contract: what is counted lies within the buffer.
+use native.Mathlib.Omega.{arith}
+use mathlib.Core.Path.{refl}
+use Rattle.streams.specs.Streams.{either-way}
+use borrow.Author.Needs.{needs}
+use Rattle.streams.proofs.read_some.Statement.{statement}
+use Rattle.streams.proofs.read_some.Tie as tie
+
+read-requires : tie.Need-read-requires
+read-requires c κs = search needs
+
+slice-aggregate-fail : tie.Need-slice-aggregate-fail
+slice-aggregate-fail c = search needs
+
+fail-requires : tie.Need-fail-requires
+fail-requires c κs = search needs
+
+same-length : tie.Need-same-length
+same-length c = search needs
+
+returns : tie.Need-returns
+returns c = ((omega arith, refl), (either-way _, omega arith))
+
+count-requires : tie.Need-count-requires
+count-requires c κs = search needs
+
+same-length-2 : tie.Need-same-length-2
+same-length-2 c = search needs
+
+returns-2 : tie.Need-returns-2
+returns-2 c = (c .count .ensures .0, (either-way _, omega arith))
+
+pub read-some-spec : {M : Type 1} → statement M
+read-some-spec =
+    tie.close
+    (tie.spec
+    read-requires
+    slice-aggregate-fail
+    fail-requires
+    same-length
+    returns
+    count-requires
+    same-length-2
+    returns-2)

@@ -1,0 +1,13 @@
+# The console: its trace beside the reference's, and its answers and last C lines beside what the bench program prints; of every example in both forms, and of
+# schedules with refused events, steps back and ballots, as records and as text, with lines that are no events.
+for schedule in "$root"/examples/*.events "$root"/examples/*.txt; do
+    "$ref/ref_trace" < "$schedule" | cmp - <("$bin/program_console" < "$schedule") || stop "the console's trace of $(basename "$schedule") is not the reference's"
+done
+"$ref/gen_schedules" 600 51 > "$work/traced"
+"$ref/gen_steps_back" 800 52 >> "$work/traced"
+"$ref/gen_ballots" 600 53 >> "$work/traced"
+"$ref/compare_trace" "$work/traced" "$bin/program_console" "$bin/program_bench" > "$work/traced.out" || { cat "$work/traced.out"; stop "traces differ"; }
+for word in "answered 26" "answered 28" "sent help-answer" "sent taken" undone put given; do
+    grep -q " $word\$" "$work/traced.out" || stop "no trace has: $word"
+done
+say "the console's traces of every example and of 2000 schedules are the reference's, and show what the bench program prints"
