@@ -1,7 +1,7 @@
 // Where the benches before the remembered events lie. Who plays acts by `bench_back::act` lays the bench before each act at the place `at` of a ring; what is
 // remembered are the `count` places before it.
-use bench_back::MOST_REMEMBERED;
 use bench_back::Recall;
+use steps_back::MOST_REMEMBERED;
 ghost use Prim.Native.Nat.{_<_, _+_, _-_, min};
 ghost use mathlib.Core.Path.{_≡_};
 ghost use Rattle.steps_back.specs.Memory.{mostRemembered};

@@ -8,78 +8,21 @@ use bench_report::MOST_ANSWERS;
 use bench_report::is_too_long;
 use bench_report::write_report;
 use bench_report::write_too_long;
+use bench_ring::PLACES;
+use bench_ring::Ring;
+use bench_ring::place_before;
+use bench_ring::ring_after;
 use bench_state::new_bench;
 use bench_summary::summary_of;
 use event_record::ReadEvent;
 use model::Event;
 use protocol::Bench;
 use schedule_reader::record_at;
-use steps_back::MOST_REMEMBERED;
 use streams::read_input;
 use streams::write_output;
-ghost use Prim.Native.Nat.{_≤_, _<_};
+ghost use Prim.Native.Nat.{_≤_};
 ghost use mathlib.Core.Path.{_≡_};
 ghost use lib.ListN.{length, take};
-
-// The benches before the remembered events lie in a ring: one place more than are remembered, so that the next place is always free.
-const PLACES: usize = MOST_REMEMBERED + 1;
-
-fn place_before(at: usize) -> usize
-    requires { ⌜ at < 65 ⌝ }
-    ensures { λ r. ⌜ r < 65 ⌝ }
-{
-    if at == 0 {
-        return PLACES - 1;
-    }
-    at - 1
-}
-
-fn place_after(at: usize) -> usize
-    requires { ⌜ at < 65 ⌝ }
-    ensures { λ r. ⌜ r < 65 ⌝ }
-{
-    if at == PLACES - 1 {
-        return 0;
-    }
-    at + 1
-}
-
-// Where the next bench is laid after an act.
-fn place_by(at: usize, recall: Recall) -> usize
-    requires { ⌜ at < 65 ⌝ }
-    ensures { λ r. ⌜ r < 65 ⌝ }
-{
-    match recall {
-        Recall::More => place_after(at),
-        Recall::Fewer => place_before(at),
-        Recall::Same => at,
-        Recall::Nothing => at,
-    }
-}
-
-// How many are remembered after an act.
-fn count_by(count: usize, recall: Recall) -> usize {
-    match recall {
-        Recall::More => one_more(count),
-        Recall::Fewer => one_fewer(count),
-        Recall::Same => count,
-        Recall::Nothing => 0,
-    }
-}
-
-fn one_more(count: usize) -> usize {
-    if count < MOST_REMEMBERED {
-        return count + 1;
-    }
-    count
-}
-
-fn one_fewer(count: usize) -> usize {
-    if count == 0 {
-        return 0;
-    }
-    count - 1
-}
 
 // One record played; one that reading refuses leaves the bench as it is, and what is remembered.
 fn played(b: Bench, remembers: bool, newest: Bench, r: ReadEvent) -> Acted {
@@ -103,18 +46,17 @@ fn render(s: &[u8], out: &mut [u8]) -> usize
     let mut answers = [0u8; MOST_ANSWERS];
     let mut b = new_bench();
     let mut past = [b; PLACES];
-    let mut at: usize = 0;
-    let mut count: usize = 0;
+    let mut ring = Ring { at: 0, count: 0 };
     let mut k: usize = 0;
     while k * Event::LENGTH < s.len() {
-        past[at] = b;
-        let newest = past[place_before(at)];
-        let done = played(b, count != 0, newest, record_at(s, k * Event::LENGTH));
+        let here = ring.at;
+        past[here] = b;
+        let newest = past[place_before(here)];
+        let done = played(b, ring.count != 0, newest, record_at(s, k * Event::LENGTH));
         answers[k] = done.answer;
         b = done.bench;
         let recall = done.recall;
-        at = place_by(at, recall);
-        count = count_by(count, recall);
+        ring = ring_after(ring, recall);
         k += 1;
     }
     let stations = b.stations;

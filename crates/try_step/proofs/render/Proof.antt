@@ -12,10 +12,10 @@ use Rattle.try_step.proofs.render.Statement.{statement}
 use Rattle.try_step.proofs.render.Tie as tie
 
 abbrev Inv-loop : tie.InvT-loop
-Inv-loop s out answers₀ b₀ past₀ at₀ count₀ k₀ answers b past at count k = (k ≤ mostAnswers) × (length s ≤ longestSchedule) × (length answers ≡ mostAnswers) × (length past ≡ 65) × (at < 65)
+Inv-loop s out answers₀ b₀ past₀ ring₀ k₀ answers b past ring k = (k ≤ mostAnswers) × (length s ≤ longestSchedule) × (length answers ≡ mostAnswers) × (length past ≡ 65) × (ring .at < 65)
 
 abbrev μ-loop : tie.MeasureT-loop
-μ-loop s out answers₀ b₀ past₀ at₀ count₀ k₀ answers b past at count k = mostAnswers - k
+μ-loop s out answers₀ b₀ past₀ ring₀ k₀ answers b past ring k = mostAnswers - k
 
 is-too-long-requires : tie.Need-is-too-long-requires Inv-loop μ-loop
 is-too-long-requires c κs = search needs
@@ -51,7 +51,7 @@ mul-newest : tie.Need-mul-newest Inv-loop μ-loop
 mul-newest c = omega arith
 
 array-copy-out-newest : tie.Need-array-copy-out-newest Inv-loop μ-loop
-array-copy-out-newest c = search needs
+array-copy-out-newest c = omega (arith, c .before .before .before .loop .inv .4, c .place-before .ensures .1 (c .before .before .before .loop .inv .4))
 
 mul-record-at : tie.Need-mul-record-at Inv-loop μ-loop
 mul-record-at c = omega arith
@@ -65,11 +65,8 @@ played-requires c κs = search needs
 array-write-answers : tie.Need-array-write-answers Inv-loop μ-loop
 array-write-answers c = omega arith
 
-place-by-requires : tie.Need-place-by-requires Inv-loop μ-loop
-place-by-requires c κs = search needs
-
-count-by-requires : tie.Need-count-by-requires Inv-loop μ-loop
-count-by-requires c κs = search needs
+ring-after-requires : tie.Need-ring-after-requires Inv-loop μ-loop
+ring-after-requires c κs = search needs
 
 add-k : tie.Need-add-k Inv-loop μ-loop
 add-k c = omega arith
@@ -120,8 +117,7 @@ render-spec =
     record-at-requires
     played-requires
     array-write-answers
-    place-by-requires
-    count-by-requires
+    ring-after-requires
     add-k
     loop-less
     loop-again
