@@ -1,6 +1,6 @@
 //! Compares the console with the reference's trace, and with what the bench program prints: compare_trace SCHEDULES CONSOLE BENCH
-//! SCHEDULES is a file of schedules, each after its length in four bytes; each is put to the console as records and as text, with lines that are no events
-//! among those.
+//! SCHEDULES is a file of schedules, each after its length in four bytes; each is put to the console as records, and every fourth as text too, with lines
+//! that are no events.
 
 use reference::generate::schedules;
 use reference::process::{compare_output, output_of};
@@ -29,12 +29,12 @@ fn compare() -> io::Result<()> {
     let file = fs::read(path)?;
     let mut met = BTreeMap::new();
     for (place, schedule) in schedules::split(&file)?.into_iter().enumerate() {
-        compare_one(schedule, console, bench, &mut met).map_err(|error| io::Error::other(format!("schedule {place}: {error}")))?;
+        compare_one(place, schedule, console, bench, &mut met).map_err(|error| io::Error::other(format!("schedule {place}: {error}")))?;
     }
     rows::print(&met.into_iter().collect::<Vec<_>>())
 }
 
-fn compare_one(schedule: &[u8], console: &str, bench: &str, met: &mut BTreeMap<String, u64>) -> io::Result<()> {
+fn compare_one(place: usize, schedule: &[u8], console: &str, bench: &str, met: &mut BTreeMap<String, u64>) -> io::Result<()> {
     let console = [console.to_string()];
     let expected = trace(schedule);
     compare_output(schedule, &expected, &console)?;
@@ -43,8 +43,10 @@ fn compare_one(schedule: &[u8], console: &str, bench: &str, met: &mut BTreeMap<S
         *met.entry("not all records read".to_string()).or_default() += 1;
         return Ok(());
     }
-    let damaged = damaged(&written);
-    compare_output(&damaged, &trace(&damaged), &console)?;
+    if place % 4 == 0 {
+        let damaged = damaged(&written);
+        compare_output(&damaged, &trace(&damaged), &console)?;
+    }
     let printed = output_of(&[bench.to_string()], schedule)?;
     let shown = as_printed(&expected);
     if !String::from_utf8_lossy(&printed).starts_with(&shown) {
