@@ -133,7 +133,9 @@ pub fn draw(run: &Run, layout: &Layout, svg: &mut Svg, used: &Used, top: f64) ->
     for (question, words) in questions(run, layout) {
         texts.push(format!("refused {question}: {words}"));
     }
-    texts.push("Below each line: the outcome (- none), and the gate's position in mm.".to_string());
+    if run.n() > 0 {
+        texts.push("Below each line: the outcome (- none), and the gate's position in mm.".to_string());
+    }
     for text in texts {
         y = paragraph(svg, layout.width, y, &text);
     }

@@ -68,6 +68,7 @@ fn title(run: &Run, rows: &[usize], svg: &mut Svg) {
     };
     svg.text(MARGIN, 28.0, &head, Style { size: 18.0, bold: true, ..PLAIN });
     let count = rows.iter().filter(|row| run.entries[**row].index.is_some()).count();
-    let below = format!("{kind}{count} events, time runs downward");
+    let events = if count == 1 { "event" } else { "events" };
+    let below = format!("{kind}{count} {events}, time runs downward");
     svg.text(MARGIN, 46.0, &below, Style { size: 12.0, colour: GREY, ..PLAIN });
 }
