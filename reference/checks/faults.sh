@@ -25,6 +25,11 @@ while read -r name crate; do
     expect 0 'standard input: *' "$bin/$crate < /"
 done < <(sed -e '/^#/d' -e 's/^ *\([^ |]*\) *| *\([^ |]*\).*/\1 \2/' "$root/bin/programs")
 expect 2 'run: no such program*' 'bin/run run'
+expect 2 'bench: takes standard input or a file, and there is no file none' './bench none'
+expect 2 'bench: takes standard input or a file, and docs is a folder' './bench docs'
+expect 2 'bench: takes one file, or standard input, and 2 arguments are given: bench FILE' './bench README.md README.md'
+expect 0 '' './bench <(cat examples/listing.txt) | cmp - examples/listing.expected'
+expect 0 '' 'bin/run chart --version'
 expect 2 'generate: n is to be from 2 to 32, and not 300' 'bin/generate 300 2 10 1'
 expect 2 "generate: n is to be a whole number, and not 'x'" 'bin/generate x 2 10 1'
 say "$tried starts with faults of the programs are told as docs/PROGRAMS.md says"
