@@ -48,10 +48,10 @@ place-before-requires : tie.Need-place-before-requires Inv-loop μ-loop
 place-before-requires c κs = search needs
 
 mul-newest : tie.Need-mul-newest Inv-loop μ-loop
-mul-newest c = omega arith
+mul-newest c = omega (arith, c .place-before .ensures .1 (c .before .before .loop .inv .4))
 
 array-copy-out-newest : tie.Need-array-copy-out-newest Inv-loop μ-loop
-array-copy-out-newest c = omega (arith, c .before .before .before .loop .inv .4, c .place-before .ensures .1 (c .before .before .before .loop .inv .4))
+array-copy-out-newest c = omega (arith, c .place-before .ensures .1 (c .before .before .loop .inv .4))
 
 mul-record-at : tie.Need-mul-record-at Inv-loop μ-loop
 mul-record-at c = omega arith
@@ -75,7 +75,7 @@ loop-less : tie.Need-loop-less Inv-loop μ-loop
 loop-less c = omega arith
 
 loop-again : tie.Need-loop-again Inv-loop μ-loop
-loop-again c = (omega arith, search needs, search needs, search needs, search needs)
+loop-again c = (omega arith, search needs, search needs, search needs, c .ring-after .ensures .1 (c .before .before .before .before .before .before .before .before .loop .inv .4))
 
 array-share-prefix-answers : tie.Need-array-share-prefix-answers Inv-loop μ-loop
 array-share-prefix-answers c = omega arith
