@@ -9,6 +9,7 @@ use Rattle.words.specs.Words.{run, pieces, linesOf, uncommented, wordsOf}
 use Rattle.model.specs.declared.Act.{Act}
 use Rattle.records.specs.Bytes.{AllBytes}
 use Rattle.event_record.specs.Events.{fieldsOf, readEvent, recordBytes}
+use Rattle.event_record.specs.declared.Fields.{Fields}
 use Rattle.event_record.specs.declared.ReadEvent.{ReadEvent}
 use Rattle.event_record.specs.declared.ReadEvent.the-variants.{Read, Refused}
 use Rattle.event_record.proofs.RoundTrips.{promises}
@@ -119,6 +120,36 @@ line-refused k (l ∷ ls) j i e = by-line (λ f. line-refused (suc k) ls j i f) 
         let z : j - k ≡ 0 = omega (arith, h .0) in
         (omega (arith, h .0), rw z (f ∙ ap Unexpected (h .1)))
 
+-- a line of no form is refused, if none before it is
+not-unexpected : {q : ℕ} → Blank ≡ Unexpected q → ⊥
+not-unexpected e = let z : _≡_ {A = ℕ} 0 1 = cc in omega arith
+
+not-read : {x : Fields} {q : ℕ} → Record x ≡ Unexpected q → ⊥
+not-read e = let z : _≡_ {A = ℕ} 0 1 = cc in omega arith
+
+no-words : readLine (uncommented []) ≡ Blank
+unfolding run pieces wordsOf readLine readWords rowOf slotIn ended
+no-words = refl
+
+abbrev FirstRefused : ℕ → List (List ℕ) → ℕ → Type 0
+FirstRefused k ls j = (m i : ℕ) × (readLines k ls ≡ refused (k + m) i) × (m ≤ j)
+
+first-refused : (k : ℕ) (ls : List (List ℕ)) (j q : ℕ) → readLine (uncommented (getD ls j [])) ≡ Unexpected q → FirstRefused k ls j
+unfolding readLines
+first-refused k [] j q e = absurd (not-unexpected (sym no-words ∙ e))
+first-refused k (l ∷ ls) zero q e = (0, q, ap (λ (r : LineRead). onward r k (readLines (suc k) ls)) e ∙ ap (λ (n : ℕ). refused n q) (omega arith), omega arith)
+first-refused k (l ∷ ls) (suc j) q e = by-line (first-refused (suc k) ls j q e) (readLine (uncommented l)) refl
+  where
+    here : (p : ℕ) → readLine (uncommented l) ≡ Unexpected p → FirstRefused k (l ∷ ls) (suc j)
+    here p f = (0, p, ap (λ (r : LineRead). onward r k (readLines (suc k) ls)) f ∙ ap (λ (n : ℕ). refused n p) (omega arith), omega arith)
+
+    by-line : FirstRefused (suc k) ls j → (r : LineRead) → readLine (uncommented l) ≡ r → FirstRefused k (l ∷ ls) (suc j)
+    by-line ih (Unexpected p) f = here p f
+    by-line ih Blank f =
+        (suc (ih .0), ih .1, ap (λ (r : LineRead). onward r k (readLines (suc k) ls)) f ∙ ih .2 ∙ ap (λ (n : ℕ). refused n (ih .1)) (omega arith), omega (arith, ih .3))
+    by-line ih (Record x) f =
+        (suc (ih .0), ih .1, ap (λ (r : LineRead). onward r k (readLines (suc k) ls)) f ∙ ap (after (recordBytes x)) (ih .2) ∙ ap (λ (n : ℕ). refused n (ih .1)) (omega arith), omega (arith, ih .3))
+
 refused-record : (s : List ℕ) (k q : ℕ) → writeText s ≡ refused k q → (k < count s) × (recordAt s (k * 10) ≡ Refused q)
 unfolding writeText pieceAt
 refused-record s k q e =
@@ -133,6 +164,12 @@ refused-line t k i e =
     let z : suc k - 1 ≡ k = omega arith in
     ap (λ (j : ℕ). readLine (uncommented (getD (linesOf t) j []))) (sym z) ∙ w .1
 
+first-line : (t : List ℕ) (j q : ℕ) → readLine (uncommented (getD (linesOf t) j [])) ≡ Unexpected q → (k i : ℕ) × (readText t ≡ refused (suc k) i) × (k ≤ j)
+unfolding readText
+first-line t j q e =
+    let w = first-refused 1 (linesOf t) j q e in
+    (w .0, w .1, w .2 ∙ ap (λ (n : ℕ). refused n (w .1)) (omega arith), w .3)
+
 no-line : (t : List ℕ) (i : ℕ) → readText t ≡ refused 0 i → ⊥
 unfolding readText
 no-line t i e = let w = line-refused 1 (linesOf t) 0 i e in omega (arith, w .0)
@@ -142,4 +179,4 @@ unfolding writeText readText
 whole s t all e = back (count s) 0 1 s t refl all e
 
 pub both-ways : BothWays
-both-ways = record { back = whole; refused-record = refused-record; refused-line = refused-line; no-line = no-line }
+both-ways = record { back = whole; refused-record = refused-record; refused-line = refused-line; first-line = first-line; no-line = no-line }

@@ -1,5 +1,5 @@
 -- What is promised of the two forms of a schedule.
-use Prim.Native.Nat.{ℕ, suc, _*_, _<_}
+use Prim.Native.Nat.{ℕ, suc, _*_, _≤_, _<_}
 use mathlib.Core.Path.{_≡_}
 use mathlib.Core.List.{List, []}
 use lib.ListN.{getD}
@@ -17,5 +17,7 @@ pub record BothWays : Type 0 where
   pub refused-record : (s : List ℕ) (k q : ℕ) → writeText s ≡ refused k q → (k < count s) × (recordAt s (k * 10) ≡ Refused q)
   -- a text that is not read has that word of that line, which is not expected there; lines count from 1 on, words from 0 on
   pub refused-line : (t : List ℕ) (k i : ℕ) → readText t ≡ refused (suc k) i → readLine (uncommented (getD (linesOf t) k [])) ≡ Unexpected i
+  -- a text with a line that is of no form is refused, for that line or one before it: so for the first
+  pub first-line : (t : List ℕ) (j q : ℕ) → readLine (uncommented (getD (linesOf t) j [])) ≡ Unexpected q → (k i : ℕ) × (readText t ≡ refused (suc k) i) × (k ≤ j)
   -- there is no line 0
   pub no-line : (t : List ℕ) (i : ℕ) → readText t ≡ refused 0 i → ⊥

@@ -46,6 +46,10 @@ pub record LineForLine : Type 0 where
   pub ballot : Line "ballot 1 4\n" (bytes 10 1 0 0 0 0 0 4)
   -- comments, blank lines, tabs, returns, noughts before a number, and a last line without its end
   pub others : Reads "# a lock\n\n  lock\t02 1 # of two\r\nbell 1" (0x4C ∷ 0x45 ∷ 0 ∷ 2 ∷ 1 ∷ 0 ∷ 0 ∷ 0 ∷ 0 ∷ 0 ∷ bytes 4 1 0 0 0 0 0 0)
+  -- a return at a line's end, a comment right after a word, and a nought with a sign
+  pub ended-by-return : Reads "bell 1\r\n" (bytes 4 1 0 0 0 0 0 0)
+  pub close-comment : Reads "bell 1#2\n" (bytes 4 1 0 0 0 0 0 0)
+  pub minus-nought : Reads "vote 1 willing -0\n" (bytes 2 1 1 0 0 0 0 0)
   pub no-text : Reads "" []
   -- a first word that is none; one too many; one too few; numbers that do not fit; another's name; no number
   pub first : Gets "lock 2 1\n\nvoet 1 willing 500\n" 3 0
@@ -57,3 +61,27 @@ pub record LineForLine : Type 0 where
   pub other-name : Gets "arbiter 1 willing\n" 1 2
   pub no-number : Gets "order one\n" 1 1
   pub capital : Gets "Lock 2 1\n" 1 0
+  -- comments, blank lines and returns are counted as lines are; of two faults the first is named, of two lines and of two words
+  pub counted : Gets "# a lock\r\n\nlock 2 1\r\nvoet\n" 4 0
+  pub first-of-two : Gets "bell one two\nvoet\n" 1 1
+  pub fifth : Gets "deliver ask 4 1 3 1\n" 1 5
+  -- a line that ends before each of the places
+  pub no-controller : Gets "bell\n" 1 1
+  pub no-order : Gets "order\n" 1 1
+  pub no-willing : Gets "vote 1\n" 1 2
+  pub no-word : Gets "arbiter 1\n" 1 2
+  pub no-telegram : Gets "deliver\n" 1 1
+  -- a name with a letter more, and with one fewer
+  pub longer : Gets "locks 2 1\n" 1 0
+  pub shorter : Gets "loc 2 1\n" 1 0
+  -- what is no number, and numbers one too high
+  pub plus : Gets "vote 1 willing +5\n" 1 3
+  pub minus-alone : Gets "vote 1 willing -\n" 1 3
+  pub comma : Gets "vote 1 willing 1,000\n" 1 3
+  pub colon : Gets "order 1:\n" 1 1
+  pub f-too-high : Gets "lock 2 256\n" 1 2
+  pub order-too-high : Gets "order 4294967296\n" 1 1
+  pub target-too-high : Gets "vote 1 willing 2147483648\n" 1 3
+  -- of two records that do not read, the first, by its index and the question: a kind that is none, and one that breaks off
+  pub records : writeText (0x4C ∷ 0x45 ∷ 4 ∷ 1 ∷ 0 ∷ 0 ∷ 0 ∷ 0 ∷ 0 ∷ 0 ∷ 0x4C ∷ 0x45 ∷ 11 ∷ 1 ∷ 0 ∷ 0 ∷ 0 ∷ 0 ∷ 0 ∷ 0 ∷ 0x4C ∷ []) ≡ refused 1 3
+  pub short : writeText (0x4C ∷ []) ≡ refused 0 1
