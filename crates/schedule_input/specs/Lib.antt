@@ -1,5 +1,6 @@
 pub mod Input
 pub mod NothingLost
+pub mod Printed
 -- laws
 pub mod InputLaws
 pub mod Room
