@@ -178,7 +178,7 @@ fn read_text(bytes: &[u8]) -> Result<Vec<u8>, Unexpected> {
 }
 
 /// No text begins as records do, or has a control byte but tabs, newlines and returns.
-fn is_text(bytes: &[u8]) -> bool {
+pub fn is_text(bytes: &[u8]) -> bool {
     let begun = &Event::MARK[..bytes.len().min(2)];
     let begins = !bytes.is_empty() && bytes.starts_with(begun);
     !begins && bytes.iter().all(|byte| matches!(byte, 9 | 10 | 13 | 32..))

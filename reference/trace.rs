@@ -34,11 +34,11 @@ struct Trace {
     text: String,
 }
 
-/// The trace of a schedule in either form: records begin with their mark. A line of text that is no event is refused by
+/// The trace of a schedule in either form. A line of text that is no event is refused by
 /// itself; records that do not all read have no text, and so no trace.
 pub fn trace(schedule: &[u8]) -> Vec<u8> {
     let mut trace = Trace::default();
-    if !schedule.starts_with(&Event::MARK) {
+    if schedule_text::is_text(schedule) {
         return trace_text(trace, schedule);
     }
     if schedule.len() > MAX_SCHEDULE {

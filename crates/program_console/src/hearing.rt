@@ -5,6 +5,7 @@ use model::Act;
 use model::Event;
 use schedule_input::LONGEST_OUTPUT;
 use schedule_input::LONGEST_TEXT;
+use schedule_input::is_text;
 use schedule_input::render_text;
 use schedule_text::Turned;
 use schedule_text::read;
@@ -28,24 +29,18 @@ pub enum Heard {
     Unexpected(usize),
 }
 
-// What was read first: how many bytes of text lie in the buffer, and whether that is all there is to do.
+// What was read: how many bytes of text lie in the buffer, and whether there is nothing more to do.
 pub struct First {
     pub have: usize,
     pub over: bool,
 }
 
-// Where the line ends that begins at a place, how many bytes were read by then, and whether it is the last.
+// Where the line ends that begins at a place, how many bytes were read by then, whether it is the last, and whether reading failed before its end.
 pub struct Found {
     pub end: usize,
     pub have: usize,
     pub last: bool,
-}
-
-fn is_marked(s: &[u8]) -> bool {
-    if s.len() < 2 {
-        return false;
-    }
-    s[0] == 0x4C && s[1] == 0x45
+    pub over: bool,
 }
 
 // Records, all of them read, become their text at the buffer's front; what is refused is printed.
@@ -75,11 +70,17 @@ fn text_of(input: &mut [u8], have: usize) -> First
     }
 }
 
-// Of records all are read at once; of text nothing yet, or what comes first.
-pub fn first_lines(input: &mut [u8]) -> First
+// At a terminal nothing is read yet. Of anything else all is, so that its form can be told, and records become text.
+pub fn first_lines(input: &mut [u8], terminal: bool) -> First
     ensures { λ r. ⌜ r .have ≤ length (now (input .exit)) ⌝ }
 {
-    let got = read_some(&mut *input);
+    if terminal {
+        return First {
+            have: 0,
+            over: false,
+        };
+    }
+    let got = read_input(&mut *input);
     if got.failed {
         return First {
             have: 0,
@@ -87,38 +88,22 @@ pub fn first_lines(input: &mut [u8]) -> First
         };
     }
     let have = got.count;
-    if !is_marked(&input[..have]) {
+    if is_text(&input[..have]) {
         return First { have, over: false };
     }
-    let all = read_all(&mut *input, have);
-    if all < have {
-        return First {
-            have: 0,
-            over: true,
-        };
-    }
-    text_of(&mut *input, all)
+    text_of(&mut *input, have)
 }
 
-// Reads on to the input's end: how many bytes there are then; 0 if reading fails.
-fn read_all(input: &mut [u8], have: usize) -> usize
+// Reads on, once; a failure is told by the streams, and ends all.
+fn read_more(input: &mut [u8], have: usize) -> First
     requires { ⌜ have ≤ length (now input) ⌝ }
-    ensures { λ r. ⌜ r ≤ length (now (input .exit)) ⌝ }
-{
-    let more = read_input(&mut input[have..]);
-    if more.failed {
-        return 0;
-    }
-    have + more.count
-}
-
-// Reads on, once.
-fn read_more(input: &mut [u8], have: usize) -> usize
-    requires { ⌜ have ≤ length (now input) ⌝ }
-    ensures { λ r. ⌜ r ≤ length (now (input .exit)) ⌝ }
+    ensures { λ r. ⌜ r .have ≤ length (now (input .exit)) ⌝ }
 {
     let more = read_some(&mut input[have..]);
-    have + more.count
+    First {
+        have: have + more.count,
+        over: more.failed,
+    }
 }
 
 // Where the line ends that a place stands in.
@@ -138,6 +123,7 @@ pub fn next_line(input: &mut [u8], at: usize, have: usize) -> Found {
             end: at,
             have,
             last: true,
+            over: true,
         };
     }
     let mut have = have;
@@ -148,22 +134,26 @@ pub fn next_line(input: &mut [u8], at: usize, have: usize) -> Found {
                 end,
                 have,
                 last: false,
+                over: false,
             };
         }
         let more = read_more(&mut *input, have);
-        if more <= have {
+        let now = more.have;
+        if now <= have {
             return Found {
                 end,
                 have,
                 last: true,
+                over: more.over,
             };
         }
-        have = more;
+        have = now;
     }
     Found {
         end: have,
         have,
         last: true,
+        over: false,
     }
 }
 

@@ -58,7 +58,7 @@ fn main() {
     let terminal = is_terminal();
     greet(terminal);
     let mut input = [0u8; ROOM];
-    let first = first_lines(&mut input);
+    let first = first_lines(&mut input, terminal);
     if first.over {
         return;
     }
@@ -76,6 +76,9 @@ fn main() {
     // each line is one byte further on, so there are no more lines than bytes
     while at <= have {
         let found = next_line(&mut input, at, have);
+        if found.over {
+            return;
+        }
         have = found.have;
         let end = found.end;
         // one more than a text may have

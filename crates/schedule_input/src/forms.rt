@@ -49,7 +49,8 @@ fn has_control(s: &[u8]) -> bool
     false
 }
 
-fn is_text(s: &[u8]) -> bool
+// Not marked as records, and without control bytes.
+pub fn is_text(s: &[u8]) -> bool
     ensures { λ r. ⌜ r ≡ isText (now (s .entry)) ⌝ }
 {
     if marked(s) {

@@ -3,6 +3,7 @@ mod forms;
 mod output;
 mod refusals;
 
+pub use forms::is_text;
 pub use forms::records_in;
 pub use output::render_records;
 pub use output::render_text;

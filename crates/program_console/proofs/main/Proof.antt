@@ -45,20 +45,23 @@ slice-aggregate-next-line c = search needs
 next-line-requires : tie.Need-next-line-requires Inv-loop μ-loop
 next-line-requires c κs = search needs
 
+returns-3 : tie.Need-returns-3 Inv-loop μ-loop
+returns-3 c = search needs
+
 slice-aggregate-write-output : tie.Need-slice-aggregate-write-output Inv-loop μ-loop
 slice-aggregate-write-output c = search needs
 
 write-output-requires : tie.Need-write-output-requires Inv-loop μ-loop
 write-output-requires c κs = search needs
 
-returns-3 : tie.Need-returns-3 Inv-loop μ-loop
-returns-3 c = search needs
-
 returns-4 : tie.Need-returns-4 Inv-loop μ-loop
 returns-4 c = search needs
 
 returns-5 : tie.Need-returns-5 Inv-loop μ-loop
 returns-5 c = search needs
+
+returns-6 : tie.Need-returns-6 Inv-loop μ-loop
+returns-6 c = search needs
 
 slice-aggregate-hear : tie.Need-slice-aggregate-hear Inv-loop μ-loop
 slice-aggregate-hear c = search needs
@@ -69,11 +72,11 @@ hear-requires c κs = search needs
 place-before-requires : tie.Need-place-before-requires Inv-loop μ-loop
 place-before-requires c κs = search needs
 
-returns-6 : tie.Need-returns-6 Inv-loop μ-loop
-returns-6 c = search needs
-
 returns-7 : tie.Need-returns-7 Inv-loop μ-loop
 returns-7 c = search needs
+
+returns-8 : tie.Need-returns-8 Inv-loop μ-loop
+returns-8 c = search needs
 
 mul-past : tie.Need-mul-past Inv-loop μ-loop
 mul-past c = omega arith
@@ -108,8 +111,8 @@ slice-aggregate-tell c = search needs
 tell-requires : tie.Need-tell-requires Inv-loop μ-loop
 tell-requires c κs = search needs
 
-returns-8 : tie.Need-returns-8 Inv-loop μ-loop
-returns-8 c = search needs
+returns-9 : tie.Need-returns-9 Inv-loop μ-loop
+returns-9 c = search needs
 
 ring-after-requires : tie.Need-ring-after-requires Inv-loop μ-loop
 ring-after-requires c κs = search needs
@@ -117,26 +120,26 @@ ring-after-requires c κs = search needs
 count-after-requires : tie.Need-count-after-requires Inv-loop μ-loop
 count-after-requires c κs = search needs
 
-returns-9 : tie.Need-returns-9 Inv-loop μ-loop
-returns-9 c = search needs
+returns-10 : tie.Need-returns-10 Inv-loop μ-loop
+returns-10 c = search needs
 
 prompt-requires : tie.Need-prompt-requires Inv-loop μ-loop
 prompt-requires c κs = search needs
 
 add-at : tie.Need-add-at Inv-loop μ-loop
-add-at c = omega (arith, c .before .before .before .before .before .before .before .before .before .before .before .before .before .before .before .before .if5 .left, c .before .before .before .before .before .before .before .before .before .before .before .before .before .before .before .before .before .before .if3 .left)
+add-at c = omega (arith, c .before .before .before .before .before .before .before .before .before .before .before .before .before .before .before .before .if6 .left, c .before .before .before .before .before .before .before .before .before .before .before .before .before .before .before .before .before .before .if4 .left)
 
 add-line : tie.Need-add-line Inv-loop μ-loop
-add-line c = omega (arith, c .before .before .before .before .before .before .before .before .before .before .before .before .before .before .before .before .before .before .before .before .before .before .before .loop .inv .0, c .before .before .before .before .before .before .before .before .before .before .before .before .before .before .before .before .before .before .before .before .before .before .before .loop .inv .1, c .before .before .before .before .before .before .before .before .before .before .before .before .before .before .before .before .before .before .before .before .before .before .loop-test .taken)
+add-line c = omega (arith, c .before .before .before .before .before .before .before .before .before .before .before .before .before .before .before .before .before .before .before .before .before .before .before .before .loop .inv .0, c .before .before .before .before .before .before .before .before .before .before .before .before .before .before .before .before .before .before .before .before .before .before .before .before .loop .inv .1, c .before .before .before .before .before .before .before .before .before .before .before .before .before .before .before .before .before .before .before .before .before .before .before .loop-test .taken)
 
 loop-less : tie.Need-loop-less Inv-loop μ-loop
-loop-less c = omega (arith, c .before .before .before .before .before .before .before .before .before .before .before .before .before .before .before .before .before .if4 .left, c .before .before .before .before .before .before .before .before .before .before .before .before .before .before .before .before .before .before .before .before .before .before .loop-test .taken, c .before .before .before .before .before .before .before .before .before .before .before .before .before .before .before .before .before .before .before .before .before .before .before .loop .inv .0)
+loop-less c = omega (arith, c .before .before .before .before .before .before .before .before .before .before .before .before .before .before .before .before .before .if5 .left, c .before .before .before .before .before .before .before .before .before .before .before .before .before .before .before .before .before .before .before .before .before .before .before .loop-test .taken, c .before .before .before .before .before .before .before .before .before .before .before .before .before .before .before .before .before .before .before .before .before .before .before .before .loop .inv .0)
 
 loop-again : tie.Need-loop-again Inv-loop μ-loop
-loop-again c = (omega (arith, c .before .before .before .before .before .before .before .before .before .before .before .before .before .before .before .before .before .before .if3 .left), omega (arith, c .before .before .before .before .before .before .before .before .before .before .before .before .before .before .before .before .before .before .before .before .before .before .before .loop .inv .1, c .before .before .before .before .before .before .before .before .before .before .before .before .before .before .before .before .before .if4 .left), sym (slice-aggregate-tell (c .before .before .before .before .before .before)))
+loop-again c = (omega (arith, c .before .before .before .before .before .before .before .before .before .before .before .before .before .before .before .before .before .before .if4 .left), omega (arith, c .before .before .before .before .before .before .before .before .before .before .before .before .before .before .before .before .before .before .before .before .before .before .before .before .loop .inv .1, c .before .before .before .before .before .before .before .before .before .before .before .before .before .before .before .before .before .if5 .left), sym (slice-aggregate-tell (c .before .before .before .before .before .before)))
 
-returns-10 : tie.Need-returns-10 Inv-loop μ-loop
-returns-10 c = search needs
+returns-11 : tie.Need-returns-11 Inv-loop μ-loop
+returns-11 c = search needs
 
 pub main-spec : {M : Type 1} → statement M
 main-spec =
@@ -154,16 +157,17 @@ main-spec =
     loop-holds
     slice-aggregate-next-line
     next-line-requires
+    returns-3
     slice-aggregate-write-output
     write-output-requires
-    returns-3
     returns-4
     returns-5
+    returns-6
     slice-aggregate-hear
     hear-requires
     place-before-requires
-    returns-6
     returns-7
+    returns-8
     mul-past
     array-set-from-past
     mul-indices
@@ -175,13 +179,13 @@ main-spec =
     played-requires
     slice-aggregate-tell
     tell-requires
-    returns-8
+    returns-9
     ring-after-requires
     count-after-requires
-    returns-9
+    returns-10
     prompt-requires
     add-at
     add-line
     loop-less
     loop-again
-    returns-10)
+    returns-11)
