@@ -5,8 +5,8 @@
  * Every call answers 0, or the number of the first question that was answered "no" (docs/QUESTIONS.md of the
  * project; CABINET_OTHER_CARD is this library's own). What is refused changes nothing: neither the state nor a lent
  * buffer. Questions 1 to 3 are first asked of the state: is it CABINET_WORDS long, does it begin with the mark and
- * this version, and is every word as the library wrote it. Any change of one word, a turned bit among them, is
- * refused with 2 or 3. A telegram that is passed over (of another order, n or f, for another controller, at a wrong
+ * this version, and is every word as the library wrote it (cabinet_begin asks its length alone). Any change of one
+ * word, a turned bit among them, is refused with 2 or 3. A telegram that is passed over (of another order, n or f, for another controller, at a wrong
  * stage, or where the controller is stopped or stands by) is answered 0 and changes nothing; so is one of an order
  * that was not called here yet: sending again brings it. A call takes less than 8 KB of stack.
  *
