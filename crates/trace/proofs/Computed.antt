@@ -16,4 +16,4 @@ use Rattle.trace.specs.Examples.{ExamplesHold}
 
 pub examples : ExamplesHold
 unfolding questionWords belongs run pieces wordsOf digits decimal signed ballotFields eventFields fieldsOf rowOf fieldOf shownWord leftOut spaced pastAfter setBack answer done next summaryOf verdict toldOf lineText text when each sameRow unchanged changedRows changed sentTo sentOf sent newIn sentFrom sentIn inBallot ballotSent ballots wordPut put given told cameOf shown nextSession shownOf traceFrom wholeRun
-examples = record { listing-traced = refl; helped-traced = refl; ballot-traced = refl }
+examples = record { listing-traced = refl; helped-traced = refl; moved-traced = refl; ballot-traced = refl }

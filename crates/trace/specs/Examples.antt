@@ -50,6 +50,22 @@ pub record ExamplesHold : Type 0 where
       "9 0 accepted" ∷ "put 3 stay" ∷
       "10 0 accepted" ∷ "C 3 3 S 0" ∷ "given 3 stay" ∷
       "11 0 accepted" ∷ "undone 10" ∷ "C 3 3 - 0" ∷ [])
+  -- two telegrams of one event; a word put and given that is Move; a refused word, of which nothing is shown; a step back right after a refused event
+  pub moved-traced : Prints (map Play (Lock 3 2 false ∷ Order 1 ∷ Cast 1 true 10 ∷ Cast 2 true 20 ∷ Cast 3 true 30 ∷ Deliver 2 1 Vote ∷ Deliver 3 1 Vote ∷ Timeout 1 ∷ Timeout 1
+      ∷ Decide 1 false ∷ Decide 1 true ∷ Timeout 9 ∷ []) ++ (Back ∷ [])) (
+      "0 0 accepted" ∷ "C 1 0 - 0" ∷ "C 2 0 - 0" ∷ "C 3 0 - 0" ∷
+      "1 0 accepted" ∷
+      "2 0 accepted" ∷ "C 1 1 - 0" ∷ "sent vote 1 2" ∷ "sent vote 1 3" ∷
+      "3 0 accepted" ∷ "C 2 1 - 0" ∷ "sent vote 2 1" ∷ "sent vote 2 3" ∷
+      "4 0 accepted" ∷ "C 3 1 - 0" ∷ "sent vote 3 1" ∷ "sent vote 3 2" ∷
+      "5 0 accepted" ∷
+      "6 0 accepted" ∷
+      "7 0 accepted" ∷ "C 1 2 - 0" ∷ "sent acknowledgement 1 2" ∷ "sent acknowledgement 1 3" ∷
+      "8 0 accepted" ∷ "C 1 3 - 0" ∷ "put 1 move" ∷
+      "9 18 refused: Was that word put in this order, and no other given? Without an arbiter: has a ballot settled it?" ∷
+      "10 0 accepted" ∷ "C 1 3 M 10" ∷ "given 1 move" ∷
+      "11 7 refused: Are the controllers' numbers in 1 to n, sender and receiver different?" ∷
+      "12 0 accepted" ∷ "undone 10" ∷ "C 1 3 - 0" ∷ [])
   -- a lock without an arbiter: both put Stay, and ballot 1 settles it (README)
   pub ballot-traced : Prints (map Play (Lock 2 1 true ∷ Order 1 ∷ Cast 1 true 100 ∷ Cast 2 true 200 ∷ Timeout 1 ∷ Timeout 2 ∷ Timeout 1 ∷ Timeout 2
       ∷ OfBallots (Open 1 1) ∷ OfBallots (Carry 1 2 Prepare 1) ∷ OfBallots (Carry 2 1 Promise 1) ∷ OfBallots (Carry 1 2 Accept 1) ∷ Decide 1 false ∷ [])) (
