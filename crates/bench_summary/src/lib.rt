@@ -1,7 +1,7 @@
 // What a report shows of a bench.
-mod message_count;
 mod rows;
+mod sending;
 mod summary;
 
-pub use message_count::receivers;
+pub use sending::receivers;
 pub use summary::summary_of;

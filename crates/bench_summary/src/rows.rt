@@ -1,9 +1,7 @@
 // What a C line shows of a controller.
 ghost use mathlib.Core.Path.{_≡_};
-ghost use mathlib.Core.List.{map};
 ghost use Rattle.bench_summary.specs.Summary.{rowIn, rowOf};
 use bench_report::Row;
-use ground::LIMIT;
 use model::Outcome;
 use protocol::Condition;
 use protocol::Station;
@@ -34,30 +32,11 @@ fn row_in(condition: Condition, position: u32) -> Row
     }
 }
 
-fn row_of(s: Station) -> Row
+pub(crate) fn row_of(s: Station) -> Row
     ensures { λ r. ⌜ r ≡ rowOf s ⌝ }
 {
     let c = s.controller;
     let condition = c.condition;
     let position = c.gate.position;
     row_in(condition, position)
-}
-
-// A row for each station.
-pub(crate) fn rows_of(stations: [Station; LIMIT]) -> [Row; LIMIT]
-    ensures { λ r. ⌜ r ≡ map rowOf stations ⌝ }
-{
-    let blank = Row {
-        stage: 0,
-        outcome: Outcome::None,
-        position: 0,
-    };
-    let mut rows = [blank; LIMIT];
-    let mut i: usize = 0;
-    while i < LIMIT {
-        let s = stations[i];
-        rows[i] = row_of(s);
-        i += 1;
-    }
-    rows
 }

@@ -1,8 +1,8 @@
--- `bench_summary::message_count::receivers_at` meets its contract.
+-- `bench_summary::sending::receivers_at` meets its contract.
 use borrow.Author.Needs.{needs}
 use borrow.Author.Tests.{lt-ltb, le-ltb}
-use Rattle.bench_summary.proofs.message_count.receivers_at.Statement.{statement}
-use Rattle.bench_summary.proofs.message_count.receivers_at.Tie as tie
+use Rattle.bench_summary.proofs.sending.receivers_at.Statement.{statement}
+use Rattle.bench_summary.proofs.sending.receivers_at.Tie as tie
 
 receivers-requires : tie.Need-receivers-requires
 receivers-requires c κs = search needs
