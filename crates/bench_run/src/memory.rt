@@ -3,6 +3,7 @@
 use crate::Next;
 use crate::Pause;
 use event_record::ReadEvent;
+use event_record::answer_of;
 use model::Act;
 use model::Event;
 use protocol::Bench;
@@ -72,12 +73,12 @@ pub(crate) fn is_pending(remembers: bool, noted: usize, k: usize) -> bool
 fn next_of(read: ReadEvent) -> Next
     ensures { λ r. ⌜ r ≡ nextOf read ⌝ }
 {
-    match read {
-        ReadEvent::Refused(q) => Next::Other(Pause::Refused(q)),
-        ReadEvent::Read(act) => match act {
-            Act::Play(e) => Next::Play(e),
-            Act::Back => Next::Other(Pause::Back),
-        },
+    let ReadEvent::Read(act) = read else {
+        return Next::Other(Pause::Refused(answer_of(read)));
+    };
+    match act {
+        Act::Play(e) => Next::Play(e),
+        Act::Back => Next::Other(Pause::Back),
     }
 }
 

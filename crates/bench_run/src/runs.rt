@@ -155,23 +155,6 @@ fn locked(m: Shared, n: u8, f: u8, own: bool) -> Shared
     }
 }
 
-// The bench of these parts.
-fn bench_of(
-    shared: Shared,
-    stations: [Station; LIMIT],
-    acceptors: [Acceptor; LIMIT],
-    rows: [BallotRow; BALLOTS],
-) -> Bench
-    ensures { λ r. ⌜ r ≡ record { shared = shared; ballots = record { acceptors = acceptors; rows = rows }; stations = stations } ⌝ }
-{
-    let ballots = Ballots { acceptors, rows };
-    Bench {
-        shared,
-        ballots,
-        stations,
-    }
-}
-
 // Plays what stands from a place of the schedule on. The bench lies in this function's own variables: an event's questions are asked first, and one that
 // is accepted changes one station where it lies. Of an event of ballots the turn asks too, and leaves the acceptor and the row as they are where it is refused.
 // At a lock with an arbiter the ballots stay new.
@@ -186,7 +169,12 @@ fn run_from(s: &[u8], from: usize, answers: &mut [u8]) -> RunResult
     }
     let mut acceptors = [new_acceptor(); LIMIT];
     let mut rows = [new_row(); BALLOTS];
-    let mut even = bench_of(m, stations, acceptors, rows);
+    let ballots = Ballots { acceptors, rows };
+    let mut even = Bench {
+        shared: m,
+        ballots,
+        stations,
+    };
     let mut odd = even;
     let mut ring = [0usize; RING];
     let mut remembers = looks_back(s, from);
@@ -234,12 +222,20 @@ fn run_from(s: &[u8], from: usize, answers: &mut [u8]) -> RunResult
                     if left % PAGE != 0 {
                         continue;
                     }
-                    let now = bench_of(m, stations, acceptors, rows);
+                    let ballots = Ballots { acceptors, rows };
                     if left % RING < PAGE {
-                        even = now;
+                        even = Bench {
+                            shared: m,
+                            ballots,
+                            stations,
+                        };
                         continue;
                     }
-                    odd = now;
+                    odd = Bench {
+                        shared: m,
+                        ballots,
+                        stations,
+                    };
                 }
             },
             Next::Play(e) => match e {

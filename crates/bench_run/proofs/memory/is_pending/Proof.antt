@@ -11,9 +11,5 @@ use Rattle.bench_run.proofs.memory.is_pending.Lts as lts
 returns : tie.Need-returns
 returns c = rw (c .if1 .taken) refl
 
--- src/memory.rt:36:1
-returns-2 : tie.Need-returns-2
-returns-2 c = search needs
-
 pub is-pending-spec : {M : Type 1} → statement M
-is-pending-spec = tie.close (tie.spec returns returns-2)
+is-pending-spec = tie.close (tie.spec returns (λ c. search needs))

@@ -13,18 +13,10 @@ returns : tie.Need-returns
 unfolding nextAt
 returns c = rw (c .if1 .taken) refl
 
--- src/memory.rt:61:13
-record-at-requires : tie.Need-record-at-requires
-record-at-requires c κs = search needs
-
--- src/memory.rt:61:5
-next-of-requires : tie.Need-next-of-requires
-next-of-requires c κs = search needs
-
 -- src/memory.rt:55:1
 returns-2 : tie.Need-returns-2
 unfolding nextAt
 returns-2 c = rw (c .before .before .if1 .left) (c .next-of .ensures ∙ ap nextOf (c .before .record-at .ensures))
 
 pub next-at-spec : {M : Type 1} → statement M
-next-at-spec = tie.close (tie.spec returns record-at-requires next-of-requires returns-2)
+next-at-spec = tie.close (tie.spec returns (λ c κs. search needs) (λ c κs. search needs) returns-2)

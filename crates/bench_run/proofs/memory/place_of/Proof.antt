@@ -19,14 +19,8 @@ returns c = let x = c .before .args in elim (split (ltb (x .k) (x .noted))) [
   | inr y ↦ rw y refl
 ]
 
-sub-i : tie.Need-sub-i
-sub-i c = search needs
-
 sub-i-2 : tie.Need-sub-i-2
 sub-i-2 c = omega (arith, c .before .before .pre .1 (c .if2 .taken) .1)
-
-mul-result : tie.Need-mul-result
-mul-result c = search needs
 
 shared-slice-read-result : tie.Need-shared-slice-read-result
 shared-slice-read-result c = omega (arith, c .before .before .before .pre .0)
@@ -41,4 +35,4 @@ returns-3 c = rw (le-ltb _ _ (c .if2 .left)) refl
 
 pub place-of-spec : {M : Type 1} → statement M
 place-of-spec =
-    tie.close (tie.spec returns sub-i sub-i-2 mul-result shared-slice-read-result returns-2 returns-3)
+    tie.close (tie.spec returns (λ c. search needs) sub-i-2 (λ c. search needs) shared-slice-read-result returns-2 returns-3)

@@ -12,10 +12,6 @@ returns : tie.Need-returns
 unfolding remembered
 returns c = rw (eq-eqb _ 0 (c .if1 .taken)) refl
 
--- src/memory.rt:72:16
-add-result : tie.Need-add-result
-add-result c = search needs
-
 -- src/memory.rt:72:9
 returns-2 : tie.Need-returns-2
 unfolding remembered
@@ -27,4 +23,4 @@ unfolding remembered
 returns-3 c = rw (ne-eqb _ 0 (c .before .if1 .left), le-ltb _ 64 (c .if2 .left)) refl
 
 pub remembered-spec : {M : Type 1} → statement M
-remembered-spec = tie.close (tie.spec returns add-result returns-2 returns-3)
+remembered-spec = tie.close (tie.spec returns (λ c. search needs) returns-2 returns-3)

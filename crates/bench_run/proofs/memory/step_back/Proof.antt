@@ -13,10 +13,6 @@ use Rattle.bench_run.proofs.memory.step_back.Lts as lts
 returns : tie.Need-returns
 returns c = record { first = λ f. (refl, refl, refl, refl, refl); asked = λ o. absurd (false≢true (sym (not-true _ (c .if1 .taken)) ∙ o)); refused = λ o. absurd (false≢true (sym (not-true _ (c .if1 .taken)) ∙ o)); taken = λ o. absurd (false≢true (sym (not-true _ (c .if1 .taken)) ∙ o)) }
 
--- src/memory.rt:120:9
-back-question-requires : tie.Need-back-question-requires
-back-question-requires c κs = search needs
-
 -- src/memory.rt:125:20
 sub-t8 : tie.Need-sub-t8
 sub-t8 c = omega (arith, c .before .before .before .pre .0)
@@ -50,7 +46,7 @@ step-back-spec =
     tie.close
     (tie.spec
     returns
-    back-question-requires
+    (λ c κs. search needs)
     sub-t8
     returns-2
     sub-t9

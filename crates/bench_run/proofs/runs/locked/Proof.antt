@@ -2,11 +2,8 @@ use borrow.Author.Needs.{needs}
 use Rattle.bench_run.proofs.runs.locked.Statement.{statement}
 use Rattle.bench_run.proofs.runs.locked.Tie as tie
 
-all-undecided-requires : tie.Need-all-undecided-requires
-all-undecided-requires c κs = search needs
-
 returns : tie.Need-returns
 returns c = simp (c .before .all-undecided .ensures)
 
 pub locked-spec : {M : Type 1} → statement M
-locked-spec = tie.close (tie.spec all-undecided-requires returns)
+locked-spec = tie.close (tie.spec (λ c κs. search needs) returns)
