@@ -25,8 +25,8 @@ use Rattle.protocol.specs.Benches.{newBench, benchOf}
 use Rattle.protocol.specs.Questions.{reply}
 use Rattle.protocol.specs.Steps.{perform, step, run}
 use Rattle.protocol.specs.Claim.{after}
-use Rattle.protocol.proofs.claim.Moments.{step-locked, lock-refused}
-use Rattle.protocol.proofs.claim.Start.{unlocked}
+use Rattle.protocol.proofs.lists.Moments.{step-locked, lock-refused}
+use Rattle.protocol.proofs.lists.Start.{unlocked}
 use Rattle.steps_back.specs.Memory.{Remembering, newRemembering, canBeUndone, mostRemembered, pastAfter, isSome, backReply, answer, done, next, runActs, withoutLast, leftBy, leftFrom, left}
 use Rattle.steps_back.specs.Claim.{at, bench, remembers}
 use Rattle.steps_back.proofs.Theorem.{without-snoc, run-snoc, Found, find, inv, left-taken, at-taken, left-refused, at-refused}

@@ -29,9 +29,9 @@ use Rattle.protocol.specs.Claim.{after}
 use Rattle.protocol.proofs.view.View.{View, accepts, ask-l, ask-r}
 use Rattle.protocol.proofs.view.Performed.{stepV}
 use Rattle.protocol.proofs.view.Simulation.{view, Sound, Runs, Steps, reply-untested, reply-sim, step-steps, step-sim}
-use Rattle.protocol.proofs.claim.Start.{unlocked, idle, freshes, lock-sound}
-use Rattle.protocol.proofs.claim.Reach.{Reached, JustLocked, new-step, reached}
-use Rattle.protocol.proofs.claim.Reached.{reach}
+use Rattle.protocol.proofs.lists.Start.{unlocked, idle, freshes, lock-sound}
+use Rattle.protocol.proofs.lists.Reach.{Reached, JustLocked, new-step, reached}
+use Rattle.protocol.proofs.ranges.Reached.{reach}
 use Rattle.early_calls.specs.Document01.{isEarly, step01, run01, isSecondTimeout, keptCalls, onceMore, lengthened, withCallers, withoutKept, SameButKept, AsDocument01}
 use Rattle.early_calls.proofs.Rules.{by-equal, alike}
 use Rattle.early_calls.proofs.Views.{forgetV, step-forget, call-forget, earlyV, stepV01, runV01, MayCome, timeout-forget}

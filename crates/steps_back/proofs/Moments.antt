@@ -20,7 +20,7 @@ use Rattle.steps_back.specs.Memory.{Remembering, newRemembering, canBeUn
 use Rattle.steps_back.specs.Claim.{at, bench, remembers, Accepted, NoLock, Came, Undoes}
 use Rattle.model.specs.declared.Act.{Act}
 use Rattle.model.specs.declared.Act.the-variants.{Play, Back}
-use Rattle.protocol.proofs.claim.Moments.{step-locked}
+use Rattle.protocol.proofs.lists.Moments.{step-locked}
 use Rattle.steps_back.proofs.Theorem.{without-snoc, run-snoc, Found, found, find, inv, left-taken, at-taken, left-refused, at-refused}
 
 -- where an element of a list with one more at its end stands: it is that one, or it stands in the list

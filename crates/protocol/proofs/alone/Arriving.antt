@@ -26,7 +26,7 @@ use Rattle.protocol.specs.Calls.{arrives, contradictsHeld, tested, recei
 use Rattle.protocol.specs.Strays.{own, answers, ack, Comes, untested}
 use Rattle.protocol.proofs.view.RuleCases.{vote-cases, ack-cases, helped-cases, help-cases, sufficient-cases}
 use Rattle.protocol.proofs.view.Held.{found-held}
-use Rattle.protocol.proofs.claim.Strayed.{asked, comes-is, small-of, unknown}
+use Rattle.protocol.proofs.strays.Strayed.{asked, comes-is, small-of, unknown}
 use Rattle.protocol.proofs.alone.Telling.{told-or, or-tells, Extended, extended}
 use Rattle.protocol.proofs.alone.Sound.{Sound, Leaves, passed-leaves, put-sound, called-sound, kept-sound, joined-sound}
 

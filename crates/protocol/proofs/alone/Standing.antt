@@ -32,7 +32,7 @@ use Rattle.protocol.specs.Strays.{untested, MayVote}
 use Rattle.protocol.specs.Alone.{Call, voting, receiving, timing-out, deciding, stopping, restoring, renewing, Cabinet, inOrder, called, calledAll, clears, noneClears}
 use Rattle.protocol.proofs.view.RuleCases.{vote-cases, ack-cases, helped-cases, help-cases, sufficient-cases, second-cases}
 use Rattle.protocol.proofs.invariant.Words.{noting-phase}
-use Rattle.protocol.proofs.claim.Strayed.{strays}
+use Rattle.protocol.proofs.strays.Strayed.{strays}
 use Rattle.protocol.proofs.alone.Sound.{Sound}
 use Rattle.protocol.proofs.alone.Voting.{own-free, stage, known-is, willing-is}
 

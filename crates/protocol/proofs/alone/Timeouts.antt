@@ -21,7 +21,7 @@ use Rattle.protocol.specs.Rules.{proposing, countOwn, firstTimeout, ackJ
 use Rattle.protocol.specs.Calls.{validIdentity, timeout}
 use Rattle.protocol.specs.NoContradiction.{acksUnion}
 use Rattle.protocol.proofs.view.RuleCases.{second-cases}
-use Rattle.protocol.proofs.claim.Strayed.{small-of}
+use Rattle.protocol.proofs.strays.Strayed.{small-of}
 use Rattle.protocol.proofs.alone.Telling.{Tells, union-tells, told-or, all-tell, all-told}
 use Rattle.protocol.proofs.alone.Sound.{Sound, Leaves, passed-leaves, put-sound, concluded-sound, kept-sound, joined-sound, counted-leaves, place-of}
 

@@ -24,8 +24,8 @@ use Rattle.protocol.specs.Controllers.{runs, phase, hasAck, ackOf, advan
 use Rattle.protocol.specs.Rules.{voteRule}
 use Rattle.protocol.specs.Calls.{validIdentity}
 use Rattle.protocol.specs.Strays.{MayVote}
-use Rattle.protocol.proofs.claim.Dropped.{sets-kept, drops, drop-only, drop-counted}
-use Rattle.protocol.proofs.claim.Strayed.{small-of}
+use Rattle.protocol.proofs.strays.Dropped.{sets-kept, drops, drop-only, drop-counted}
+use Rattle.protocol.proofs.strays.Strayed.{small-of}
 use Rattle.protocol.proofs.alone.Telling.{Tells, or-tells, Extended, extended}
 use Rattle.protocol.proofs.alone.Sound.{Counted, Sound, place-of}
 

@@ -34,10 +34,10 @@ use Rattle.protocol.proofs.clean.Log as steps
 use Rattle.protocol.proofs.clean.Steps.{CleanOrder, clean-by-steps, clean-log, second-is}
 use Rattle.protocol.proofs.clean.Parts.{clean-decides, Decides}
 use Rattle.protocol.proofs.view.Simulation.{view, Sound, Steps, Runs, reply-sim, step-steps, step-sim, run-sim}
-use Rattle.protocol.proofs.claim.Moments.{accepted-is, push, logOf, logAt, append-assoc, run-append, run-one, run-cons, log-append, in-order, in-log}
-use Rattle.protocol.proofs.claim.OrderNumbers.{same-number, number-same}
+use Rattle.protocol.proofs.lists.Moments.{accepted-is, push, logOf, logAt, append-assoc, run-append, run-one, run-cons, log-append, in-order, in-log}
+use Rattle.protocol.proofs.lists.OrderNumbers.{same-number, number-same}
 use Rattle.protocol.proofs.claim.Bound.{sent-bound}
-use Rattle.protocol.proofs.claim.Start.{Opened, start, lock-sound, lock-inv, lock-good, lock-unvoted, new-holds, new-still}
+use Rattle.protocol.proofs.lists.Start.{Opened, start, lock-sound, lock-inv, lock-good, lock-unvoted, new-holds, new-still}
 
 vrun-one : (n f : ℕ) (e : Event) (b : View) → runV n f b (e ∷ []) ≡ stepV n f b e
 unfolding runV

@@ -8,7 +8,7 @@ use Rattle.protocol.specs.Claim.{InOrder}
 use Rattle.protocol.specs.Claim as claim
 use Rattle.protocol.proofs.clean.Log.{Voted, VotesIn, AcksIn, CleanStep, Clean}
 use Rattle.protocol.proofs.clean.Steps.{second-is}
-use Rattle.protocol.proofs.claim.Moments.{logAt, Enters, in-order, Stands, stands}
+use Rattle.protocol.proofs.lists.Moments.{logAt, Enters, in-order, Stands, stands}
 
 module _ (n f : ℕ) where
   clean-at : (e : Event) (earlier later : List Event) → Clean n f (later ++ (e ∷ earlier)) → CleanStep n f e earlier

@@ -27,7 +27,7 @@ use Rattle.protocol.proofs.view.Simulation.{view}
 use Rattle.protocol.proofs.clean.Log.{In, Second}
 use Rattle.protocol.proofs.clean.Log as steps
 use Rattle.protocol.proofs.clean.Steps.{log-second}
-use Rattle.protocol.proofs.claim.Moments.{run-append, run-one, in-order, in-log}
+use Rattle.protocol.proofs.lists.Moments.{run-append, run-one, in-order, in-log}
 use Rattle.protocol.proofs.clean.Back.{clean-order}
 use Rattle.protocol.proofs.clean.Schedule.{ending, ending-second, ending-clean, next-clean, ending-cast, ending-as}
 use Rattle.protocol.proofs.clean.Reached.{Reached, log-one, one-later, answers, performs}

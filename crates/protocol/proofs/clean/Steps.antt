@@ -10,7 +10,7 @@ use Rattle.model.specs.declared.Event.the-variants.{Lock, Order, Cast, Deliver,
 use Rattle.protocol.specs.Claim.{IsSecondTimeout, CastBy}
 use Rattle.protocol.specs.Claim as claim
 use Rattle.protocol.proofs.clean.Log.{NotTimeout, In, Voted, VotesIn, AcksIn, Second, CleanStep, Clean}
-use Rattle.protocol.proofs.claim.Moments.{logAt, same-head, same-tail, nil-split, Placed, placed, in-order, Stands, stands, in-log}
+use Rattle.protocol.proofs.lists.Moments.{logAt, same-head, same-tail, nil-split, Placed, placed, in-order, Stands, stands, in-log}
 
 record IsTimeout (e : Event) : Type 0 where
   at : ℕ

@@ -44,7 +44,7 @@ use Rattle.protocol.proofs.invariant.Invariant.{Inv}
 use Rattle.protocol.proofs.invariant.Words.{none-word}
 use Rattle.protocol.proofs.invariant.Decisions.{Blank, renew-blank}
 use Rattle.protocol.proofs.invariant.Orders.{step-next, next-inv}
-use Rattle.protocol.proofs.claim.Sends.{sent-more}
+use Rattle.protocol.proofs.counting.Sends.{sent-more}
 use Rattle.protocol.proofs.clean.Log.{In, VotesIn, AcksIn, CleanStep, Clean, entered, pushV, logV}
 use Rattle.protocol.proofs.clean.Steps.{votes-more, acks-more}
 use Rattle.protocol.proofs.clean.Parts.{Good, step-good, Final, final}

@@ -43,7 +43,7 @@ use Rattle.protocol.proofs.invariant.SecondTimeout.{beyond}
 use Rattle.protocol.proofs.invariant.Decisions.{Blank, renew-blank}
 use Rattle.protocol.proofs.clean.Kept.{stopped-idle}
 use Rattle.protocol.proofs.clean.Log.{entered}
-use Rattle.protocol.proofs.claim.Sends.{sent-more}
+use Rattle.protocol.proofs.counting.Sends.{sent-more}
 use Rattle.protocol.proofs.hearing.Listening.{came-more, Listening, Follows, listening-on, listening-other}
 use Rattle.protocol.proofs.hearing.RuleSteps.{vote-follows, vote-in-follows, ack-in-follows, helped-in-follows, help-in-follows, decide-follows, first-follows, second-follows}
 

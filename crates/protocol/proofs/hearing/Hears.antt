@@ -28,8 +28,8 @@ use Rattle.protocol.specs.Termination.{RunsAt, WasGiven, Premise, few-do
 use Rattle.protocol.proofs.view.Simulation.{view}
 use Rattle.protocol.proofs.invariant.Invariant.{Own}
 use Rattle.protocol.proofs.clean.Log.{In}
-use Rattle.protocol.proofs.claim.Moments.{logAt, in-log}
-use Rattle.protocol.proofs.claim.Start.{start}
+use Rattle.protocol.proofs.lists.Moments.{logAt, in-log}
+use Rattle.protocol.proofs.lists.Start.{start}
 use Rattle.protocol.proofs.hearing.Counts.{count-cover, count-both}
 use Rattle.protocol.proofs.hearing.Listening.{Listening}
 use Rattle.protocol.proofs.hearing.Moments.{HeardAt, heard-at}

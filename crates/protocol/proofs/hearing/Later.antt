@@ -37,8 +37,8 @@ use Rattle.protocol.proofs.clean.Log.{In}
 use Rattle.protocol.proofs.clean.Kept.{PhaseMove, stays, times-out, voted, KeptAll, Goes, perform-tame}
 use Rattle.protocol.proofs.clean.Parts.{perform-order}
 use Rattle.protocol.proofs.clean.Reached.{log-one}
-use Rattle.protocol.proofs.claim.Moments.{logAt, Enters, entry-of, append-assoc, run-append, run-one}
-use Rattle.protocol.proofs.claim.Sends.{sent-more}
+use Rattle.protocol.proofs.lists.Moments.{logAt, Enters, entry-of, append-assoc, run-append, run-one}
+use Rattle.protocol.proofs.counting.Sends.{sent-more}
 use Rattle.protocol.proofs.hearing.Events.{Heard, perform-heard}
 
 abbrev pub viewAt : List Event → View

@@ -40,7 +40,7 @@ use Rattle.protocol.proofs.view.Simulation.{view, Runs, run-sim}
 use Rattle.protocol.proofs.invariant.Decisions.{Blank}
 use Rattle.protocol.proofs.clean.Log.{In}
 use Rattle.protocol.proofs.clean.Kept.{stopped-idle}
-use Rattle.protocol.proofs.claim.Moments.{logAt, append-assoc, run-append, run-one}
+use Rattle.protocol.proofs.lists.Moments.{logAt, append-assoc, run-append, run-one}
 use Rattle.protocol.proofs.hearing.Counts.{count-first}
 use Rattle.protocol.proofs.hearing.RuleSteps.{counted}
 use Rattle.protocol.proofs.hearing.Hears.{hears}

@@ -26,9 +26,9 @@ use Rattle.protocol.proofs.view.Performed.{stepV}
 use Rattle.protocol.proofs.view.Simulation.{view, Sound, Steps, step-steps, reply-sim, step-sim}
 use Rattle.protocol.proofs.invariant.Words.{none-word}
 use Rattle.protocol.proofs.invariant.Decisions.{Blank}
-use Rattle.protocol.proofs.claim.Moments.{push, logOf, logAt}
-use Rattle.protocol.proofs.claim.Start.{Opened, all-of-copies, freshes}
-use Rattle.protocol.proofs.claim.Reach.{locked-sound}
+use Rattle.protocol.proofs.lists.Moments.{push, logOf, logAt}
+use Rattle.protocol.proofs.lists.Start.{Opened, all-of-copies, freshes}
+use Rattle.protocol.proofs.lists.Reach.{locked-sound}
 use Rattle.protocol.proofs.hearing.Events.{Heard, perform-heard}
 
 pub record HeardAt (b : Bench) (log : List Event) : Type 0 where

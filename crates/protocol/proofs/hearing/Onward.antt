@@ -51,10 +51,10 @@ use Rattle.protocol.proofs.view.Simulation.{view}
 use Rattle.protocol.proofs.invariant.Orders.{not-both}
 use Rattle.protocol.proofs.clean.Log.{In}
 use Rattle.protocol.proofs.clean.Added.{NewVote, NewTimeout, perform-new, second-reaches, reached-after}
-use Rattle.protocol.proofs.claim.Moments.{logAt, run-append, in-order}
-use Rattle.protocol.proofs.claim.OrderNumbers.{number-same}
-use Rattle.protocol.proofs.claim.Start.{start}
-use Rattle.protocol.proofs.claim.Reached.{reach}
+use Rattle.protocol.proofs.lists.Moments.{logAt, run-append, in-order}
+use Rattle.protocol.proofs.lists.OrderNumbers.{number-same}
+use Rattle.protocol.proofs.lists.Start.{start}
+use Rattle.protocol.proofs.ranges.Reached.{reach}
 use Rattle.protocol.proofs.hearing.Moments.{HeardAt, heard-at}
 use Rattle.protocol.proofs.hearing.Hears.{stage-is}
 use Rattle.protocol.proofs.hearing.Later.{viewAt, Acts, Moment, performs, logs, Later, later-refl, later-trans, other, later-one, commit-calm}

@@ -21,8 +21,8 @@ use Rattle.protocol.proofs.view.Simulation.{view, step-steps}
 use Rattle.protocol.proofs.invariant.Invariant.{Inv}
 use Rattle.protocol.proofs.invariant.Decisions.{Blank, renew-blank}
 use Rattle.protocol.proofs.clean.Reached.{begins, shows, fresh-going}
-use Rattle.protocol.proofs.claim.Moments.{logAt}
-use Rattle.protocol.proofs.claim.Start.{start, lock-sound}
+use Rattle.protocol.proofs.lists.Moments.{logAt}
+use Rattle.protocol.proofs.lists.Start.{start, lock-sound}
 use Rattle.protocol.proofs.hearing.Events.{Heard}
 use Rattle.protocol.proofs.hearing.Moments.{HeardAt, heard-at}
 use Rattle.protocol.proofs.hearing.Later.{viewAt, Moment}

@@ -28,8 +28,8 @@ use Rattle.protocol.specs.Claim.{after}
 use Rattle.protocol.specs.Reach.{messageAt}
 use Rattle.protocol.specs.Termination.{RunsAt, down, WasGiven, Premise, few-down, at-stage-3, delivered, answered, Meets}
 use Rattle.protocol.proofs.clean.Log.{In}
-use Rattle.protocol.proofs.claim.Moments.{logAt, in-order, in-log}
-use Rattle.protocol.proofs.claim.Reached.{reach}
+use Rattle.protocol.proofs.lists.Moments.{logAt, in-order, in-log}
+use Rattle.protocol.proofs.ranges.Reached.{reach}
 
 -- is an event this delivery; is it an answer of the arbiter to i
 abbrev isDelivery : ℕ → ℕ → Kind → Event → Bool

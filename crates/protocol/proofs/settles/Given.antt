@@ -37,9 +37,9 @@ use Rattle.protocol.proofs.view.Simulation.{view}
 use Rattle.protocol.proofs.invariant.Orders.{not-both}
 use Rattle.protocol.proofs.invariant.Words.{some-word}
 use Rattle.protocol.proofs.clean.Log.{In}
-use Rattle.protocol.proofs.claim.Moments.{logAt, in-order}
-use Rattle.protocol.proofs.claim.Reached.{reach}
-use Rattle.protocol.proofs.claim.Chosen.{ballots-agree}
+use Rattle.protocol.proofs.lists.Moments.{logAt, in-order}
+use Rattle.protocol.proofs.ranges.Reached.{reach}
+use Rattle.protocol.proofs.paxos.Chosen.{ballots-agree}
 use Rattle.protocol.proofs.claim.Theorem.{demand-3}
 use Rattle.protocol.proofs.paxos.Invariant.{IsPut}
 use Rattle.protocol.proofs.paxos.Order.{passes-18}

@@ -36,8 +36,8 @@ use Rattle.protocol.proofs.view.Performed.{Clear, answerV, ruleAnswer, 
 use Rattle.protocol.proofs.view.Refusals.{arrives-unrefused}
 use Rattle.protocol.proofs.invariant.Invariant.{Inv}
 use Rattle.protocol.proofs.invariant.Orders.{step-next, next-inv}
-use Rattle.protocol.proofs.claim.Ranges.{Given, AllIn, step-in}
-use Rattle.protocol.proofs.claim.Clear.{clear}
+use Rattle.protocol.proofs.ranges.Ranges.{Given, AllIn, step-in}
+use Rattle.protocol.proofs.contradictions.Clear.{clear}
 use Rattle.protocol.proofs.paxos.Order.{Balloted, passes-18, step-balloted}
 
 unfoldable pub view : Bench → View

@@ -45,7 +45,7 @@ use Rattle.protocol.proofs.invariant.Invariant.{votedBy, Truthful, Inv}
 use Rattle.protocol.proofs.invariant.Words.{noting-phase}
 use Rattle.protocol.proofs.invariant.TrueVotes.{union-ok}
 use Rattle.protocol.proofs.invariant.Waiting.{acks-true, help-is}
-use Rattle.protocol.proofs.claim.Sends.{sent-more}
+use Rattle.protocol.proofs.counting.Sends.{sent-more}
 
 -- willing lies within known
 abbrev pub WithinSet : VoteSet → Type 0

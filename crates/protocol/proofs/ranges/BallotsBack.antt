@@ -25,7 +25,7 @@ use Rattle.protocol.specs.Reach.{lastIn, wordIn, ballotAt, WasSentInBall
 use Rattle.protocol.proofs.view.Simulation.{view, Sound}
 use Rattle.protocol.proofs.paxos.Invariant.{IsPut, PromiseSound}
 use Rattle.protocol.proofs.paxos.Order.{Balloted}
-use Rattle.protocol.proofs.claim.Reach.{Reached}
+use Rattle.protocol.proofs.lists.Reach.{Reached}
 
 module _ (b : Bench) (a : Sound b) (i j ballot : ℕ) where
   -- a word is told

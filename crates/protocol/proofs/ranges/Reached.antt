@@ -47,12 +47,12 @@ use Rattle.protocol.proofs.view.Performed.{stepV}
 use Rattle.protocol.proofs.view.Simulation.{view, Sound, Any, Steps, step-steps, step-sim}
 use Rattle.protocol.proofs.invariant.Invariant.{HeldAck}
 use Rattle.protocol.proofs.invariant.Decisions.{Blank}
-use Rattle.protocol.proofs.claim.Start.{never-saved, fresh-in, freshes}
-use Rattle.protocol.proofs.claim.Counted.{unsent-kind}
-use Rattle.protocol.proofs.claim.BallotsBack.{ballot-passes}
-use Rattle.protocol.proofs.claim.Reach.{Reached, JustLocked, new-step, step-reached, reached}
-use Rattle.protocol.proofs.claim.Clear.{within-of, suits-sent}
-use Rattle.protocol.proofs.claim.Ranges.{Given, SentIn, SavedIn, AllIn, step-in}
+use Rattle.protocol.proofs.lists.Start.{never-saved, fresh-in, freshes}
+use Rattle.protocol.proofs.counting.Counted.{unsent-kind}
+use Rattle.protocol.proofs.ranges.BallotsBack.{ballot-passes}
+use Rattle.protocol.proofs.lists.Reach.{Reached, JustLocked, new-step, step-reached, reached}
+use Rattle.protocol.proofs.contradictions.Clear.{within-of, suits-sent}
+use Rattle.protocol.proofs.ranges.Ranges.{Given, SentIn, SavedIn, AllIn, step-in}
 
 -- in range, of every bench that a list leads to, where each accepted event of the list brings what is in range
 module _ (G H : ℕ → Type 0) (g0 : G 0) (h0 : H 0) where

@@ -14,7 +14,7 @@ use Rattle.protocol.specs.Questions.{isAccepted, firstNo, reply}
 use Rattle.protocol.specs.Steps.{orderOpened, proposedTo, decidedAs, answering, effectOf, perform, step, run}
 use Rattle.protocol.specs.Claim.{opensOrder, opensAny}
 use Rattle.protocol.proofs.view.View.{ask-l, ask-r}
-use Rattle.protocol.proofs.claim.Moments.{step-locked, lock-refused}
+use Rattle.protocol.proofs.lists.Moments.{step-locked, lock-refused}
 
 -- an accepted event goes on with the order, or opens a later one
 record Goes (b : Bench) (e : Event) (b′ : Bench) : Type 0 where

@@ -17,7 +17,7 @@ use Rattle.protocol.specs.Questions.{firstNo, unless, reply}
 use Rattle.protocol.specs.Steps.{perform, step, run}
 use Rattle.protocol.specs.Claim.{after}
 use Rattle.protocol.proofs.view.Simulation.{Sound, step-steps}
-use Rattle.protocol.proofs.claim.Start.{lock-sound, idle}
+use Rattle.protocol.proofs.lists.Start.{lock-sound, idle}
 
 abbrev pub Reached : Bench → Type 0
 Reached b = (b ≡ newBench) ⊎ Sound b

@@ -34,10 +34,10 @@ use Rattle.protocol.proofs.view.View.{ballotsV, View, openedV, accepts}
 use Rattle.protocol.proofs.view.Performed.{commitV, chosen, savedV, ruleAnswer, performV, place, stepV}
 use Rattle.protocol.proofs.view.Simulation.{view, Sound, rule-sim, reply-sim, step-steps, step-sim}
 use Rattle.protocol.proofs.invariant.Arrivals.{count-zero}
-use Rattle.protocol.proofs.claim.Moments.{accepted-is, lock-refused, run-append, refused-step}
-use Rattle.protocol.proofs.claim.Start.{unlocked, freshes}
-use Rattle.protocol.proofs.claim.Sends.{Stays, New, rule-new, messageCountV, commit-counted, commit-kept}
-use Rattle.protocol.proofs.claim.Reach.{Reached, step-reached, reached}
+use Rattle.protocol.proofs.lists.Moments.{accepted-is, lock-refused, run-append, refused-step}
+use Rattle.protocol.proofs.lists.Start.{unlocked, freshes}
+use Rattle.protocol.proofs.counting.Sends.{Stays, New, rule-new, messageCountV, commit-counted, commit-kept}
+use Rattle.protocol.proofs.lists.Reach.{Reached, step-reached, reached}
 
 -- a bench on which nothing was sent
 pub sum-zero : (m : ℕ) (g : ℕ → ℕ) → ((k : ℕ) → g k ≡ 0) → sumTo m g ≡ 0

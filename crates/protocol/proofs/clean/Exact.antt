@@ -30,10 +30,10 @@ use Rattle.protocol.proofs.clean.Log as steps
 use Rattle.protocol.proofs.clean.Steps.{clean-by-steps, clean-log}
 use Rattle.protocol.proofs.clean.Parts.{vote-route, vote-route₂, ack-route, ack-route₂}
 use Rattle.protocol.proofs.clean.WithoutHelp.{Delivered, WithoutHelp, blank-without-help, run-without-help}
-use Rattle.protocol.proofs.claim.Moments.{logAt}
-use Rattle.protocol.proofs.claim.Start.{Opened, start, freshes, lock-inv, lock-good}
+use Rattle.protocol.proofs.lists.Moments.{logAt}
+use Rattle.protocol.proofs.lists.Start.{Opened, start, freshes, lock-inv, lock-good}
 use Rattle.protocol.proofs.claim.Bound.{vote-self, ack-self}
-use Rattle.protocol.proofs.claim.Counted.{sum-zero, fresh-silent}
+use Rattle.protocol.proofs.counting.Counted.{sum-zero, fresh-silent}
 use Rattle.protocol.proofs.claim.Theorem.{log-sim, Word, word-of, range, sound₀, n₀, f₀, here, demand-3}
 
 -- more pass a test that is passed wherever another is

@@ -36,7 +36,7 @@ use Rattle.protocol.specs.OpenCount.{isOpen, fullCount, hasEnded, OpenCo
 use Rattle.protocol.proofs.view.View.{ballotsV, View, openedV, accepts, part}
 use Rattle.protocol.proofs.view.Performed.{upd-id, commitV, chosen, savedV, performV, place, stepV, runV}
 use Rattle.protocol.proofs.view.Simulation.{view, Runs, run-sim}
-use Rattle.protocol.proofs.claim.Start.{start, all-of-copies, lock-sound}
+use Rattle.protocol.proofs.lists.Start.{start, all-of-copies, lock-sound}
 
 -- counts ---------------------------------------------------------------------------
 

@@ -20,9 +20,9 @@ use Rattle.protocol.specs.KeptCheckpoints.{savesAt, savesAny, checkpoint
 use Rattle.protocol.proofs.view.View.{View, ballotsV, openedV}
 use Rattle.protocol.proofs.view.Performed.{commitV, chosen, savedV, performV, stepV}
 use Rattle.protocol.proofs.view.Simulation.{view, Sound, reply-sim, step-sim}
-use Rattle.protocol.proofs.claim.Moments.{accepted-is, run-append, run-one, run-cons, refused-step}
-use Rattle.protocol.proofs.claim.Start.{freshes, unlocked}
-use Rattle.protocol.proofs.claim.Reach.{Reached, new-step, step-reached, reached}
+use Rattle.protocol.proofs.lists.Moments.{accepted-is, run-append, run-one, run-cons, refused-step}
+use Rattle.protocol.proofs.lists.Start.{freshes, unlocked}
+use Rattle.protocol.proofs.lists.Reach.{Reached, new-step, step-reached, reached}
 
 module _ (b : Bench) (a : Sound b) where
   -- what an accepted event leaves, of the view

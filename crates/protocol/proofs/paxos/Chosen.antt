@@ -34,9 +34,9 @@ use Rattle.protocol.proofs.view.Simulation.{view, Sound, reply-sim, ste
 use Rattle.protocol.proofs.paxos.Growth.{Grown, grown-refl}
 use Rattle.protocol.proofs.paxos.Order.{Balloted, chosen-found, chosen-on, put-first, one, ballots-grown}
 use Rattle.protocol.proofs.paxos.Order as O
-use Rattle.protocol.proofs.claim.Moments.{accepted-is, run-append, refused-step}
-use Rattle.protocol.proofs.claim.Start.{unlocked}
-use Rattle.protocol.proofs.claim.Reach.{Reached, new-step, step-reached, reached}
+use Rattle.protocol.proofs.lists.Moments.{accepted-is, run-append, refused-step}
+use Rattle.protocol.proofs.lists.Start.{unlocked}
+use Rattle.protocol.proofs.lists.Reach.{Reached, new-step, step-reached, reached}
 
 -- the statement's "chosen" and the proof's
 inside : (b : Bench) (x : Bool) → Chosen b x → O.Chosen (b .shared .n) (b .ballots) x

@@ -34,9 +34,9 @@ use Rattle.protocol.proofs.view.View.{accepts}
 use Rattle.protocol.proofs.view.Performed.{ruleAnswer}
 use Rattle.protocol.proofs.view.Simulation.{view, Any, Sound, rule-sim, reply-untested, reply-sim}
 use Rattle.protocol.proofs.invariant.Decisions.{Blank}
-use Rattle.protocol.proofs.claim.Start.{freshes}
-use Rattle.protocol.proofs.claim.Clear.{all-agree, acks-union, help-union, own-answer-union, own-vote-union, delivered-union}
-use Rattle.protocol.proofs.claim.Reach.{Reached, step-reached, reached}
+use Rattle.protocol.proofs.lists.Start.{freshes}
+use Rattle.protocol.proofs.contradictions.Clear.{all-agree, acks-union, help-union, own-answer-union, own-vote-union, delivered-union}
+use Rattle.protocol.proofs.lists.Reach.{Reached, step-reached, reached}
 
 -- a question of that number is answered no
 abbrev someNo : ℕ → List Question → Bool

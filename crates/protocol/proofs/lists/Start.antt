@@ -33,8 +33,8 @@ use Rattle.protocol.proofs.invariant.Decisions.{Blank, blank-inv}
 use Rattle.protocol.proofs.clean.Log.{entered}
 use Rattle.protocol.proofs.clean.Parts.{Good, blank-good}
 use Rattle.protocol.proofs.view.Simulation.{view, Any, Sound}
-use Rattle.protocol.proofs.claim.Ranges.{InRange, SentIn, AllIn, unsent-in}
-use Rattle.protocol.proofs.claim.Moments.{push, logOf}
+use Rattle.protocol.proofs.ranges.Ranges.{InRange, SentIn, AllIn, unsent-in}
+use Rattle.protocol.proofs.lists.Moments.{push, logOf}
 
 -- one lock was accepted
 pub record Opened (es : List Event) : Type 0 where

@@ -41,7 +41,7 @@ use Rattle.protocol.specs.Strays.{OneHeld, Comes, untested, MayVote, Str
 use Rattle.protocol.proofs.view.RuleCases.{vote-cases, ack-cases, helped-cases, help-cases, sufficient-cases}
 use Rattle.protocol.proofs.view.Refusals.{arrives-unrefused}
 use Rattle.protocol.proofs.view.Held.{found-held, held-found}
-use Rattle.protocol.proofs.claim.Dropped.{sets-kept, drops, drop-counted}
+use Rattle.protocol.proofs.strays.Dropped.{sets-kept, drops, drop-counted}
 
 -- a message ----------------------------------------------------------------------------
 

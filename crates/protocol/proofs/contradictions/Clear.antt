@@ -40,7 +40,7 @@ use Rattle.protocol.proofs.view.Performed.{Clear}
 use Rattle.protocol.proofs.invariant.Invariant.{votedBy, ackedBy, frozenBy, Truthful, Inv}
 use Rattle.protocol.proofs.invariant.TrueVotes.{empty-ok, vote-ok, union-ok, true-agree}
 use Rattle.protocol.proofs.invariant.Waiting.{ack-true, acks-true, acks-joined, help-is}
-use Rattle.protocol.proofs.claim.Ranges.{AllIn, WithinSet}
+use Rattle.protocol.proofs.ranges.Ranges.{AllIn, WithinSet}
 
 -- vote sets
 pub within-of : (s : VoteSet) → WithinSet s → within (s .willing) (s .known) ≡ true
