@@ -1,7 +1,7 @@
 use borrow.Author.Tests.{not-true, not-false, lt-leb, le-leb, lt-ltb, le-ltb}
 use Rattle.bench_state.proofs.Answers.{answers, past, here, none}
-use Rattle.bench_state.proofs.table.order_question.Statement.{statement}
-use Rattle.bench_state.proofs.table.order_question.Tie as tie
+use Rattle.bench_state.proofs.questions.order_question.Statement.{statement}
+use Rattle.bench_state.proofs.questions.order_question.Tie as tie
 
 returns : tie.Need-returns
 returns c = answers (here (not-true _ (c .if1 .taken)))

@@ -2,8 +2,8 @@ use mathlib.Core.Path.{ap}
 use mathlib.Core.Bool.{not}
 use Rattle.bench_state.proofs.Answers.{answers, past, here, none, said, denied}
 use borrow.Author.Needs.{needs}
-use Rattle.bench_state.proofs.table.lock_question.Statement.{statement}
-use Rattle.bench_state.proofs.table.lock_question.Tie as tie
+use Rattle.bench_state.proofs.questions.lock_question.Statement.{statement}
+use Rattle.bench_state.proofs.questions.lock_question.Tie as tie
 
 sizes-in-range-requires : tie.Need-sizes-in-range-requires
 sizes-in-range-requires c κs = search needs
