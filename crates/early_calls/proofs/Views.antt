@@ -39,6 +39,7 @@ use Rattle.protocol.specs.Counts.{countsAfter}
 use Rattle.protocol.specs.CountLaws.{counts-stay}
 use Rattle.protocol.specs.Rules.{nothing, helps, ackJoin, helpVotes, firstTimeout, secondTimeout, answersCall, helpArrives}
 use Rattle.protocol.specs.Calls.{arrives}
+use Rattle.protocol.specs.declared.Bench.{Bench}
 use Rattle.protocol.specs.Benches.{afterSend, sentAfter}
 use Rattle.protocol.specs.Events.{subject, source, receiversIn}
 use Rattle.protocol.specs.Questions.{isAccepted, firstNo, mayOpen, isSaved, questionsOf}
@@ -47,7 +48,7 @@ use Rattle.protocol.specs.Sequence.{members}
 use Rattle.protocol.specs.BallotSteps.{ballotSubject, ballotsAfter}
 use Rattle.protocol.proofs.view.View.{View, ballotsV, mayGiveV, sharedV, accepts, openedV, ask-l, ask-r, part}
 use Rattle.protocol.proofs.view.Performed.{commitV, chosen, savedV, checkpointAt, identityV, timeoutRule, performV, stepV}
-use Rattle.early_calls.specs.Document01.{withCallers, withoutKept}
+use Rattle.early_calls.specs.Document01.{isEarly, onceMore, withCallers, withoutKept}
 use Rattle.early_calls.proofs.Timeouts.{answeredTo, timeout-kept, Frozen, timeout-frozen}
 use Rattle.early_calls.proofs.Rules.{by-equal, early, late, alike, Matches, vote-matches, ack-matches, helped-matches, call-matches, KeptAlone, early-call, cast-matches, first-matches, conclude-kept, cleared-kept, renew-kept, becomes-matches, restore-matches}
 
@@ -155,6 +156,28 @@ module _ (n f : ℕ) where
   Apart v (Save i) = Unit {0}
   Apart v (Restore i) = Unit {0}
   Apart v (OfBallots e) = Unit {0}
+
+  -- an event that is neither a help call nor a timeout: document 01 knows it as it is
+  pub record Plain (e : Event) : Type 0 where
+    pub early : (b : Bench) → isEarly b e ≡ false
+    pub early-view : (v : View) → earlyV v e ≡ false
+    pub once : (b : Bench) → onceMore b e ≡ []
+    pub apart : (v : View) → Apart v e
+
+  pub by-calls : (P : Event → Type 0) → ((i j : ℕ) → P (Deliver i j Help)) → ((i : ℕ) → P (Timeout i)) → ((e : Event) → Plain e → P e) → (e : Event) → P e
+  by-calls P call timeout plain (Lock a c own) = plain (Lock a c own) (record { early = λ b. refl; early-view = λ v. refl; once = λ b. refl; apart = λ v. tt })
+  by-calls P call timeout plain (Order o) = plain (Order o) (record { early = λ b. refl; early-view = λ v. refl; once = λ b. refl; apart = λ v. tt })
+  by-calls P call timeout plain (Cast i w t) = plain (Cast i w t) (record { early = λ b. refl; early-view = λ v. refl; once = λ b. refl; apart = λ v. tt })
+  by-calls P call timeout plain (Deliver i j Vote) = plain (Deliver i j Vote) (record { early = λ b. refl; early-view = λ v. refl; once = λ b. refl; apart = λ v. tt })
+  by-calls P call timeout plain (Deliver i j Ack) = plain (Deliver i j Ack) (record { early = λ b. refl; early-view = λ v. refl; once = λ b. refl; apart = λ v. tt })
+  by-calls P call timeout plain (Deliver i j Help) = call i j
+  by-calls P call timeout plain (Deliver i j Helped) = plain (Deliver i j Helped) (record { early = λ b. refl; early-view = λ v. refl; once = λ b. refl; apart = λ v. tt })
+  by-calls P call timeout plain (Timeout i) = timeout i
+  by-calls P call timeout plain (Decide i w) = plain (Decide i w) (record { early = λ b. refl; early-view = λ v. refl; once = λ b. refl; apart = λ v. tt })
+  by-calls P call timeout plain (Stop i) = plain (Stop i) (record { early = λ b. refl; early-view = λ v. refl; once = λ b. refl; apart = λ v. tt })
+  by-calls P call timeout plain (Save i) = plain (Save i) (record { early = λ b. refl; early-view = λ v. refl; once = λ b. refl; apart = λ v. tt })
+  by-calls P call timeout plain (Restore i) = plain (Restore i) (record { early = λ b. refl; early-view = λ v. refl; once = λ b. refl; apart = λ v. tt })
+  by-calls P call timeout plain (OfBallots e) = plain (OfBallots e) (record { early = λ b. refl; early-view = λ v. refl; once = λ b. refl; apart = λ v. tt })
 
   first-rule : (i : ℕ) (c : Controller) → eqb (phase c) 1 ≡ true → timeoutRule n f i c ≡ firstTimeout n f i c
   unfolding timeoutRule

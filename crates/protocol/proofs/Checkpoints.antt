@@ -9,7 +9,7 @@ use borrow.Author.Tests.{ne-eqb}
 use Rattle.ground.specs.Tests.{no-both, split, or-no-l, or-no-r, eqb-same}
 use Rattle.ground.specs.Update.{upd-same, upd-other}
 use Rattle.model.specs.declared.Event.{Event}
-use Rattle.model.specs.declared.Event.the-variants.{Lock, Order, Cast, Deliver, Timeout, Decide, Stop, Save, Restore, OfBallots}
+use Rattle.model.specs.declared.Event.the-variants.{Save}
 use Rattle.protocol.specs.declared.Saved.the-variants.{Newest}
 use Rattle.protocol.specs.declared.Bench.{Bench}
 use Rattle.protocol.specs.Benches.{newBench}
@@ -18,35 +18,34 @@ use Rattle.protocol.specs.Steps.{renewed, step, run}
 use Rattle.protocol.specs.Claim.{after}
 use Rattle.protocol.specs.KeptCheckpoints.{savesAt, savesAny, checkpointIn, asShown, KeptCheckpoints}
 use Rattle.protocol.proofs.view.View.{View, ballotsV, openedV}
-use Rattle.protocol.proofs.view.Performed.{commitV, chosen, savedV, performV, stepV}
+use Rattle.protocol.proofs.view.Performed.{commitV, chosen, savedV, performV, stepV, by-effect}
 use Rattle.protocol.proofs.view.Simulation.{view, Sound, reply-sim, step-sim}
 use Rattle.protocol.proofs.lists.Moments.{accepted-is, run-append, run-one, run-cons, refused-step}
-use Rattle.protocol.proofs.lists.Start.{freshes, unlocked}
+use Rattle.protocol.proofs.lists.Start.{freshes, new-refuses}
 use Rattle.protocol.proofs.lists.Reach.{Reached, new-step, step-reached, reached}
 
 module _ (b : Bench) (a : Sound b) where
+  abbrev n : ℕ
+  n = b .shared .n
+
+  abbrev f : ℕ
+  f = b .shared .f
+
   -- what an accepted event leaves, of the view
-  stepped : (e : Event) → isAccepted (reply b e) ≡ true → view (step b e) ≡ performV (b .shared .n) (b .shared .f) (view b) e
+  stepped : (e : Event) → isAccepted (reply b e) ≡ true → view (step b e) ≡ performV n f (view b) e
   stepped e q = step-sim b a e ∙ (unfold stepV in rw (sym (reply-sim b a e) ∙ q))
 
-  as-view : (e : Event) (i : ℕ) → isAccepted (reply b e) ≡ true → checkpointIn (step b e) i ≡ (performV (b .shared .n) (b .shared .f) (view b) e) .saved i
+  as-view : (e : Event) (i : ℕ) → isAccepted (reply b e) ≡ true → checkpointIn (step b e) i ≡ (performV n f (view b) e) .saved i
   as-view e i q = unfold view in ap (λ (v : View). v .saved i) (stepped e q)
 
-  kept-by : (e : Event) (i : ℕ) → isAccepted (reply b e) ≡ true → savesAt i b e ≡ false → (performV (b .shared .n) (b .shared .f) (view b) e) .saved i ≡ checkpointIn b i
-  unfolding performV commitV view
-  kept-by (Lock n f own) i q s = refl
-  kept-by (Order o) i q s = unfold openedV renewed in refl
-  kept-by (Cast j w t) i q s = refl
-  kept-by (Deliver j k kind) i q s = refl
-  kept-by (Timeout j) i q s = refl
-  kept-by (Decide j w) i q s = unfold chosen in refl
-  kept-by (Stop j) i q s = refl
-  kept-by (Save j) i q s = unfold savedV in upd-other ((view b) .saved) j _ i (ne-eqb i j (λ z. no-both (eqb j i && isAccepted (reply b (Save j))) (saved z) s))
+  kept-by : (e : Event) (i : ℕ) → isAccepted (reply b e) ≡ true → savesAt i b e ≡ false → (performV n f (view b) e) .saved i ≡ checkpointIn b i
+  unfolding commitV view
+  kept-by e i q s = by-effect n f (view b) (λ e v. isAccepted (reply b e) ≡ true → savesAt i b e ≡ false → v .saved i ≡ checkpointIn b i)
+      (λ a c own q s. refl) (λ o q s. unfold openedV renewed in refl) (λ e c q s. refl) (λ j w q s. unfold chosen in refl)
+      (λ j q s. unfold savedV in upd-other ((view b) .saved) j _ i (ne-eqb i j (λ z. no-both _ (saved j q z) s))) (λ e q s. unfold ballotsV in refl) e q s
     where
-      saved : i ≡ j → (eqb j i && isAccepted (reply b (Save j))) ≡ true
-      saved z = rw (z, q) (ap (λ t. t && true) (eqb-same j))
-  kept-by (Restore j) i q s = refl
-  kept-by (OfBallots e) i q s = unfold ballotsV in refl
+      saved : (j : ℕ) → isAccepted (reply b (Save j)) ≡ true → i ≡ j → (eqb j i && isAccepted (reply b (Save j))) ≡ true
+      saved j q z = rw (z, q) (ap (λ t. t && true) (eqb-same j))
 
   -- a save makes what is shown
   made : (i : ℕ) → isAccepted (reply b (Save i)) ≡ true → checkpointIn (step b (Save i)) i ≡ Newest (asShown b i)
@@ -70,7 +69,7 @@ run-kept (e ∷ es) b i r s = run-kept es (step b e) i (step-reached b e r) (or-
 
 -- an accepted save is made with a lock
 made-at : (b : Bench) (i : ℕ) → Reached b → isAccepted (reply b (Save i)) ≡ true → checkpointIn (step b (Save i)) i ≡ Newest (asShown b i)
-made-at b i (inl z) q = absurd (no-both _ (ap (λ (x : Bench). isAccepted (reply x (Save i))) (sym z) ∙ q) (unlocked (Save i) tt))
+made-at b i (inl z) q = absurd (new-refuses (Save i) refl (ap (λ (x : Bench). isAccepted (reply x (Save i))) (sym z) ∙ q))
 made-at b i (inr a) q = made b a i q
 
 pub kept-checkpoints : KeptCheckpoints

@@ -18,7 +18,7 @@ use Rattle.votes.specs.VoteSets.{empty}
 use Rattle.model.specs.Ranges.{sizesInRange}
 use Rattle.model.specs.RangeLaws.{ranges}
 use Rattle.model.specs.declared.Event.{Event}
-use Rattle.model.specs.declared.Event.the-variants.{Lock, Order, Cast, Deliver, Timeout, Decide, Stop, Save, Restore, OfBallots}
+use Rattle.model.specs.declared.Event.the-variants.{Decide}
 use Rattle.protocol.specs.declared.Condition.{Condition}
 use Rattle.protocol.specs.declared.Condition.the-variants.{Running, Stopped, Standby}
 use Rattle.protocol.specs.declared.Controller.{Controller}
@@ -33,8 +33,9 @@ use Rattle.protocol.specs.Questions.{mayOpen}
 use Rattle.protocol.specs.Steps.{renewed, orderOpened, run}
 use Rattle.protocol.specs.Claim.{after}
 use Rattle.protocol.specs.OpenCount.{isOpen, fullCount, hasEnded, OpenCount}
+use Rattle.protocol.specs.Events.{subject}
 use Rattle.protocol.proofs.view.View.{ballotsV, View, openedV, accepts, part}
-use Rattle.protocol.proofs.view.Performed.{upd-id, commitV, chosen, savedV, performV, place, stepV, runV}
+use Rattle.protocol.proofs.view.Performed.{upd-id, commitV, chosen, savedV, performV, place, stepV, runV, by-effect}
 use Rattle.protocol.proofs.view.Simulation.{view, Runs, run-sim}
 use Rattle.protocol.proofs.lists.Start.{start, all-of-copies, lock-sound}
 
@@ -117,17 +118,9 @@ module _ (n f : ℕ) (small : n ≤ limit) where
   }
 
   perform-follows : (v : View) (e : Event) → accepts n f v e ≡ true → Follows n v → Follows n (performV n f v e)
-  unfolding performV
-  perform-follows v (Lock a c own) q h = h
-  perform-follows v (Order o) q h = opened-follows v o h
-  perform-follows v (Cast i w t) q h = commit-follows v i _ (place n f v (Cast i w t) refl q) h
-  perform-follows v (Deliver i j k) q h = commit-follows v j _ (place n f v (Deliver i j k) refl q) h
-  perform-follows v (Timeout i) q h = commit-follows v i _ (place n f v (Timeout i) refl q) h
-  perform-follows v (Decide i w) q h = commit-follows (chosen v w) i _ (place n f v (Decide i w) refl q) (chosen-follows v w h)
-  perform-follows v (Stop i) q h = commit-follows v i _ (place n f v (Stop i) refl q) h
-  perform-follows v (Save i) q h = unfold savedV in record { undecided = h .undecided; present = h .present }
-  perform-follows v (OfBallots e) q h = unfold ballotsV in record { undecided = h .undecided; present = h .present }
-  perform-follows v (Restore i) q h = commit-follows v i _ (place n f v (Restore i) refl q) h
+  perform-follows v e q h = by-effect n f v (λ e w. accepts n f v e ≡ true → Follows n w) (λ a c own q. h) (λ o q. opened-follows v o h) (λ e x q. commit-follows v (subject e) _ (place n f v e (x .one) q) h)
+      (λ i w q. commit-follows (chosen v w) i _ (place n f v (Decide i w) refl q) (chosen-follows v w h)) (λ i q. unfold savedV in record { undecided = h .undecided; present = h .present })
+      (λ e q. unfold ballotsV in record { undecided = h .undecided; present = h .present }) e q
 
   step-follows : (v : View) (e : Event) → Follows n v → Follows n (stepV n f v e)
   unfolding stepV

@@ -15,7 +15,7 @@ use Rattle.model.specs.declared.Kind.the-variants.{Vote, Ack}
 use Rattle.model.specs.declared.Outcome.{Outcome}
 use Rattle.model.specs.declared.Outcome.the-variants.{None, Stay, Move}
 use Rattle.model.specs.declared.Event.{Event}
-use Rattle.model.specs.declared.Event.the-variants.{Lock, Cast, Timeout, Restore, OfBallots}
+use Rattle.model.specs.declared.Event.the-variants.{Lock, Cast, Timeout, Restore}
 use Rattle.protocol.specs.declared.Bench.{Bench}
 use Rattle.protocol.specs.Controllers.{outcome}
 use Rattle.protocol.specs.Benches.{benchOf, newBench}
@@ -257,7 +257,7 @@ module _ (es : List Event) (o : Opened es) (i : ℕ) (a : Accepted es (Timeout i
 
   clean-stay₁ : OneUnwilling es → shownOutcome (step (after es) (Timeout i)) i ≡ Stay
   unfolding view
-  clean-stay₁ u = ap (λ (v : View). outcome (v .ctl i)) timeout-view ∙ decides .stay (u .who) (u .target) (who .0) (who .1) (subst (In (Cast (u .who) false (u .target))) is-log (in-log es (Cast (u .who) false (u .target)) tt (u .vote)))
+  clean-stay₁ u = ap (λ (v : View). outcome (v .ctl i)) timeout-view ∙ decides .stay (u .who) (u .target) (who .0) (who .1) (subst (In (Cast (u .who) false (u .target))) is-log (in-log es (Cast (u .who) false (u .target)) refl (u .vote)))
     where
       -- the number of one whose vote was accepted is in range
       who : (1 ≤ u .who) × (u .who ≤ o .n)

@@ -67,12 +67,12 @@ module _ (n f : ℕ) (sized : sizesInRange n f ≡ true) (w : ℕ → Bool) (m :
     lock-f = reached .is-f;
     timeout = takes i lo hi;
     second = log-second n f es i (subst (Second n f i) (sym (reached .is-log)) (ending-second n f w m i (omega arith)));
-    clean = clean-order n f (es ++ (Timeout i ∷ [])) (subst (steps.Clean n f) (sym (log-one es (Timeout i) tt (takes i lo hi)))
+    clean = clean-order n f (es ++ (Timeout i ∷ [])) (subst (steps.Clean n f) (sym (log-one es (Timeout i) refl (takes i lo hi)))
         (subst (λ (l : List Event). steps.Clean n f (Timeout i ∷ l)) (sym (reached .is-log)) (next-clean n f w m i)));
   }
 
   votes-as : (k : ℕ) (x : Bool) (t : ℕ) → InOrder es (Cast k x t) → x ≡ w k
-  votes-as k x t u = ending-as n f w m k x t (subst (In (Cast k x t)) (reached .is-log) (in-log es (Cast k x t) tt u))
+  votes-as k x t u = ending-as n f w m k x t (subst (In (Cast k x t)) (reached .is-log) (in-log es (Cast k x t) refl u))
 
   votes-in : (k : ℕ) → 1 ≤ k → k ≤ n → InOrder es (Cast k (w k) 0)
   votes-in k lo hi = in-order es (Cast k (w k) 0) (subst (In (Cast k (w k) 0)) (sym (reached .is-log)) (ending-cast n f w m k lo hi))

@@ -29,7 +29,7 @@ use Rattle.protocol.specs.declared.Identity.{Identity}
 use Rattle.protocol.specs.declared.Saved.{Saved}
 use Rattle.protocol.specs.declared.Saved.the-variants.{Nothing, Newest}
 use Rattle.protocol.specs.Calls.{arrives, restore}
-use Rattle.protocol.specs.Events.{restoreFrom}
+use Rattle.protocol.specs.Events.{restoreFrom, concernsOne}
 use Rattle.protocol.specs.Benches.{sentAfter}
 use Rattle.protocol.specs.Questions.{firstNo}
 use Rattle.protocol.proofs.view.RuleCases.{timeout-cases, vote-cases, ack-cases, help-cases, helped-cases, sufficient-cases, second-cases}
@@ -38,6 +38,7 @@ use Rattle.protocol.proofs.view.Performed.{commitV, chosen, savedV, che
 use Rattle.protocol.proofs.invariant.Words.{noting-runs, noting-phase}
 use Rattle.protocol.proofs.invariant.Invariant.{ackOn, ackedBy}
 use Rattle.protocol.proofs.invariant.Commit.{upd-all₂}
+use Rattle.protocol.proofs.view.Kinds.{isStop}
 
 pub stopped-idle : (k : Condition) → isStopped k ≡ true → isRunning k ≡ false
 stopped-idle (Running p) e = absurd (false≢true e)
@@ -160,28 +161,19 @@ module _ (n f : ℕ) where
 
   -- neither a lock, a new order nor a stop
   abbrev pub Goes : Event → Type 0
-  Goes (Lock a c own) = ⊥
-  Goes (Order o) = ⊥
-  Goes (Cast i w t) = Unit {0}
-  Goes (Deliver i j k) = Unit {0}
-  Goes (Timeout i) = Unit {0}
-  Goes (Decide i w) = Unit {0}
-  Goes (Stop i) = ⊥
-  Goes (Save i) = Unit {0}
-  Goes (OfBallots e) = Unit {0}
-  Goes (Restore i) = Unit {0}
+  Goes e = (concernsOne e && not (isStop e)) ≡ true
 
   pub perform-tame : n ≤ limit → (b : View) (e : Event) → Goes e → accepts n f b e ≡ true → KeptAll e b (performV n f b e)
   unfolding performV accepts firstNo isController
-  perform-tame s b (Lock a c own) g q = absurd g
-  perform-tame s b (Order o) g q = absurd g
+  perform-tame s b (Lock a c own) g q = absurd (false≢true g)
+  perform-tame s b (Order o) g q = absurd (false≢true g)
   perform-tame s b (Cast i w t) g q = commit-tame _ b i _ (vote-live s i w t _ _ (search (ask-l, ask-r, and-l, and-r) depth 14) (eqb-true _ _ (search (ask-l, ask-r, and-l, and-r) depth 14)))
   perform-tame s b (Deliver i j k) g q = commit-tame _ b j _ (arrives-live s _ k i j _ _ _ (leb-true _ _ (search (ask-l, ask-r, and-l, and-r) depth 14)) (leb-true _ _ (search (ask-l, ask-r, and-l, and-r) depth 14)))
   perform-tame s b (Timeout i) g q = commit-tame (Timeout i) b i _ (timeout-cases (KeptBy (Timeout i) i (b .ctl i) (b .state .sent i)) n f i (b .ctl i)
       (λ st. first-live s i _ _ (leb-true _ _ (search (ask-l, ask-r, and-l, and-r) depth 14)) (leb-true _ _ (search (ask-l, ask-r, and-l, and-r) depth 14)) (search (ask-l, ask-r, and-l, and-r) depth 14) st)
       (λ e. second-live i _ _ (search (ask-l, ask-r, and-l, and-r) depth 14) (eqb-true _ _ (or-second (eqb (phase (b .ctl i)) 1) _ e (search (ask-l, ask-r, and-l, and-r) depth 14)))))
   perform-tame s b (Decide i w) g q = decide-tame b i w
-  perform-tame s b (Stop i) g q = absurd g
+  perform-tame s b (Stop i) g q = absurd (false≢true g)
   perform-tame s b (Save i) g q = save-tame b i
   perform-tame s b (OfBallots e) g q = unfold ballotsV in (λ k. live-refl (OfBallots e) k (b .ctl k) (b .state .sent k))
   perform-tame s b (Restore i) g q = commit-tame _ b i _ (restored-live _ i (identityV n f b i) (b .saved i) (b .ctl i) (b .state .sent i) (stopped-idle ((b .ctl i) .condition) (search (ask-l, ask-r, and-l, and-r) depth 14)))

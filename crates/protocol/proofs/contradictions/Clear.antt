@@ -22,7 +22,7 @@ use Rattle.model.specs.Ranges.{isController}
 use Rattle.model.specs.declared.Kind.{Kind}
 use Rattle.model.specs.declared.Kind.the-variants.{Vote, Ack, Help, Helped}
 use Rattle.model.specs.declared.Event.{Event}
-use Rattle.model.specs.declared.Event.the-variants.{Lock, Order, Cast, Deliver, Timeout, Decide, Stop, Save, Restore, OfBallots}
+use Rattle.model.specs.declared.Event.the-variants.{Cast, Deliver}
 use Rattle.message_record.specs.Messages.{bitsInRange, knowsForKind, suits}
 use Rattle.protocol.specs.declared.Acks.{Acks}
 use Rattle.protocol.specs.declared.Controller.{Controller}
@@ -158,16 +158,13 @@ module _ (G H : ℕ → Type 0) (g0 : G 0) (n f : ℕ) (small : n ≤ limit) (v 
   own-vote-union i w t q = vote-union i w (leb-true _ _ (search (ask-l, ask-r, and-l, and-r) depth 14)) (leb-true _ _ (search (ask-l, ask-r, and-l, and-r) depth 14)) (search (ask-l, ask-r, and-l, and-r) depth 14) (eqb-true _ _ (search (ask-l, ask-r, and-l, and-r) depth 14))
 
   pub clear : (e : Event) → accepts n f v e ≡ true → Clear n f v e
-  unfolding accepts firstNo isController
-  clear (Lock a c w) q = tt
-  clear (Order o) q = tt
-  clear (Cast i w t) q = nothing-dropped i w (leb-true _ _ (search (ask-l, ask-r, and-l, and-r) depth 14)) (leb-true _ _ (search (ask-l, ask-r, and-l, and-r) depth 14)) (search (ask-l, ask-r, and-l, and-r) depth 14) (eqb-true _ _ (search (ask-l, ask-r, and-l, and-r) depth 14))
-  clear (Deliver i j kind) q =
-      let sent : has ((ofKind kind (L i)) .to) j ≡ true = (search (ask-l, ask-r, and-l, and-r) depth 14) in
-      (suits-sent kind i j (leb-true _ _ (search (ask-l, ask-r, and-l, and-r) depth 14)) (leb-true _ _ (search (ask-l, ask-r, and-l, and-r) depth 14)) sent, none-held j _ (true-sent kind i j sent))
-  clear (Timeout i) q = tt
-  clear (Decide i w) q = tt
-  clear (Stop i) q = tt
-  clear (Save i) q = tt
-  clear (OfBallots e) q = tt
-  clear (Restore i) q = tt
+  clear e q = record { own = own; delivered = delivered }
+    where
+      own : (i : ℕ) (w : Bool) (t : ℕ) → e ≡ Cast i w t → dropContradicting n (single i w) (v .ctl i) ≡ v .ctl i
+      own i w t z = let a : accepts n f v (Cast i w t) ≡ true = rw z at q in unfold accepts firstNo isController in
+          nothing-dropped i w (leb-true _ _ (search (ask-l, ask-r, and-l, and-r) depth 14)) (leb-true _ _ (search (ask-l, ask-r, and-l, and-r) depth 14)) (search (ask-l, ask-r, and-l, and-r) depth 14) (eqb-true _ _ (search (ask-l, ask-r, and-l, and-r) depth 14))
+
+      delivered : (i j : ℕ) (kind : Kind) → e ≡ Deliver i j kind → (suits (message (sharedV n f v) kind i j (L i)) ≡ true) × (contradictsHeld n (v .ctl j) ((ofKind kind (L i)) .votes) ≡ false)
+      delivered i j kind z = let a : accepts n f v (Deliver i j kind) ≡ true = rw z at q in unfold accepts firstNo isController in
+          let sent : has ((ofKind kind (L i)) .to) j ≡ true = (search (ask-l, ask-r, and-l, and-r) depth 14) in
+          (suits-sent kind i j (leb-true _ _ (search (ask-l, ask-r, and-l, and-r) depth 14)) (leb-true _ _ (search (ask-l, ask-r, and-l, and-r) depth 14)) sent, none-held j _ (true-sent kind i j sent))

@@ -31,10 +31,11 @@ use Rattle.protocol.specs.Steps.{answering, effectOf, putBack, perform, 
 use Rattle.protocol.specs.Claim.{after}
 use Rattle.protocol.specs.NoContradiction.{Agreeing, acksUnion, votesSent, JoinIsUnion, untestedReply, untestedPerform, untestedStep, untestedRun, NoContradiction}
 use Rattle.protocol.proofs.view.View.{accepts}
+use Rattle.protocol.proofs.view.Kinds.{IsLock, tests-delivery}
 use Rattle.protocol.proofs.view.Performed.{ruleAnswer}
 use Rattle.protocol.proofs.view.Simulation.{view, Any, Sound, rule-sim, reply-untested, reply-sim}
 use Rattle.protocol.proofs.invariant.Decisions.{Blank}
-use Rattle.protocol.proofs.lists.Start.{freshes}
+use Rattle.protocol.proofs.lists.Start.{new-lock, new-refuses, freshes}
 use Rattle.protocol.proofs.contradictions.Clear.{all-agree, acks-union, help-union, own-answer-union, own-vote-union, delivered-union}
 use Rattle.protocol.proofs.lists.Reach.{Reached, step-reached, reached}
 
@@ -73,17 +74,7 @@ not-asked v (Restore i) h = refl
 
 -- a new bench: question 5 comes first
 new-answers : (e : Event) → reply newBench e ≡ untestedReply newBench e
-unfolding reply firstNo unless benchOf
-new-answers (Lock n f own) = refl
-new-answers (Order o) = refl
-new-answers (Cast i w t) = refl
-new-answers (Deliver i j k) = refl
-new-answers (Timeout i) = refl
-new-answers (Decide i w) = refl
-new-answers (Stop i) = refl
-new-answers (Save i) = refl
-new-answers (OfBallots e) = refl
-new-answers (Restore i) = refl
+new-answers e = elim (tests-delivery newBench e) [ inl d ↦ subst (λ x. reply newBench x ≡ untestedReply newBench x) (sym (d .is)) (unfold reply firstNo unless benchOf in refl) | inr h ↦ h ]
 
 answers-at : (b : Bench) (e : Event) → Reached b → reply b e ≡ untestedReply b e
 answers-at b e (inl z) = subst (λ (x : Bench). reply x e ≡ untestedReply x e) (sym z) (new-answers e)
@@ -113,16 +104,10 @@ unfolding step untestedStep
 steps b e (inl z) = subst (λ (x : Bench). cond (isAccepted (reply x e)) (perform x e) x ≡ cond (isAccepted (untestedReply x e)) (untestedPerform x e) x) (sym z) (new e)
   where
     new : (e : Event) → cond (isAccepted (reply newBench e)) (perform newBench e) newBench ≡ cond (isAccepted (untestedReply newBench e)) (untestedPerform newBench e) newBench
-    new (Lock n f own) = rw (new-answers (Lock n f own))
-    new (Order o) = unfold reply firstNo unless benchOf in refl
-    new (Cast i w t) = unfold reply firstNo unless benchOf in refl
-    new (Deliver i j k) = unfold reply firstNo unless benchOf in refl
-    new (Timeout i) = unfold reply firstNo unless benchOf in refl
-    new (Decide i w) = unfold reply firstNo unless benchOf in refl
-    new (Stop i) = unfold reply firstNo unless benchOf in refl
-    new (Save i) = unfold reply firstNo unless benchOf in refl
-    new (OfBallots e) = unfold reply firstNo unless benchOf in refl
-    new (Restore i) = unfold reply firstNo unless benchOf in refl
+    new e = rw (sym (new-answers e)) (elim (split (isAccepted (reply newBench e))) [
+      | inl q ↦ let l : IsLock e = new-lock e q in subst (λ x. cond (isAccepted (reply newBench x)) (perform newBench x) newBench ≡ cond (isAccepted (reply newBench x)) (untestedPerform newBench x) newBench) (sym (l .is)) refl
+      | inr q ↦ rw q
+    ])
 steps b e (inr a) = rw (sym (answers-at b e (inr a))) (elim (split (isAccepted (reply b e))) [
   | inl q ↦ rw q (performs b (a) e (sym (reply-sim b (a) e) ∙ q))
   | inr q ↦ rw q
@@ -181,17 +166,14 @@ joins-at b i (inr a) = unfold view in record {
   answer = own-answer-union Any Any tt (b .shared .n) (b .shared .f) (ranges (b .shared .n) (b .shared .f) (a .sized) .small) (view b) (a .inv) (a .ranged) i;
 }
 
-new-refuses : {A : Type 0} (e : Event) → isAccepted (reply newBench e) ≡ false → (b : Bench) → b ≡ newBench → reply b e ≡ accepted → A
-new-refuses e h b z q = absurd (no-both (isAccepted (reply newBench e)) (ap (λ (x : Bench). isAccepted (reply x e)) (sym z) ∙ ap (λ (r : Reply). isAccepted r) q) h)
-
 own-vote-at : (b : Bench) (i : ℕ) (w : Bool) (t : ℕ) → Reached b → reply b (Cast i w t) ≡ accepted → JoinIsUnion ((controller b i) .votes) (single i w)
-own-vote-at b i w t (inl z) q = new-refuses (Cast i w t) (unfold reply firstNo unless benchOf in refl) b z q
+own-vote-at b i w t (inl z) q = absurd (new-refuses (Cast i w t) refl (ap (λ (x : Bench). isAccepted (reply x (Cast i w t))) (sym z) ∙ ap isAccepted q))
 own-vote-at b i w t (inr a) q = unfold view in own-vote-union Any Any tt (b .shared .n) (b .shared .f) (ranges (b .shared .n) (b .shared .f) (a .sized) .small) (view b) (a .inv) (a .ranged) i w t
     (sym (reply-sim b (a) (Cast i w t)) ∙ ap (λ (r : Reply). isAccepted r) q)
 
 delivered-at : (b : Bench) (i j : ℕ) (kind : Kind) → Reached b → reply b (Deliver i j kind) ≡ accepted
     → JoinIsUnion ((controller b j) .votes) (votesSent b kind i) × JoinIsUnion ((controller b j) .helped .votes) (votesSent b kind i)
-delivered-at b i j kind (inl z) q = new-refuses (Deliver i j kind) (unfold reply firstNo unless benchOf in refl) b z q
+delivered-at b i j kind (inl z) q = absurd (new-refuses (Deliver i j kind) refl (ap (λ (x : Bench). isAccepted (reply x (Deliver i j kind))) (sym z) ∙ ap isAccepted q))
 delivered-at b i j kind (inr a) q = unfold view in delivered-union Any Any tt (b .shared .n) (b .shared .f) (ranges (b .shared .n) (b .shared .f) (a .sized) .small) (view b) (a .inv) (a .ranged) i j kind
     (sym (reply-sim b (a) (Deliver i j kind)) ∙ ap (λ (r : Reply). isAccepted r) q)
 

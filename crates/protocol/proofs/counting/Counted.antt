@@ -31,12 +31,13 @@ use Rattle.protocol.specs.Display.{WasSent, sumTo, sentCount, messageCou
 use Rattle.protocol.specs.Claim.{after, opensOrder, opensAny}
 use Rattle.protocol.specs.SentOnce.{receiversOf, sendOf, receiversAt, sendCount, countAccepted, countSends, StaysSent, SentOnce}
 use Rattle.protocol.proofs.view.View.{ballotsV, View, openedV, accepts}
-use Rattle.protocol.proofs.view.Performed.{commitV, chosen, savedV, ruleAnswer, performV, place, stepV}
+use Rattle.protocol.proofs.view.Kinds.{IsLock}
+use Rattle.protocol.proofs.view.Performed.{by-effect, commitV, chosen, savedV, ruleAnswer, performV, place, stepV}
 use Rattle.protocol.proofs.view.Simulation.{view, Sound, rule-sim, reply-sim, step-steps, step-sim}
 use Rattle.protocol.proofs.invariant.Arrivals.{count-zero}
 use Rattle.protocol.proofs.lists.Moments.{accepted-is, lock-refused, run-append, refused-step}
-use Rattle.protocol.proofs.lists.Start.{unlocked, freshes}
-use Rattle.protocol.proofs.counting.Sends.{Stays, New, rule-new, messageCountV, commit-counted, commit-kept}
+use Rattle.protocol.proofs.lists.Start.{new-lock, freshes}
+use Rattle.protocol.proofs.counting.Sends.{Stays, New, new-of, rule-new, messageCountV, commit-counted, commit-kept}
 use Rattle.protocol.proofs.lists.Reach.{Reached, step-reached, reached}
 
 -- a bench on which nothing was sent
@@ -113,29 +114,18 @@ module _ (b : Bench) (a : Sound b) where
   step-counted kind (Timeout i) q = counted-by kind (Timeout i) q (unfold performV ruleAnswer in committed kind (Timeout i) refl q)
   step-counted kind (Decide i w) q = counted-by kind (Decide i w) q (unfold performV ruleAnswer commitV chosen in committed kind (Decide i w) refl q)
   step-counted kind (Stop i) q = counted-by kind (Stop i) q (unfold performV ruleAnswer in committed kind (Stop i) refl q)
-  step-counted kind (Save i) q = counted-by kind (Save i) q (unfold performV savedV ruleAnswer passedOver in saves kind)
-    where
-      saves : (kind : Kind) → messageCountV n f (view b) kind ≡ messageCountV n f (view b) kind + countTo n (has (receiversOf (sendOf kind (record { vote = Nothing; ack = Nothing; help = Nothing; helped = Nothing }))))
-      saves Vote = let z : countTo n (has 0) ≡ 0 = count-zero n in omega arith
-      saves Ack = let z : countTo n (has 0) ≡ 0 = count-zero n in omega arith
-      saves Help = let z : countTo n (has 0) ≡ 0 = count-zero n in omega arith
-      saves Helped = let z : countTo n (has 0) ≡ 0 = count-zero n in omega arith
+  step-counted kind (Save i) q = counted-by kind (Save i) q (unfold performV savedV ruleAnswer passedOver in nothing-more kind)
   step-counted kind (OfBallots e) q = counted-by kind (OfBallots e) q (unfold performV ballotsV ruleAnswer passedOver in nothing-more kind)
   step-counted kind (Restore i) q = counted-by kind (Restore i) q (unfold performV ruleAnswer in committed kind (Restore i) refl q)
 
   -- what was sent stays sent
   performed-kept : (e : Event) → accepts n f (view b) e ≡ true → opensOrder b e ≡ false → (kind : Kind) (j i : ℕ) → has ((ofKind kind (sentBy b i)) .to) j ≡ true
       → Stays j (ofKind kind (sentBy b i)) (ofKind kind ((performV n f (view b) e) .state .sent i))
-  performed-kept (Lock x y own) q o kind j i h = unfold performV view in record { sent = h; votes = refl }
-  performed-kept (Order m) q o kind j i h = absurd (no-both _ (reply-sim b (a) (Order m) ∙ q) o)
-  performed-kept (Cast k w t) q o kind j i h = unfold performV ruleAnswer view in commit-kept n f (view b) k _ (rule-new n f (view b) (a .inv) (Cast k w t) q) kind j i h
-  performed-kept (Deliver k m x) q o kind j i h = unfold performV ruleAnswer view in commit-kept n f (view b) m _ (rule-new n f (view b) (a .inv) (Deliver k m x) q) kind j i h
-  performed-kept (Timeout k) q o kind j i h = unfold performV ruleAnswer view in commit-kept n f (view b) k _ (rule-new n f (view b) (a .inv) (Timeout k) q) kind j i h
-  performed-kept (Decide k w) q o kind j i h = unfold performV ruleAnswer chosen view in commit-kept n f (chosen (view b) w) k _ (rule-new n f (view b) (a .inv) (Decide k w) q) kind j i h
-  performed-kept (Stop k) q o kind j i h = unfold performV ruleAnswer view in commit-kept n f (view b) k _ (rule-new n f (view b) (a .inv) (Stop k) q) kind j i h
-  performed-kept (Save k) q o kind j i h = unfold performV savedV view in record { sent = h; votes = refl }
-  performed-kept (OfBallots e) q o kind j i h = unfold performV ballotsV view in record { sent = h; votes = refl }
-  performed-kept (Restore k) q o kind j i h = unfold performV ruleAnswer view in commit-kept n f (view b) k _ (rule-new n f (view b) (a .inv) (Restore k) q) kind j i h
+  unfolding view
+  performed-kept e q o kind j i h = by-effect n f (view b) (λ e v. accepts n f (view b) e ≡ true → opensOrder b e ≡ false → Stays j (ofKind kind (sentBy b i)) (ofKind kind (v .state .sent i)))
+      (λ x y own q o. record { sent = h; votes = refl }) (λ m q o. absurd (no-both _ (reply-sim b a (Order m) ∙ q) o)) (λ e c q o. commit-kept n f (view b) (subject e) _ (rule-new n f (view b) (a .inv) e q) kind j i h)
+      (λ k w q o. unfold chosen in commit-kept n f (chosen (view b) w) k _ (rule-new n f (view b) (a .inv) (Decide k w) q) kind j i h)
+      (λ k q o. unfold savedV in record { sent = h; votes = refl }) (λ e q o. unfold ballotsV in record { sent = h; votes = refl }) e q o
 
   accepted-kept : (e : Event) → accepts n f (view b) e ≡ true → opensOrder b e ≡ false → (kind : Kind) (j i : ℕ) → has ((ofKind kind (sentBy b i)) .to) j ≡ true
       → Stays j (ofKind kind (sentBy b i)) (ofKind kind (sentBy (step b e) i))
@@ -146,19 +136,10 @@ module _ (b : Bench) (a : Sound b) where
 
 -- from the new bench the lock alone is accepted, and nothing is sent
 new-counted : (kind : Kind) (e : Event) → isAccepted (reply newBench e) ≡ true → messageCount (step newBench e) kind ≡ countAccepted kind newBench e (messageCount newBench kind)
-new-counted kind (Lock n f own) q = ap (λ (b : Bench). messageCount b kind) locks ∙ fresh-silent kind true n f own
+new-counted kind e q = let l : IsLock e = new-lock e q in subst (λ (x : Event). messageCount (step newBench x) kind ≡ countAccepted kind newBench x (messageCount newBench kind)) (sym (l .is)) (locked (l .n) (l .f) (l .own) (rw (l .is) at q))
   where
-    locks : step newBench (Lock n f own) ≡ benchOf true n f own
-    locks = unfold step perform in rw q
-new-counted kind (Order o) q = absurd (no-both _ q (unlocked (Order o) tt))
-new-counted kind (Cast i w t) q = absurd (no-both _ q (unlocked (Cast i w t) tt))
-new-counted kind (Deliver i j k) q = absurd (no-both _ q (unlocked (Deliver i j k) tt))
-new-counted kind (Timeout i) q = absurd (no-both _ q (unlocked (Timeout i) tt))
-new-counted kind (Decide i w) q = absurd (no-both _ q (unlocked (Decide i w) tt))
-new-counted kind (Stop i) q = absurd (no-both _ q (unlocked (Stop i) tt))
-new-counted kind (Save i) q = absurd (no-both _ q (unlocked (Save i) tt))
-new-counted kind (OfBallots e) q = absurd (no-both _ q (unlocked (OfBallots e) tt))
-new-counted kind (Restore i) q = absurd (no-both _ q (unlocked (Restore i) tt))
+    locked : (n f : ℕ) (own : Bool) → isAccepted (reply newBench (Lock n f own)) ≡ true → messageCount (step newBench (Lock n f own)) kind ≡ 0
+    locked n f own q = let l : step newBench (Lock n f own) ≡ benchOf true n f own = (unfold step perform in rw q) in ap (λ (b : Bench). messageCount b kind) l ∙ fresh-silent kind true n f own
 
 accepted-counted : (kind : Kind) (b : Bench) (e : Event) → Reached b → isAccepted (reply b e) ≡ true → messageCount (step b e) kind ≡ countAccepted kind b e (messageCount b kind)
 accepted-counted kind b e (inl z) q = subst (λ (x : Bench). messageCount (step x e) kind ≡ countAccepted kind x e (messageCount x kind)) (sym z) (new-counted kind e (ap (λ (x : Bench). isAccepted (reply x e)) (sym z) ∙ q))
@@ -178,7 +159,7 @@ run-counted kind (e ∷ es) b r = run-counted kind es (step b e) (step-reached b
 once-at : (b : Bench) (e : Event) (kind : Kind) (j : ℕ) → Reached b → reply b e ≡ accepted → has (receiversAt b e kind) j ≡ true → has ((ofKind kind (sentBy b (subject e))) .to) j ≡ false
 once-at b e kind j (inl z) p h = subst (λ (x : Bench). has ((ofKind kind (sentBy x (subject e))) .to) j ≡ false) (sym z)
     (ap (λ (l : Sent). has ((ofKind kind l) .to) j) (freshes false 0 0 false (subject e) .sent) ∙ ap (λ (m : ℕ). has m j) (unsent-kind kind) ∙ has-none j)
-once-at b e kind j (inr a) p h = adds b a e (sym (reply-sim b (a) e) ∙ accepted-is _ p) .fresh kind j h
+once-at b e kind j (inr a) p h = new-of _ _ (adds b a e (sym (reply-sim b a e) ∙ accepted-is _ p)) kind .fresh j h
 
 -- over every list
 step-kept : (b : Bench) (e : Event) → Reached b → opensOrder b e ≡ false → (kind : Kind) (j i : ℕ) → has ((ofKind kind (sentBy b i)) .to) j ≡ true

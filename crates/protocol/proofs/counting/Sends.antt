@@ -12,12 +12,13 @@ use borrow.Author.Tests.{eqb-true, ne-eqb}
 use Rattle.ground.specs.Tests.{no-both, refuted, by-cond, and-l, and-r, or-l, or-second}
 use Rattle.ground.specs.Quantify.{countTo}
 use Rattle.ground.specs.Sizes.{count-union}
-use Rattle.ground.specs.Mask.{has}
+use Rattle.ground.specs.Mask.{has, insert}
 use Rattle.ground.specs.MaskLaws.{has-none, has-or, insert-only, none-has}
 use Rattle.ground.specs.Update.{upd, upd-same, upd-other, upd-all}
 use Rattle.votes.specs.declared.VoteSet.{VoteSet}
 use Rattle.model.specs.declared.Kind.{Kind}
 use Rattle.model.specs.declared.Kind.the-variants.{Vote, Ack, Help, Helped}
+use Rattle.model.specs.declared.Outcome.{Outcome}
 use Rattle.model.specs.declared.Event.{Event}
 use Rattle.model.specs.declared.Event.the-variants.{Lock, Order, Cast, Deliver, Timeout, Decide, Stop, Save, Restore, OfBallots}
 use Rattle.protocol.specs.declared.Controller.{Controller}
@@ -40,30 +41,37 @@ use Rattle.protocol.proofs.view.Performed.{commitV, ruleAnswer}
 use Rattle.protocol.proofs.view.RuleCases.{vote-cases, ack-cases, helped-cases, help-cases, restore-cases, sufficient-cases, second-cases, timeout-cases}
 use Rattle.protocol.proofs.invariant.Invariant.{votedBy, ackedBy, frozenBy, Inv}
 
--- what an answer sends goes to nobody that was sent the kind before, and leaves the set of a kind as it is, where somebody was sent it
+-- what is sent of one kind goes to nobody that was sent it before, and leaves the vote set as it is, where somebody was sent it
+pub record NewOf (old : Outgoing) (s : Send) : Type 0 where
+  pub fresh : (j : ℕ) → has (receiversOf s) j ≡ true → has (old .to) j ≡ false
+  pub same : (j : ℕ) → has (old .to) j ≡ true → (afterSend old s) .votes ≡ old .votes
+
+-- what an answer sends, of each kind
 pub record New (l : Sent) (a : Answer) : Type 0 where
-  pub fresh : (kind : Kind) (j : ℕ) → has (receiversOf (sendOf kind (a .sends))) j ≡ true → has ((ofKind kind l) .to) j ≡ false
-  pub same : (kind : Kind) (j : ℕ) → has ((ofKind kind l) .to) j ≡ true → (ofKind kind (sentAfter l (a .sends))) .votes ≡ (ofKind kind l) .votes
+  vote : NewOf (l .vote) (a .sends .vote)
+  ack : NewOf (l .ack) (a .sends .ack)
+  help : NewOf (l .help) (a .sends .help)
+  helped : NewOf (l .helped) (a .sends .helped)
+
+pub new-of : (l : Sent) (a : Answer) → New l a → (kind : Kind) → NewOf (ofKind kind l) (sendOf kind (a .sends))
+new-of l a h Vote = h .vote
+new-of l a h Ack = h .ack
+new-of l a h Help = h .help
+new-of l a h Helped = h .helped
+
+none-sent : (old : Outgoing) → NewOf old Nothing
+none-sent old = record { fresh = λ j e. none-has j e; same = λ j e. refl }
+
+first-sent : (old : Outgoing) (to : ℕ) (s : VoteSet) → ((j : ℕ) → has (old .to) j ≡ false) → NewOf old (To to s)
+first-sent old to s h = record { fresh = λ j e. h j; same = λ j e. absurd (no-both _ e (h j)) }
 
 becomes-new : (l : Sent) (c : Controller) → New l (becomes c)
 unfolding becomes
-becomes-new l c = record { fresh = fresh; same = same }
-  where
-    same : (kind : Kind) (j : ℕ) → has ((ofKind kind l) .to) j ≡ true → (ofKind kind (sentAfter l ((becomes c) .sends))) .votes ≡ (ofKind kind l) .votes
-    same Vote j e = unfold becomes sentAfter in refl
-    same Ack j e = unfold becomes sentAfter in refl
-    same Help j e = unfold becomes sentAfter in refl
-    same Helped j e = unfold becomes sentAfter in refl
-
-    fresh : (kind : Kind) (j : ℕ) → has (receiversOf (sendOf kind ((becomes c) .sends))) j ≡ true → has ((ofKind kind l) .to) j ≡ false
-    fresh Vote j e = unfold becomes in none-has j e
-    fresh Ack j e = unfold becomes in none-has j e
-    fresh Help j e = unfold becomes in none-has j e
-    fresh Helped j e = unfold becomes in none-has j e
+becomes-new l c = record { vote = none-sent _; ack = none-sent _; help = none-sent _; helped = none-sent _ }
 
 passed-new : (l : Sent) (c : Controller) → New l (passedOver c)
-unfolding passedOver becomes
-passed-new l c = record { fresh = (becomes-new l c) .fresh; same = (becomes-new l c) .same }
+unfolding passedOver
+passed-new l c = record { vote = none-sent _; ack = none-sent _; help = none-sent _; helped = none-sent _ }
 
 -- a sum with one place changed
 sum-out : (m : ℕ) (g : ℕ → ℕ) (i x : ℕ) → m < i → sumTo m (upd g i x) ≡ sumTo m g
@@ -85,9 +93,12 @@ pub record Stays (j : ℕ) (old new : Outgoing) : Type 0 where
   pub votes : new .votes ≡ old .votes
 
 module _ (n f : ℕ) where
-  puts-new : (l : Sent) (a : Answer) → New l a → New l (proposeIfSufficient n f a)
+  put-new : (l : Sent) (a : Answer) (o : Outcome) → New l a → New l (proposing a o)
   unfolding proposing
-  puts-new l a h = sufficient-cases (New l) n f a (λ q. record { fresh = h .fresh; same = h .same }) (λ q. h)
+  put-new l a o h = record { vote = h .vote; ack = h .ack; help = h .help; helped = h .helped }
+
+  puts-new : (l : Sent) (a : Answer) → New l a → New l (proposeIfSufficient n f a)
+  puts-new l a h = sufficient-cases (New l) n f a (λ q. put-new l a _ h) (λ q. h)
 
   module _ (b : View) (inv : Inv n f b) (i : ℕ) where
     abbrev c : Controller
@@ -110,86 +121,31 @@ module _ (n f : ℕ) where
     unanswered r p j = refuted _ (λ e. no-both (frozenBy i l) (inv .lines i .helped-to j e) (inv .owns i .phased .fresh2 r (omega arith)))
 
     vote-new : (w : Bool) (t : ℕ) → runs c ≡ true → phase c ≡ 0 → New l (voteRule n f i w t c)
-    vote-new w t r p = record { fresh = fresh; same = same }
-      where
-        same : (kind : Kind) (j : ℕ) → has ((ofKind kind l) .to) j ≡ true → (ofKind kind (sentAfter l ((voteRule n f i w t c) .sends))) .votes ≡ (ofKind kind l) .votes
-        same Vote j e = absurd (no-both _ e (unvoted r p j))
-        same Ack j e = unfold voteRule sentAfter in refl
-        same Help j e = unfold voteRule sentAfter in refl
-        same Helped j e = unfold voteRule sentAfter in refl
-
-        fresh : (kind : Kind) (j : ℕ) → has (receiversOf (sendOf kind ((voteRule n f i w t c) .sends))) j ≡ true → has ((ofKind kind l) .to) j ≡ false
-        fresh Vote j e = unvoted r p j
-        fresh Ack j e = unfold voteRule in none-has j e
-        fresh Help j e = unfold voteRule in none-has j e
-        fresh Helped j e = unfold voteRule in none-has j e
+    unfolding voteRule
+    vote-new w t r p = record { vote = first-sent _ _ _ (unvoted r p); ack = none-sent _; help = none-sent _; helped = none-sent _ }
 
     first-new : runs c ≡ true → phase c ≡ 1 → New l (firstTimeout n f i c)
-    first-new r p = record { fresh = fresh; same = same }
-      where
-        same : (kind : Kind) (j : ℕ) → has ((ofKind kind l) .to) j ≡ true → (ofKind kind (sentAfter l ((firstTimeout n f i c) .sends))) .votes ≡ (ofKind kind l) .votes
-        same Vote j e = unfold firstTimeout sentAfter in refl
-        same Ack j e = absurd (no-both _ e (unacked r p j))
-        same Help j e = unfold firstTimeout sentAfter in refl
-        same Helped j e = unfold firstTimeout sentAfter in refl
-
-        fresh : (kind : Kind) (j : ℕ) → has (receiversOf (sendOf kind ((firstTimeout n f i c) .sends))) j ≡ true → has ((ofKind kind l) .to) j ≡ false
-        fresh Vote j e = unfold firstTimeout in none-has j e
-        fresh Ack j e = unacked r p j
-        fresh Help j e = unfold firstTimeout in none-has j e
-        fresh Helped j e = unfold firstTimeout in none-has j e
+    unfolding firstTimeout
+    first-new r p = record { vote = none-sent _; ack = first-sent _ _ _ (unacked r p); help = none-sent _; helped = none-sent _ }
 
     ready-new : (s : VoteSet) (next : Controller) → runs c ≡ true → phase c ≡ 2 → New l (ready s next)
-    ready-new s next r p = record { fresh = fresh; same = same }
-      where
-        same : (kind : Kind) (j : ℕ) → has ((ofKind kind l) .to) j ≡ true → (ofKind kind (sentAfter l ((ready s next) .sends))) .votes ≡ (ofKind kind l) .votes
-        same Vote j e = unfold ready sentAfter in refl
-        same Ack j e = unfold ready sentAfter in refl
-        same Help j e = unfold ready sentAfter in refl
-        same Helped j e = absurd (no-both _ e (unanswered r p j))
-
-        fresh : (kind : Kind) (j : ℕ) → has (receiversOf (sendOf kind ((ready s next) .sends))) j ≡ true → has ((ofKind kind l) .to) j ≡ false
-        fresh Vote j e = unfold ready in none-has j e
-        fresh Ack j e = unfold ready in none-has j e
-        fresh Help j e = unfold ready in none-has j e
-        fresh Helped j e = unanswered r p j
+    unfolding ready
+    ready-new s next r p = record { vote = none-sent _; ack = none-sent _; help = none-sent _; helped = first-sent _ _ _ (unanswered r p) }
 
     calls-new : (s : VoteSet) (next : Controller) → runs c ≡ true → phase c ≡ 2 → New l (callsHelp n f i s next)
-    calls-new s next r p = record { fresh = fresh; same = same }
-      where
-        same : (kind : Kind) (j : ℕ) → has ((ofKind kind l) .to) j ≡ true → (ofKind kind (sentAfter l ((callsHelp n f i s next) .sends))) .votes ≡ (ofKind kind l) .votes
-        same Vote j e = unfold callsHelp sentAfter in refl
-        same Ack j e = unfold callsHelp sentAfter in refl
-        same Help j e = absurd (no-both _ e (uncalled r p j))
-        same Helped j e = absurd (no-both _ e (unanswered r p j))
-
-        fresh : (kind : Kind) (j : ℕ) → has (receiversOf (sendOf kind ((callsHelp n f i s next) .sends))) j ≡ true → has ((ofKind kind l) .to) j ≡ false
-        fresh Vote j e = unfold callsHelp in none-has j e
-        fresh Ack j e = unfold callsHelp in none-has j e
-        fresh Help j e = uncalled r p j
-        fresh Helped j e = unanswered r p j
+    unfolding callsHelp
+    calls-new s next r p = record { vote = none-sent _; ack = none-sent _; help = first-sent _ _ _ (uncalled r p); helped = first-sent _ _ _ (unanswered r p) }
 
     second-new : runs c ≡ true → phase c ≡ 2 → New l (secondTimeout n f i c)
-    second-new r p = second-cases (New l) n f i c (λ d. ready-new _ _ r p) (λ e. unfold proposing in record { fresh = (ready-new _ _ r p) .fresh; same = (ready-new _ _ r p) .same }) (λ e. puts-new l _ (calls-new _ _ r p))
+    second-new r p = second-cases (New l) n f i c (λ d. ready-new _ _ r p) (λ e. put-new l _ _ (ready-new _ _ r p)) (λ e. puts-new l _ (calls-new _ _ r p))
 
     -- one whose call was not taken yet has not been answered
     answers-new : (j : ℕ) → 3 ≤ phase c → hasCalled c j ≡ false → New l (answersCall j c)
-    answers-new j p q = record { fresh = fresh; same = same }
+    unfolding answersCall
+    answers-new j p q = record { vote = none-sent _; ack = none-sent _; help = none-sent _; helped = record { fresh = fresh; same = λ k e. inv .owns i .helping .help-copy (omega arith) } }
       where
-        same : (kind : Kind) (k : ℕ) → has ((ofKind kind l) .to) k ≡ true → (ofKind kind (sentAfter l ((answersCall j c) .sends))) .votes ≡ (ofKind kind l) .votes
-        same Vote k e = unfold answersCall sentAfter in refl
-        same Ack k e = unfold answersCall sentAfter in refl
-        same Help k e = unfold answersCall sentAfter in refl
-        same Helped k e = unfold answersCall sentAfter in inv .owns i .helping .help-copy (omega arith)
-
-        fresh : (kind : Kind) (k : ℕ) → has (receiversOf (sendOf kind ((answersCall j c) .sends))) k ≡ true → has ((ofKind kind l) .to) k ≡ false
-        fresh Vote k e = unfold answersCall in none-has k e
-        fresh Ack k e = unfold answersCall in none-has k e
-        fresh Help k e = unfold answersCall in none-has k e
-        fresh Helped k e = unfold answersCall in elim (insert-only 0 j k e) [
-          | inr z ↦ none-has k z
-          | inl z ↦ rw z (inv .owns i .helping .answered p j ∙ q)
-        ]
+        fresh : (k : ℕ) → has (insert 0 j) k ≡ true → has (l .helped .to) k ≡ false
+        fresh k e = elim (insert-only 0 j k e) [ inr z ↦ none-has k z | inl z ↦ rw z (inv .owns i .helping .answered p j ∙ q) ]
 
     arrives-new : (kind : Kind) (j : ℕ) (s : VoteSet) → New l (arrives kind n f j s c)
     unfolding arrives
@@ -218,18 +174,21 @@ module _ (n f : ℕ) where
   after-send old Nothing j = sym (rw (has-none j) (or-false (has (old .to) j)))
   after-send old (To r x) j = has-or (old .to) r j
 
-  pub sent-more : (l : Sent) (a : Sends) (kind : Kind) (j : ℕ) → has ((ofKind kind (sentAfter l a)) .to) j ≡ (has ((ofKind kind l) .to) j || has (receiversOf (sendOf kind a)) j)
+  sent-kind : (l : Sent) (a : Sends) (kind : Kind) → ofKind kind (sentAfter l a) ≡ afterSend (ofKind kind l) (sendOf kind a)
   unfolding sentAfter
-  sent-more l a Vote j = after-send (l .vote) (a .vote) j
-  sent-more l a Ack j = after-send (l .ack) (a .ack) j
-  sent-more l a Help j = after-send (l .help) (a .help) j
-  sent-more l a Helped j = after-send (l .helped) (a .helped) j
+  sent-kind l a Vote = refl
+  sent-kind l a Ack = refl
+  sent-kind l a Help = refl
+  sent-kind l a Helped = refl
+
+  pub sent-more : (l : Sent) (a : Sends) (kind : Kind) (j : ℕ) → has ((ofKind kind (sentAfter l a)) .to) j ≡ (has ((ofKind kind l) .to) j || has (receiversOf (sendOf kind a)) j)
+  sent-more l a kind j = ap (λ (o : Outgoing). has (o .to) j) (sent-kind l a kind) ∙ after-send (ofKind kind l) (sendOf kind a) j
 
   abbrev sizeOf : Kind → Sent → ℕ
   sizeOf kind l = countTo n (has ((ofKind kind l) .to))
 
   more-sized : (l : Sent) (a : Answer) (kind : Kind) → New l a → sizeOf kind (sentAfter l (a .sends)) ≡ sizeOf kind l + countTo n (has (receiversOf (sendOf kind (a .sends))))
-  more-sized l a kind h = count-union n (has ((ofKind kind l) .to)) (has (receiversOf (sendOf kind (a .sends)))) (has ((ofKind kind (sentAfter l (a .sends))) .to)) (sent-more l (a .sends) kind) (λ j e. h .fresh kind j e)
+  more-sized l a kind h = count-union n (has ((ofKind kind l) .to)) (has (receiversOf (sendOf kind (a .sends)))) (has ((ofKind kind (sentAfter l (a .sends))) .to)) (sent-more l (a .sends) kind) (new-of l a h kind .fresh)
 
   -- all senders together
   abbrev pub messageCountV : View → Kind → ℕ
@@ -246,4 +205,4 @@ module _ (n f : ℕ) where
       → Stays j (ofKind kind (b .state .sent k)) (ofKind kind ((commitV b i a) .state .sent k))
   unfolding commitV
   commit-kept b i a h kind j k e = upd-all (λ m l. has ((ofKind kind (b .state .sent m)) .to) j ≡ true → Stays j (ofKind kind (b .state .sent m)) (ofKind kind l)) (b .state .sent) i (sentAfter (b .state .sent i) (a .sends))
-      (λ x. record { sent = sent-more (b .state .sent i) (a .sends) kind j ∙ or-l _ _ x; votes = h .same kind j x }) (λ m x. record { sent = x; votes = refl }) k e
+      (λ x. record { sent = sent-more (b .state .sent i) (a .sends) kind j ∙ or-l _ _ x; votes = ap (λ (o : Outgoing). o .votes) (sent-kind (b .state .sent i) (a .sends) kind) ∙ new-of (b .state .sent i) a h kind .same j x }) (λ m x. record { sent = x; votes = refl }) k e

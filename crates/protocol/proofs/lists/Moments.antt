@@ -1,7 +1,7 @@
 -- The statement's moments and the log of an order: an event stands in the log at its place exactly when it was accepted in the order of that moment.
 use Prim.Native.Nat.{ℕ}
 use mathlib.Core.Path.{_≡_, refl, sym, _∙_, ap, subst}
-use mathlib.Core.Bool.{Bool, true, false, not, _||_, cond}
+use mathlib.Core.Bool.{Bool, true, false, false≢true, not, _||_, cond}
 use mathlib.Core.List.{List, [], _∷_, _++_}
 use native.Mathlib.Omega.{arith}
 use mathlib.Core.Logic.{_⊎_, inl, inr}
@@ -9,13 +9,14 @@ use Rattle.ground.specs.Tests.{no-both, split, by-cond, or-no, or-no-l, or-no-r
 use Rattle.model.specs.QuestionLaws.{is-accepted}
 use Rattle.model.specs.Ranges.{sizesInRange}
 use Rattle.model.specs.declared.Event.{Event}
-use Rattle.model.specs.declared.Event.the-variants.{Lock, Order, Cast, Deliver, Timeout, Decide, Stop, Save, Restore, OfBallots}
+use Rattle.model.specs.declared.Event.the-variants.{Lock}
 use Rattle.protocol.specs.declared.Bench.{Bench}
 use Rattle.protocol.specs.Benches.{newBench, benchOf}
+use Rattle.protocol.specs.Events.{concernsOne}
 use Rattle.protocol.specs.Questions.{Reply, accepted, isAccepted, unless, firstNo, reply}
-use Rattle.protocol.specs.Steps.{orderOpened, proposedTo, decidedAs, answering, effectOf, perform, step, run}
+use Rattle.protocol.specs.Steps.{orderOpened, perform, step, run}
 use Rattle.protocol.specs.Claim.{after, opensOrder, opensAny, InOrder}
-use Rattle.protocol.proofs.view.View.{ask-l}
+use Rattle.protocol.proofs.view.Kinds.{by-sort, one, asks-lock}
 use Rattle.protocol.proofs.clean.Log.{In, entered}
 
 pub accepted-is : (r : Reply) → r ≡ accepted → isAccepted r ≡ true
@@ -99,62 +100,22 @@ split-in e (y ∷ later) earlier = inr (split-in e later earlier)
 
 -- events that enter the log ----------------------------------------------------
 
-abbrev pub Enters : Event → Type 0
-Enters (Lock a c own) = ⊥
-Enters (Order o) = ⊥
-Enters (Cast i w t) = Unit {0}
-Enters (Deliver i j k) = Unit {0}
-Enters (Timeout i) = Unit {0}
-Enters (Decide i w) = Unit {0}
-Enters (Stop i) = Unit {0}
-Enters (Save i) = Unit {0}
-Enters (OfBallots e) = Unit {0}
-Enters (Restore i) = Unit {0}
-
--- an event either begins the log anew or enters it, and what enters it opens no order
+-- an event that concerns one controller enters the log and opens no order; any other begins the log anew
 pub record Entry (b : Bench) (e : Event) : Type 0 where
-  enters : Enters e
   pub adds : (log : List Event) → entered e log ≡ (e ∷ log)
   pub opens : opensOrder b e ≡ false
 
+pub entry-of : (b : Bench) (e : Event) → concernsOne e ≡ true → Entry b e
+unfolding entered
+entry-of b e c = record { adds = λ log. ap (λ (t : Bool). cond t (e ∷ log) []) c; opens = one b e c .opens }
+
 entry : (b : Bench) (e : Event) → ((log : List Event) → entered e log ≡ []) ⊎ Entry b e
 unfolding entered
-entry b (Lock a c own) = inl (λ log. refl)
-entry b (Order o) = inl (λ log. refl)
-entry b (Cast i w t) = inr (record { enters = tt; adds = λ log. refl; opens = refl })
-entry b (Deliver i j k) = inr (record { enters = tt; adds = λ log. refl; opens = refl })
-entry b (Timeout i) = inr (record { enters = tt; adds = λ log. refl; opens = refl })
-entry b (Decide i w) = inr (record { enters = tt; adds = λ log. refl; opens = refl })
-entry b (Stop i) = inr (record { enters = tt; adds = λ log. refl; opens = refl })
-entry b (Save i) = inr (record { enters = tt; adds = λ log. refl; opens = refl })
-entry b (OfBallots e) = inr (record { enters = tt; adds = λ log. refl; opens = refl })
-entry b (Restore i) = inr (record { enters = tt; adds = λ log. refl; opens = refl })
-
-pub entry-of : (b : Bench) (e : Event) → Enters e → Entry b e
-unfolding entered
-entry-of b (Lock a c own) t = absurd t
-entry-of b (Order o) t = absurd t
-entry-of b (Cast i w t) u = record { enters = tt; adds = λ log. refl; opens = refl }
-entry-of b (Deliver i j k) u = record { enters = tt; adds = λ log. refl; opens = refl }
-entry-of b (Timeout i) u = record { enters = tt; adds = λ log. refl; opens = refl }
-entry-of b (Decide i w) u = record { enters = tt; adds = λ log. refl; opens = refl }
-entry-of b (Stop i) u = record { enters = tt; adds = λ log. refl; opens = refl }
-entry-of b (Save i) u = record { enters = tt; adds = λ log. refl; opens = refl }
-entry-of b (OfBallots e) u = record { enters = tt; adds = λ log. refl; opens = refl }
-entry-of b (Restore i) u = record { enters = tt; adds = λ log. refl; opens = refl }
+entry b e = elim (split (concernsOne e)) [ inl c ↦ inr (entry-of b e c) | inr c ↦ inl (λ log. ap (λ (t : Bool). cond t (e ∷ log) []) c) ]
 
 -- a refused event opens no order
-refused-opens : (b : Bench) (e : Event) → isAccepted (reply b e) ≡ false → opensOrder b e ≡ false
-refused-opens b (Lock a c own) q = refl
-refused-opens b (Order o) q = q
-refused-opens b (Cast i w t) q = refl
-refused-opens b (Deliver i j k) q = refl
-refused-opens b (Timeout i) q = refl
-refused-opens b (Decide i w) q = refl
-refused-opens b (Stop i) q = refl
-refused-opens b (Save i) q = refl
-refused-opens b (OfBallots e) q = refl
-refused-opens b (Restore i) q = refl
+pub refused-opens : (b : Bench) (e : Event) → isAccepted (reply b e) ≡ false → opensOrder b e ≡ false
+refused-opens b = by-sort (λ e. isAccepted (reply b e) ≡ false → opensOrder b e ≡ false) (λ n f own q. refl) (λ o q. q) (λ e c q. one b e c .opens)
 
 -- from the log to the list ---------------------------------------------------------
 
@@ -219,31 +180,13 @@ in-order es e m = let s : Split e (logAt es) = in-split e (logAt es) m in placed
 -- from the list to the log -----------------------------------------------------------
 
 -- an event that enters the log is asked for a lock, a bench keeps its lock, and then refuses another
-has-lock : (b : Bench) (e : Event) → Enters e → reply b e ≡ accepted → b .shared .locked ≡ true
-unfolding reply firstNo
-has-lock b (Lock a c own) t q = absurd t
-has-lock b (Order o) t q = absurd t
-has-lock b (Cast i w t) u q = ask-l 5 (b .shared .locked) _ (accepted-is _ q)
-has-lock b (Deliver i j k) u q = ask-l 5 (b .shared .locked) _ (accepted-is _ q)
-has-lock b (Timeout i) u q = ask-l 5 (b .shared .locked) _ (accepted-is _ q)
-has-lock b (Decide i w) u q = ask-l 5 (b .shared .locked) _ (accepted-is _ q)
-has-lock b (Stop i) u q = ask-l 5 (b .shared .locked) _ (accepted-is _ q)
-has-lock b (Save i) u q = ask-l 5 (b .shared .locked) _ (accepted-is _ q)
-has-lock b (OfBallots e) u q = ask-l 5 (b .shared .locked) _ (accepted-is _ q)
-has-lock b (Restore i) u q = ask-l 5 (b .shared .locked) _ (accepted-is _ q)
+has-lock : (b : Bench) (e : Event) → concernsOne e ≡ true → reply b e ≡ accepted → b .shared .locked ≡ true
+unfolding reply
+has-lock b e c q = elim (asks-lock _ e (accepted-is _ q)) [ inl l ↦ absurd (false≢true (ap concernsOne (sym (l .is)) ∙ c)) | inr h ↦ h ]
 
 perform-locked : (b : Bench) (e : Event) → b .shared .locked ≡ true → (perform b e) .shared .locked ≡ true
-unfolding perform benchOf orderOpened effectOf answering proposedTo decidedAs
-perform-locked b (Lock a c own) h = refl
-perform-locked b (Order o) h = h
-perform-locked b (Cast i w t) h = h
-perform-locked b (Deliver i j k) h = h
-perform-locked b (Timeout i) h = h
-perform-locked b (Decide i w) h = h
-perform-locked b (Stop i) h = h
-perform-locked b (Save i) h = h
-perform-locked b (OfBallots e) h = h
-perform-locked b (Restore i) h = h
+unfolding perform benchOf orderOpened
+perform-locked b e h = by-sort (λ e. (perform b e) .shared .locked ≡ true) (λ n f own. refl) (λ o. h) (λ e c. one b e c .locked ∙ h) e
 
 pub step-locked : (b : Bench) (e : Event) → b .shared .locked ≡ true → (step b e) .shared .locked ≡ true
 unfolding step
@@ -270,16 +213,8 @@ grew-step b x log h o = elim (split (isAccepted (reply b x))) [
 ]
   where
     by-kind : (x : Event) → isAccepted (reply b x) ≡ true → opensOrder b x ≡ false → Grew log (entered x log)
-    by-kind (Lock a c own) q o = absurd (no-both _ q (lock-refused b a c own h))
-    by-kind (Order a) q o = absurd (no-both _ q o)
-    by-kind (Cast i w t) q o = unfold entered in record { later = Cast i w t ∷ []; is = refl }
-    by-kind (Deliver i j k) q o = unfold entered in record { later = Deliver i j k ∷ []; is = refl }
-    by-kind (Timeout i) q o = unfold entered in record { later = Timeout i ∷ []; is = refl }
-    by-kind (Decide i w) q o = unfold entered in record { later = Decide i w ∷ []; is = refl }
-    by-kind (Stop i) q o = unfold entered in record { later = Stop i ∷ []; is = refl }
-    by-kind (Save i) q o = unfold entered in record { later = Save i ∷ []; is = refl }
-    by-kind (OfBallots e) q o = unfold entered in record { later = OfBallots e ∷ []; is = refl }
-    by-kind (Restore i) q o = unfold entered in record { later = Restore i ∷ []; is = refl }
+    by-kind = by-sort (λ x. isAccepted (reply b x) ≡ true → opensOrder b x ≡ false → Grew log (entered x log)) (λ n f own q o. absurd (no-both _ q (lock-refused b n f own h))) (λ o q z. absurd (no-both _ q z))
+        (λ x c q o. record { later = x ∷ []; is = entry-of b x c .adds log })
 
 grew : (es : List Event) (b : Bench) (log : List Event) → b .shared .locked ≡ true → opensAny b es ≡ false → Grew log (logOf b log es)
 unfolding logOf opensAny
@@ -294,7 +229,7 @@ pub record Stands (es : List Event) (e : Event) (before : List Event) : Type 0 w
   pub later : List Event
   pub is : logAt es ≡ later ++ (e ∷ logAt before)
 
-pub stands : (es : List Event) (e : Event) → Enters e → (t : InOrder es e) → Stands es e (t .before)
+pub stands : (es : List Event) (e : Event) → concernsOne e ≡ true → (t : InOrder es e) → Stands es e (t .before)
 stands es e u t =
     let b : Bench = after (t .before) in
     let h : b .shared .locked ≡ true = has-lock b e u (t .taken) in
@@ -311,5 +246,5 @@ stands es e u t =
     pushed : (b : Bench) → Entry (after (t .before)) e → push (after (t .before)) e (logAt (t .before)) ≡ (e ∷ logAt (t .before))
     pushed b y = unfold push in rw (accepted-is _ (t .taken)) (y .adds (logAt (t .before)))
 
-pub in-log : (es : List Event) (e : Event) → Enters e → InOrder es e → In e (logAt es)
+pub in-log : (es : List Event) (e : Event) → concernsOne e ≡ true → InOrder es e → In e (logAt es)
 in-log es e u t = let s : Stands es e (t .before) = stands es e u t in subst (In e) (sym (s .is)) (split-in e (s .later) (logAt (t .before)))

@@ -8,13 +8,14 @@ use mathlib.Core.Logic.{inl, inr}
 use borrow.Author.Tests.{leb-true}
 use Rattle.ground.specs.Tests.{no-both, split, by-cond, or-e, or-no-l, or-no-r}
 use Rattle.model.specs.declared.Event.{Event}
-use Rattle.model.specs.declared.Event.the-variants.{Lock, Order, Cast, Deliver, Timeout, Decide, Stop, Save, Restore, OfBallots}
+use Rattle.model.specs.declared.Event.the-variants.{Order}
 use Rattle.protocol.specs.declared.Bench.{Bench}
 use Rattle.protocol.specs.Questions.{isAccepted, firstNo, reply}
-use Rattle.protocol.specs.Steps.{orderOpened, proposedTo, decidedAs, answering, effectOf, perform, step, run}
+use Rattle.protocol.specs.Steps.{orderOpened, perform, step, run}
 use Rattle.protocol.specs.Claim.{opensOrder, opensAny}
 use Rattle.protocol.proofs.view.View.{ask-l, ask-r}
-use Rattle.protocol.proofs.lists.Moments.{step-locked, lock-refused}
+use Rattle.protocol.proofs.view.Kinds.{by-sort, one}
+use Rattle.protocol.proofs.lists.Moments.{refused-opens, step-locked, lock-refused}
 
 -- an accepted event goes on with the order, or opens a later one
 record Goes (b : Bench) (e : Event) (b′ : Bench) : Type 0 where
@@ -26,33 +27,14 @@ unfolding reply firstNo
 order-later b o q = leb-true _ _ (search (ask-l, ask-r) depth 14)
 
 perform-goes : (b : Bench) (e : Event) → b .shared .locked ≡ true → isAccepted (reply b e) ≡ true → Goes b e (perform b e)
-unfolding perform orderOpened effectOf answering proposedTo decidedAs
-perform-goes b (Lock a c own) h q = absurd (no-both _ q (lock-refused b a c own h))
-perform-goes b (Order o) h q = record { same = λ e. absurd (no-both _ q e); later = λ e. order-later b o q }
-perform-goes b (Cast i w t) h q = record { same = λ e. refl; later = λ e. absurd (false≢true e) }
-perform-goes b (Deliver i j k) h q = record { same = λ e. refl; later = λ e. absurd (false≢true e) }
-perform-goes b (Timeout i) h q = record { same = λ e. refl; later = λ e. absurd (false≢true e) }
-perform-goes b (Decide i w) h q = record { same = λ e. refl; later = λ e. absurd (false≢true e) }
-perform-goes b (Stop i) h q = record { same = λ e. refl; later = λ e. absurd (false≢true e) }
-perform-goes b (Save i) h q = record { same = λ e. refl; later = λ e. absurd (false≢true e) }
-perform-goes b (OfBallots e) h q = record { same = λ e. refl; later = λ e. absurd (false≢true e) }
-perform-goes b (Restore i) h q = record { same = λ e. refl; later = λ e. absurd (false≢true e) }
-
-not-opened : (b : Bench) (e : Event) → isAccepted (reply b e) ≡ false → opensOrder b e ≡ true → ⊥
-not-opened b (Lock a c own) q o = false≢true o
-not-opened b (Order a) q o = no-both _ o q
-not-opened b (Cast i w t) q o = false≢true o
-not-opened b (Deliver i j k) q o = false≢true o
-not-opened b (Timeout i) q o = false≢true o
-not-opened b (Decide i w) q o = false≢true o
-not-opened b (Stop i) q o = false≢true o
-not-opened b (Save i) q o = false≢true o
-not-opened b (OfBallots e) q o = false≢true o
-not-opened b (Restore i) q o = false≢true o
+unfolding perform orderOpened
+perform-goes b e h = by-sort (λ e. isAccepted (reply b e) ≡ true → Goes b e (perform b e)) (λ n f own q. absurd (no-both _ q (lock-refused b n f own h)))
+    (λ o q. record { same = λ x. absurd (no-both _ q x); later = λ x. order-later b o q })
+    (λ e c q. record { same = λ x. one b e c .order; later = λ x. absurd (no-both _ x (one b e c .opens)) }) e
 
 step-goes : (b : Bench) (e : Event) → b .shared .locked ≡ true → Goes b e (step b e)
 unfolding step
-step-goes b e h = by-cond (Goes b e) (isAccepted (reply b e)) (perform b e) b (perform-goes b e h) (λ q. record { same = λ o. refl; later = λ o. absurd (not-opened b e q o) })
+step-goes b e h = by-cond (Goes b e) (isAccepted (reply b e)) (perform b e) b (perform-goes b e h) (λ q. record { same = λ o. refl; later = λ o. absurd (no-both _ o (refused-opens b e q)) })
 
 step-order : (b : Bench) (e : Event) → b .shared .locked ≡ true → b .shared .order ≤ (step b e) .shared .order
 step-order b e h = elim (split (opensOrder b e)) [

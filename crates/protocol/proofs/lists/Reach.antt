@@ -10,14 +10,17 @@ use Rattle.ground.specs.Tests.{split}
 use Rattle.model.specs.Ranges.{sizesInRange}
 use Rattle.model.specs.RangeLaws.{ranges}
 use Rattle.model.specs.declared.Event.{Event}
-use Rattle.model.specs.declared.Event.the-variants.{Lock, Order, Cast, Deliver, Timeout, Decide, Stop, Save, Restore, OfBallots}
+use Rattle.model.specs.declared.Event.the-variants.{Lock}
 use Rattle.protocol.specs.declared.Bench.{Bench}
 use Rattle.protocol.specs.Benches.{newBench, benchOf}
-use Rattle.protocol.specs.Questions.{firstNo, unless, reply}
+use Rattle.protocol.specs.Questions.{isAccepted, firstNo, reply}
 use Rattle.protocol.specs.Steps.{perform, step, run}
 use Rattle.protocol.specs.Claim.{after}
 use Rattle.protocol.proofs.view.Simulation.{Sound, step-steps}
-use Rattle.protocol.proofs.lists.Start.{lock-sound, idle}
+use Rattle.protocol.proofs.view.View.{ask-l}
+use Rattle.protocol.proofs.view.Kinds.{IsLock}
+use Rattle.protocol.proofs.lists.Moments.{refused-step}
+use Rattle.protocol.proofs.lists.Start.{new-lock, lock-sound}
 
 abbrev pub Reached : Bench → Type 0
 Reached b = (b ≡ newBench) ⊎ Sound b
@@ -31,22 +34,13 @@ pub record JustLocked (b : Bench) : Type 0 where
   pub is : b ≡ benchOf true n f own
 
 pub new-step : (e : Event) → (step newBench e ≡ newBench) ⊎ JustLocked (step newBench e)
-new-step (Lock n f own) = elim (split (sizesInRange n f)) [
-  | inl z ↦ inr (record { n = n; f = f; own = own; sized = z; is = locks z })
-  | inr z ↦ inl (unfold step reply firstNo unless in rw z)
+new-step e = elim (split (isAccepted (reply newBench e))) [
+  | inl q ↦ let l : IsLock e = new-lock e q in inr (subst (λ (x : Event). JustLocked (step newBench x)) (sym (l .is)) (locks (l .n) (l .f) (l .own) (rw (l .is) at q)))
+  | inr q ↦ inl (refused-step newBench e q)
 ]
   where
-    locks : sizesInRange n f ≡ true → step newBench (Lock n f own) ≡ benchOf true n f own
-    locks z = unfold step reply firstNo unless benchOf perform in rw z
-new-step (Order o) = inl (idle (Order o) tt)
-new-step (Cast i w t) = inl (idle (Cast i w t) tt)
-new-step (Deliver i j k) = inl (idle (Deliver i j k) tt)
-new-step (Timeout i) = inl (idle (Timeout i) tt)
-new-step (Decide i w) = inl (idle (Decide i w) tt)
-new-step (Stop i) = inl (idle (Stop i) tt)
-new-step (Save i) = inl (idle (Save i) tt)
-new-step (OfBallots e) = inl (idle (OfBallots e) tt)
-new-step (Restore i) = inl (idle (Restore i) tt)
+    locks : (n f : ℕ) (own : Bool) → isAccepted (reply newBench (Lock n f own)) ≡ true → JustLocked (step newBench (Lock n f own))
+    locks n f own q = record { n = n; f = f; own = own; sized = unfold reply firstNo in ask-l _ _ _ q; is = unfold step perform in rw q }
 
 pub locked-sound : (b : Bench) → JustLocked b → Sound b
 locked-sound b l = subst Sound (sym (l .is)) (lock-sound (l .n) (l .f) (l .own) (l .sized))

@@ -1,7 +1,7 @@
 -- From the new bench on: either nothing was accepted yet, or one lock was, and the views start from a fresh bench of that n and f.
 use Prim.Native.Nat.{ℕ, zero, suc, _≤_, _<_}
 use mathlib.Core.Path.{_≡_, refl, sym, _∙_, ap, subst}
-use mathlib.Core.Bool.{Bool, true, false}
+use mathlib.Core.Bool.{Bool, true, false, false≢true}
 use mathlib.Core.List.{List, [], _∷_, _++_}
 use native.Mathlib.Omega.{arith}
 use lib.ListN.{length, replicate}
@@ -16,7 +16,7 @@ use Rattle.model.specs.Ranges.{sizesInRange}
 use Rattle.model.specs.RangeLaws.{ranges}
 use Rattle.model.specs.declared.Outcome.the-variants.{None}
 use Rattle.model.specs.declared.Event.{Event}
-use Rattle.model.specs.declared.Event.the-variants.{Lock, Order, Cast, Deliver, Timeout, Decide, Stop, Save, Restore, OfBallots}
+use Rattle.model.specs.declared.Event.the-variants.{Lock}
 use Rattle.protocol.specs.declared.Station.{Station}
 use Rattle.protocol.specs.declared.Saved.{Saved}
 use Rattle.protocol.specs.declared.Saved.the-variants.{Nothing, Newest}
@@ -24,17 +24,20 @@ use Rattle.model.specs.declared.Checkpoint.{Checkpoint}
 use Rattle.protocol.specs.declared.Bench.{Bench}
 use Rattle.protocol.specs.Controllers.{outcome}
 use Rattle.protocol.specs.Benches.{unsentAll, fresh, freshStation, benchOf, newBench, station, controller}
-use Rattle.protocol.specs.Questions.{isAccepted, unless, firstNo, reply}
+use Rattle.protocol.specs.Questions.{isAccepted, firstNo, reply}
 use Rattle.protocol.specs.Steps.{perform, step, run}
 use Rattle.protocol.specs.Display.{shownOutcome, shownPosition}
+use Rattle.protocol.specs.Events.{concernsOne}
 use Rattle.protocol.proofs.paxos.Order.{Balloted, new-balloted}
 use Rattle.protocol.proofs.invariant.Invariant.{votedBy, ackedBy, Inv}
 use Rattle.protocol.proofs.invariant.Decisions.{Blank, blank-inv}
 use Rattle.protocol.proofs.clean.Log.{entered}
 use Rattle.protocol.proofs.clean.Parts.{Good, blank-good}
+use Rattle.protocol.proofs.view.View.{ask-l}
+use Rattle.protocol.proofs.view.Kinds.{IsLock, asks-lock}
 use Rattle.protocol.proofs.view.Simulation.{view, Any, Sound}
 use Rattle.protocol.proofs.ranges.Ranges.{InRange, SentIn, AllIn, unsent-in}
-use Rattle.protocol.proofs.lists.Moments.{push, logOf}
+use Rattle.protocol.proofs.lists.Moments.{push, logOf, refused-step}
 
 -- one lock was accepted
 pub record Opened (es : List Event) : Type 0 where
@@ -67,84 +70,39 @@ again e es q z (inr o) = inr (record {
   silent = ap (λ (b : Bench). logOf b (push newBench e []) es) q ∙ ap (λ (l : List Event). logOf newBench l es) z ∙ o .silent;
 })
 
-lock-push : (a c : ℕ) (own : Bool) → push newBench (Lock a c own) [] ≡ []
-unfolding push entered
-lock-push a c own = by-cond (λ (l : List Event). l ≡ []) (isAccepted (reply newBench (Lock a c own))) [] [] (λ e. refl) (λ e. refl)
-
-lock-step : (a c : ℕ) (own : Bool) (es : List Event) → (run newBench es ≡ newBench) ⊎ Opened es → (run newBench (Lock a c own ∷ es) ≡ newBench) ⊎ Opened (Lock a c own ∷ es)
+locked-first : (n f : ℕ) (own : Bool) (es : List Event) → isAccepted (reply newBench (Lock n f own)) ≡ true → Opened (Lock n f own ∷ es)
 unfolding run logOf
-lock-step a c own es h = elim (split (sizesInRange a c)) [
-  | inl q ↦ inr (record {
-    n = a;
-    f = c;
-    own = own;
-    pre = [];
-    post = es;
-    parts = refl;
-    sized = q;
-    idle = refl;
-    locks = taken a c own q;
-    is = ap (λ (b : Bench). run b es) (taken a c own q);
-    silent = ap (λ (b : Bench). logOf b (push newBench (Lock a c own) []) es) (taken a c own q) ∙ ap (λ (l : List Event). logOf (benchOf true a c own) l es) (lock-push a c own);
-  })
-  | inr q ↦ again (Lock a c own) es (passedOver a c own q) (lock-push a c own) h
-]
+locked-first n f own es q = record {
+  n = n;
+  f = f;
+  own = own;
+  pre = [];
+  post = es;
+  parts = refl;
+  sized = unfold reply firstNo in ask-l _ _ _ q;
+  idle = refl;
+  locks = taken;
+  is = ap (λ (b : Bench). run b es) taken;
+  silent = ap (λ (b : Bench). logOf b (push newBench (Lock n f own) []) es) taken ∙ (unfold push entered in rw q);
+}
   where
-    taken : (a c : ℕ) (own : Bool) → sizesInRange a c ≡ true → step newBench (Lock a c own) ≡ benchOf true a c own
-    taken a c own q = unfold step reply firstNo unless benchOf perform in rw q
-
-    passedOver : (a c : ℕ) (own : Bool) → sizesInRange a c ≡ false → step newBench (Lock a c own) ≡ newBench
-    passedOver a c own q = unfold step reply firstNo unless in rw q
+    taken : step newBench (Lock n f own) ≡ benchOf true n f own
+    taken = unfold step perform in rw q
 
 -- before the lock every other event is refused
-abbrev NotLock : Event → Type 0
-NotLock (Lock a c own) = ⊥
-NotLock (Order o) = Unit {0}
-NotLock (Cast i w t) = Unit {0}
-NotLock (Deliver i j k) = Unit {0}
-NotLock (Timeout i) = Unit {0}
-NotLock (Decide i w) = Unit {0}
-NotLock (Stop i) = Unit {0}
-NotLock (Save i) = Unit {0}
-NotLock (OfBallots e) = Unit {0}
-NotLock (Restore i) = Unit {0}
+pub new-lock : (e : Event) → isAccepted (reply newBench e) ≡ true → IsLock e
+unfolding reply
+new-lock e q = elim (asks-lock _ e q) [ inl l ↦ l | inr h ↦ absurd (false≢true (unfold benchOf in h)) ]
 
-pub unlocked : (e : Event) → NotLock e → isAccepted (reply newBench e) ≡ false
-unfolding reply firstNo unless benchOf
-unlocked (Lock a c own) h = absurd h
-unlocked (Order o) h = refl
-unlocked (Cast i w t) h = refl
-unlocked (Deliver i j k) h = refl
-unlocked (Timeout i) h = refl
-unlocked (Decide i w) h = refl
-unlocked (Stop i) h = refl
-unlocked (Save i) h = refl
-unlocked (OfBallots e) h = refl
-unlocked (Restore i) h = refl
-
-pub idle : (e : Event) → NotLock e → step newBench e ≡ newBench
-unfolding step
-idle e h = rw (unlocked e h)
-
-idle-push : (e : Event) → NotLock e → push newBench e [] ≡ []
-unfolding push
-idle-push e h = rw (unlocked e h)
-
-waits : (e : Event) (es : List Event) → NotLock e → (run newBench es ≡ newBench) ⊎ Opened es → (run newBench (e ∷ es) ≡ newBench) ⊎ Opened (e ∷ es)
-waits e es h = again e es (idle e h) (idle-push e h)
+pub new-refuses : (e : Event) → concernsOne e ≡ true → isAccepted (reply newBench e) ≡ true → ⊥
+new-refuses e c q = false≢true (ap concernsOne (sym (new-lock e q .is)) ∙ c)
 
 pub start : (es : List Event) → (run newBench es ≡ newBench) ⊎ Opened es
 start [] = unfold run in inl refl
-start (Lock a c own ∷ es) = lock-step a c own es (start es)
-start (Order o ∷ es) = waits (Order o) es tt (start es)
-start (Cast i w t ∷ es) = waits (Cast i w t) es tt (start es)
-start (Deliver i j k ∷ es) = waits (Deliver i j k) es tt (start es)
-start (Timeout i ∷ es) = waits (Timeout i) es tt (start es)
-start (Decide i w ∷ es) = waits (Decide i w) es tt (start es)
-start (Stop i ∷ es) = waits (Stop i) es tt (start es)
-start (Save i ∷ es) = waits (Save i) es tt (start es)
-start (OfBallots e ∷ es) = waits (OfBallots e) es tt (start es)
-start (Restore i ∷ es) = waits (Restore i) es tt (start es)
+start (e ∷ es) = elim (split (isAccepted (reply newBench e))) [
+  | inl q ↦ let l : IsLock e = new-lock e q in inr (subst (λ (x : Event). Opened (x ∷ es)) (sym (l .is)) (locked-first (l .n) (l .f) (l .own) es (rw (l .is) at q)))
+  | inr q ↦ again e es (refused-step newBench e q) (unfold push in rw q) (start es)
+]
 
 -- the stations of a bench on which nothing has happened
 pub all-of-copies : {A : Type 0} (P : A → Type 0) (d a : A) → P d → P a → (m k : ℕ) → P (nth d (replicate m a) k)
@@ -241,13 +199,8 @@ pub new-holds : (k : ℕ) → shownOutcome newBench k ≡ None
 new-holds k = freshes false 0 0 false k .ctl .outcome
 
 pub new-still : (e : Event) (k : ℕ) → shownPosition (step newBench e) k ≡ shownPosition newBench k
-new-still (Lock a c own) k = unfold step perform in by-cond (λ (b : Bench). shownPosition b k ≡ shownPosition newBench k) (isAccepted (reply newBench (Lock a c own))) (benchOf true a c own) newBench (λ q. freshes true a c own k .position ∙ sym (freshes false 0 0 false k .position)) (λ q. refl)
-new-still (Order o) k = ap (λ (b : Bench). shownPosition b k) (idle (Order o) tt)
-new-still (Cast i w t) k = ap (λ (b : Bench). shownPosition b k) (idle (Cast i w t) tt)
-new-still (Deliver i j x) k = ap (λ (b : Bench). shownPosition b k) (idle (Deliver i j x) tt)
-new-still (Timeout i) k = ap (λ (b : Bench). shownPosition b k) (idle (Timeout i) tt)
-new-still (Decide i w) k = ap (λ (b : Bench). shownPosition b k) (idle (Decide i w) tt)
-new-still (Stop i) k = ap (λ (b : Bench). shownPosition b k) (idle (Stop i) tt)
-new-still (Save i) k = ap (λ (b : Bench). shownPosition b k) (idle (Save i) tt)
-new-still (OfBallots e) k = ap (λ (b : Bench). shownPosition b k) (idle (OfBallots e) tt)
-new-still (Restore i) k = ap (λ (b : Bench). shownPosition b k) (idle (Restore i) tt)
+unfolding step
+new-still e k = by-cond (λ (b : Bench). shownPosition b k ≡ shownPosition newBench k) (isAccepted (reply newBench e)) (perform newBench e) newBench (λ q. let l : IsLock e = new-lock e q in rw (l .is) (locked (l .n) (l .f) (l .own))) (λ q. refl)
+  where
+    locked : (n f : ℕ) (own : Bool) → shownPosition (perform newBench (Lock n f own)) k ≡ shownPosition newBench k
+    locked n f own = unfold perform in freshes true n f own k .position ∙ sym (freshes false 0 0 false k .position)

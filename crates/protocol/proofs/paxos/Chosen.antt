@@ -2,41 +2,33 @@
 -- takers stay, so that what is chosen at one moment is chosen at every later one.
 use Prim.Native.Nat.{ℕ, _≤_, _<_, _*_}
 use mathlib.Core.Path.{_≡_, refl, sym, _∙_, ap, subst}
-use mathlib.Core.Bool.{Bool, true, false, cond, _&&_, false≢true}
+use mathlib.Core.Bool.{Bool, true, false, cond, _&&_}
 use mathlib.Core.List.{List, [], _∷_, _++_}
 use mathlib.Core.Logic.{inl, inr}
 use native.Mathlib.Omega.{arith}
-use lib.Dec.{leb, ltb}
-use borrow.Author.Tests.{leb-true, ltb-true}
+use borrow.Author.Tests.{ltb-true}
 use Rattle.ground.specs.Limit.{limit}
-use Rattle.ground.specs.Tests.{split, no-both, by-cond, and-l, and-r, or-no-l, or-no-r}
+use Rattle.ground.specs.Tests.{split, no-both, and-l, and-r, or-no-l, or-no-r}
 use Rattle.ground.specs.Quantify.{countTo}
-use Rattle.model.specs.Numbers.{wordOf}
-use Rattle.model.specs.Ranges.{sizesInRange, isController, differentControllers}
 use Rattle.model.specs.RangeLaws.{ranges}
-use Rattle.model.specs.declared.BallotKind.{BallotKind}
-use Rattle.model.specs.declared.BallotKind.the-variants.{Prepare, Promise, Accept, Accepted as Taken}
-use Rattle.model.specs.declared.BallotEvent.{BallotEvent}
-use Rattle.model.specs.declared.BallotEvent.the-variants.{Open, Carry}
 use Rattle.model.specs.declared.Event.{Event}
-use Rattle.model.specs.declared.Event.the-variants.{Lock, Order, Cast, Deliver, Timeout, Decide, Stop, Save, Restore, OfBallots}
+use Rattle.model.specs.declared.Event.the-variants.{Order, Decide}
 use Rattle.protocol.specs.declared.Bench.{Bench}
 use Rattle.protocol.specs.Benches.{newBench, benchOf}
-use Rattle.protocol.specs.Ballots.{ballotLimit, isBallot, majority, row, isChosen}
-use Rattle.protocol.specs.BallotSteps.{carried, ballotsAfter}
+use Rattle.protocol.specs.Ballots.{majority, row, isChosen}
 use Rattle.protocol.specs.Questions.{firstNo, isAccepted, wasProposed, noOther, reply}
 use Rattle.protocol.specs.Steps.{step, run}
-use Rattle.protocol.specs.Claim.{after, Accepted, opensOrder, opensAny}
+use Rattle.protocol.specs.Claim.{after, opensOrder, opensAny}
 use Rattle.protocol.specs.BallotClaim.{Chosen, BallotsAgree}
 use Rattle.protocol.proofs.view.View.{View, ballotsV, accepts, ask-l, ask-r}
-use Rattle.protocol.proofs.view.Performed.{commitV, chosen, savedV, performV, stepV}
+use Rattle.protocol.proofs.view.Performed.{commitV, chosen, savedV, performV, stepV, by-effect}
 use Rattle.protocol.proofs.view.Simulation.{view, Sound, reply-sim, step-sim, step-steps}
 use Rattle.protocol.proofs.paxos.Growth.{Grown, grown-refl}
 use Rattle.protocol.proofs.paxos.Order.{Balloted, chosen-found, chosen-on, put-first, one, ballots-grown}
 use Rattle.protocol.proofs.paxos.Order as O
 use Rattle.protocol.proofs.lists.Moments.{accepted-is, run-append, refused-step}
-use Rattle.protocol.proofs.lists.Start.{unlocked}
-use Rattle.protocol.proofs.lists.Reach.{Reached, new-step, step-reached, reached}
+use Rattle.protocol.proofs.lists.Start.{new-refuses}
+use Rattle.protocol.proofs.lists.Reach.{Reached, step-reached, reached}
 
 -- the statement's "chosen" and the proof's
 inside : (b : Bench) (x : Bool) → Chosen b x → O.Chosen (b .shared .n) (b .ballots) x
@@ -46,33 +38,16 @@ outside : (b : Bench) (x : Bool) → O.Chosen (b .shared .n) (b .ballots) x → 
 outside b x c = record { ballot = c .at; word = c .word; taken = c .taken }
 
 -- an accepted event that opens no order leaves each ballot's word and its takers
-abbrev NoOrder : Event → Type 0
-NoOrder (Lock a c own) = Unit {0}
-NoOrder (Order o) = ⊥
-NoOrder (Cast i w t) = Unit {0}
-NoOrder (Deliver i j k) = Unit {0}
-NoOrder (Timeout i) = Unit {0}
-NoOrder (Decide i w) = Unit {0}
-NoOrder (Stop i) = Unit {0}
-NoOrder (Save i) = Unit {0}
-NoOrder (Restore i) = Unit {0}
-NoOrder (OfBallots e) = Unit {0}
-
 abbrev AllGrown : View → View → Type 0
 AllGrown v w = (c : ℕ) → Grown (row (v .ballots) c) (row (w .ballots) c)
 
-perform-grown : (n f : ℕ) → n ≤ limit → (v : View) (e : Event) → Balloted n v → accepts n f v e ≡ true → NoOrder e → AllGrown v (performV n f v e)
-unfolding performV commitV
-perform-grown n f small v (Lock a c own) ok q z = λ c. grown-refl (row (v .ballots) c)
-perform-grown n f small v (Order o) ok q z = absurd z
-perform-grown n f small v (Cast i w t) ok q z = λ c. grown-refl (row (v .ballots) c)
-perform-grown n f small v (Deliver i j k) ok q z = λ c. grown-refl (row (v .ballots) c)
-perform-grown n f small v (Timeout i) ok q z = λ c. grown-refl (row (v .ballots) c)
-perform-grown n f small v (Decide i w) ok q z = unfold chosen in λ c. grown-refl (row (v .ballots) c)
-perform-grown n f small v (Stop i) ok q z = λ c. grown-refl (row (v .ballots) c)
-perform-grown n f small v (Save i) ok q z = unfold savedV in λ c. grown-refl (row (v .ballots) c)
-perform-grown n f small v (Restore i) ok q z = λ c. grown-refl (row (v .ballots) c)
-perform-grown n f small v (OfBallots e) ok q z = unfold ballotsV in ballots-grown n f small v e ok q
+perform-grown : (n f : ℕ) → n ≤ limit → (v : View) (e : Event) → Balloted n v → accepts n f v e ≡ true → ((o : ℕ) → e ≡ Order o → ⊥) → AllGrown v (performV n f v e)
+unfolding commitV
+perform-grown n f small v e ok q z = by-effect n f v (λ e w. accepts n f v e ≡ true → ((o : ℕ) → e ≡ Order o → ⊥) → AllGrown v w) (λ a c own q z. same) (λ o q z. absurd (z o refl)) (λ e c q z. same)
+    (λ i w q z. unfold chosen in same) (λ i q z. unfold savedV in same) (λ e q z. unfold ballotsV performV in ballots-grown n f small v e ok q) e q z
+  where
+    same : (c : ℕ) → Grown (row (v .ballots) c) (row (v .ballots) c)
+    same c = grown-refl (row (v .ballots) c)
 
 module _ (b : Bench) (a : Sound b) where
   small : b .shared .n ≤ limit
@@ -81,12 +56,12 @@ module _ (b : Bench) (a : Sound b) where
   stepped : (e : Event) → isAccepted (reply b e) ≡ true → view (step b e) ≡ performV (b .shared .n) (b .shared .f) (view b) e
   stepped e q = step-sim b a e ∙ (unfold stepV in rw (sym (reply-sim b a e) ∙ q))
 
-  step-grown : (e : Event) → isAccepted (reply b e) ≡ true → NoOrder e → AllGrown (view b) (view (step b e))
+  step-grown : (e : Event) → isAccepted (reply b e) ≡ true → ((o : ℕ) → e ≡ Order o → ⊥) → AllGrown (view b) (view (step b e))
   step-grown e q z = subst (AllGrown (view b)) (sym (stepped e q))
       (perform-grown (b .shared .n) (b .shared .f) small (view b) e (a .balloted) (sym (reply-sim b a e) ∙ q) z)
 
   -- what is chosen stays so
-  chosen-step : (e : Event) (x : Bool) → isAccepted (reply b e) ≡ true → NoOrder e → Chosen b x → Chosen (step b e) x
+  chosen-step : (e : Event) (x : Bool) → isAccepted (reply b e) ≡ true → ((o : ℕ) → e ≡ Order o → ⊥) → Chosen b x → Chosen (step b e) x
   chosen-step e x q z c = outside (step b e) x (subst (λ (n : ℕ). O.Chosen n ((step b e) .ballots) x) (sym (step-steps b a e .same-n))
       (chosen-on (b .shared .n) (b .ballots) ((step b e) .ballots) x (unfold view in step-grown e q z) (inside b x c)))
 
@@ -95,17 +70,8 @@ nothing-new : {X : Type 0} (x : Bool) → Chosen newBench x → X
 unfolding benchOf majority countTo
 nothing-new x c = let z : 0 < 2 * 0 = ltb-true 0 (2 * 0) (c .taken) in absurd (omega arith)
 
-not-opening : (b : Bench) (e : Event) → isAccepted (reply b e) ≡ true → opensOrder b e ≡ false → NoOrder e
-not-opening b (Lock a c own) q z = tt
-not-opening b (Order o) q z = no-both (isAccepted (reply b (Order o))) q z
-not-opening b (Cast i w t) q z = tt
-not-opening b (Deliver i j k) q z = tt
-not-opening b (Timeout i) q z = tt
-not-opening b (Decide i w) q z = tt
-not-opening b (Stop i) q z = tt
-not-opening b (Save i) q z = tt
-not-opening b (Restore i) q z = tt
-not-opening b (OfBallots e) q z = tt
+not-opening : (b : Bench) (e : Event) → isAccepted (reply b e) ≡ true → opensOrder b e ≡ false → ((o : ℕ) → e ≡ Order o → ⊥)
+not-opening b e q z o y = no-both (isAccepted (reply b (Order o))) (rw y at q) (rw y at z)
 
 step-stays : (b : Bench) (e : Event) (x : Bool) → Reached b → opensOrder b e ≡ false → Chosen b x → Chosen (step b e) x
 step-stays b e x (inl z) o c = nothing-new x (subst (λ (y : Bench). Chosen y x) z c)
@@ -147,7 +113,7 @@ module _ (b : Bench) (i : ℕ) (x : Bool) where
   settled = cond (b .shared .own) (isChosen (b .shared .n) (b .ballots) x) true
 
   no-arbiter : {X : Type 0} → b ≡ newBench → isAccepted (reply b (Decide i x)) ≡ true → X
-  no-arbiter z q = absurd (no-both _ (ap (λ (y : Bench). isAccepted (reply y (Decide i x))) (sym z) ∙ q) (unlocked (Decide i x) tt))
+  no-arbiter z q = absurd (new-refuses (Decide i x) refl (ap (λ (y : Bench). isAccepted (reply y (Decide i x))) (sym z) ∙ q))
 
   chosen-given : Reached b → b .shared .own ≡ true → isAccepted (reply b (Decide i x)) ≡ true → Chosen b x
   chosen-given (inl z) own q = no-arbiter z q

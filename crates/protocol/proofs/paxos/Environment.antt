@@ -5,7 +5,7 @@ use mathlib.Core.Bool.{Bool, true, cond}
 use Rattle.model.specs.Numbers.{wordOf}
 use Rattle.model.specs.declared.Outcome.{Outcome}
 use Rattle.protocol.proofs.paxos.View.{View}
-use Rattle.protocol.proofs.paxos.Invariant.{IsPut, Opened, Inv}
+use Rattle.protocol.proofs.paxos.Invariant.{IsPut, Inv}
 
 abbrev pub around : View → (ℕ → Bool) → (ℕ → Outcome) → Bool → Bool → View
 around v runs own move stay = record {

@@ -1,35 +1,31 @@
 -- Each rule keeps the invariant: the state with the rule's answer put back at one controller and one ballot.
-use Prim.Native.Nat.{ℕ, _≤_, _<_, _*_}
+use Prim.Native.Nat.{ℕ, _≤_, _*_}
 use mathlib.Core.Path.{_≡_, refl, sym, _∙_, ap, subst}
-use mathlib.Core.Bool.{Bool, true, false, cond, not, _&&_}
+use mathlib.Core.Bool.{Bool, true, false, cond, not}
 use mathlib.Core.Logic.{_⊎_, inl, inr}
 use native.Mathlib.Omega.{arith}
 use lib.ListN.{length}
 use lib.Dec.{eqb, leb, ltb}
 use borrow.Author.Tests.{eqb-true, eqb-false, leb-true}
 use Rattle.ground.specs.Limit.{limit}
-use Rattle.ground.specs.Tests.{split, no-both, by-cond, and-l, and-r}
+use Rattle.ground.specs.Tests.{split, by-cond, and-l, and-r}
 use Rattle.ground.specs.Update.{upd, upd-same}
-use Rattle.ground.specs.Lists.{nth, put, nth-put-at}
-use Rattle.ground.specs.Mask.{width, has, insert}
+use Rattle.ground.specs.Lists.{nth, nth-put-at}
+use Rattle.ground.specs.Mask.{width, has}
 use Rattle.ground.specs.MaskLaws.{insert-own}
 use Rattle.ground.specs.Quantify.{countTo}
 use Rattle.model.specs.Numbers.{isNone, wordOf}
 use Rattle.model.specs.declared.Outcome.{Outcome}
-use Rattle.protocol.specs.declared.Acceptor.{Acceptor}
 use Rattle.protocol.specs.declared.Report.{Report}
-use Rattle.protocol.specs.declared.Tally.{Tally}
 use Rattle.protocol.specs.declared.BallotAnswer.{BallotAnswer}
 use Rattle.protocol.specs.declared.BallotRow.{BallotRow}
 use Rattle.protocol.specs.Ballots.{owner, majority, report}
-use Rattle.protocol.specs.BallotRules.{noPromise, unanswered, answersPrepare, givePromise, prepareArrives, answersAccept, accept, acceptArrives, counts, counting, wordFor, withWord, putting, putWord, putIfMajority, promiseArrives, promising, reporting, giving, openBallot}
+use Rattle.protocol.specs.BallotRules.{noPromise, unanswered, answersPrepare, givePromise, prepareArrives, answersAccept, acceptArrives, counts, counting, wordFor, withWord, putting, putWord, putIfMajority, promiseArrives, promising, reporting, giving, openBallot}
 use Rattle.protocol.specs.BallotSteps.{rowAfter}
-use Rattle.protocol.proofs.paxos.Meet.{most}
-use Rattle.protocol.proofs.paxos.View.{View, promiseV, takeV, countV, putV}
-use Rattle.protocol.proofs.paxos.Invariant.{IsPut, MemberSound, PromiseSound, TopSound, PutSound, Opened, Inv}
+use Rattle.protocol.proofs.paxos.Invariant.{IsPut, MemberSound, TopSound, Inv}
 use Rattle.protocol.proofs.paxos.Changes.{promise-inv, take-inv, count-inv, put-inv}
-use Rattle.protocol.proofs.paxos.Parts.{Member, Part, applied, withTally, promise-silent}
-use Rattle.protocol.proofs.paxos.Simulation.{viewAt, at-member, at-ballot, promisedPart, acceptedPart, countedPart, wordedPart, promise-view, take-view, count-view, put-view}
+use Rattle.protocol.proofs.paxos.Parts.{Member, Part, applied, promise-silent}
+use Rattle.protocol.proofs.paxos.Simulation.{viewAt, at-member, at-ballot, promisedPart, countedPart, wordedPart, promise-view, take-view, count-view, put-view}
 
 not-false : (t : Bool) → not t ≡ true → t ≡ false
 not-false true e = sym e

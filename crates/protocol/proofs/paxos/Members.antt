@@ -1,7 +1,7 @@
 -- What the rules of document 01 do to a controller, as far as ballots look at it: a word put stays while it runs, and the arbiter hears of each.
-use Prim.Native.Nat.{ℕ, _≤_}
+use Prim.Native.Nat.{ℕ}
 use mathlib.Core.Path.{_≡_, refl, sym, _∙_, ap}
-use mathlib.Core.Bool.{Bool, true, false, not, _&&_, false≢true}
+use mathlib.Core.Bool.{Bool, true, false, not, _&&_}
 use mathlib.Core.Logic.{_⊎_, inl, inr}
 use Rattle.ground.specs.Tests.{no-both, by-cond}
 use Rattle.votes.specs.Joining.{unanimousIn}
@@ -16,7 +16,7 @@ use Rattle.protocol.specs.declared.Condition.{Condition}
 use Rattle.protocol.specs.declared.Controller.{Controller}
 use Rattle.protocol.specs.declared.Answer.{Answer}
 use Rattle.protocol.specs.Controllers.{isRunning, runs, cleared, hasAck, advance, learn, aim, keepAck, keepHelped, freeze, addCaller, await, propose, conclude}
-use Rattle.protocol.specs.Rules.{passedOver, becomes, proposing, verdict, voteRule, countOwn, firstTimeout, ackJoin, proposeIfSufficient, answersJoin, helpVotes, frozen, ready, callsHelp, secondTimeout, keepsCall, answersCall}
+use Rattle.protocol.specs.Rules.{passedOver, becomes, proposing, verdict, voteRule, countOwn, firstTimeout, ackJoin, proposeIfSufficient, answersJoin, frozen, ready, callsHelp, secondTimeout, keepsCall, answersCall}
 use Rattle.protocol.specs.Calls.{arrives}
 use Rattle.protocol.proofs.view.Performed.{timeoutRule}
 use Rattle.protocol.proofs.view.RuleCases.{vote-cases, ack-cases, helped-cases, help-cases, sufficient-cases, second-cases, timeout-cases}

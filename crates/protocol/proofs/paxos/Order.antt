@@ -3,16 +3,16 @@ use Prim.Native.Nat.{ℕ, zero, suc, _≤_, _<_, _*_}
 use mathlib.Core.Path.{_≡_, refl, sym, _∙_, ap, subst}
 use mathlib.Core.Bool.{Bool, true, false, cond, not, _&&_, _||_, false≢true}
 use mathlib.Core.List.{List, []}
-use mathlib.Core.Logic.{_⊎_, inl, inr}
+use mathlib.Core.Logic.{inl, inr}
 use native.Mathlib.Omega.{arith}
 use lib.ListN.{length, replicate, length-replicate, getD-replicate}
-use lib.Dec.{eqb, leb, ltb}
+use lib.Dec.{eqb, leb}
 use borrow.Author.Tests.{eqb-true, leb-true, ltb-true, lt-ltb}
 use Rattle.ground.specs.Limit.{limit}
 use Rattle.ground.specs.Tests.{split, no-both, by-cond, and-l, and-r, or-l, or-r}
-use Rattle.ground.specs.Update.{upd, upd-same, upd-all, fun-ext}
+use Rattle.ground.specs.Update.{upd, upd-all, fun-ext}
 use Rattle.ground.specs.Lists.{nth, put, nth-put, length-put}
-use Rattle.ground.specs.Mask.{width, has}
+use Rattle.ground.specs.Mask.{has}
 use Rattle.ground.specs.MaskLaws.{none-has}
 use Rattle.ground.specs.Quantify.{countTo, Found, any-at}
 use Rattle.ground.specs.Sizes.{count-mono}
@@ -46,15 +46,14 @@ use Rattle.protocol.proofs.view.View.{View, ballotsV, openedV, accepts,
 use Rattle.protocol.proofs.view.Performed.{commitV, chosen, savedV, identityV, performV, stepV}
 use Rattle.protocol.proofs.view.RuleCases.{restore-cases}
 use Rattle.protocol.proofs.invariant.Words.{word-is, none-word, some-word, noting-runs}
-use Rattle.protocol.proofs.paxos.Meet.{most}
 use Rattle.protocol.proofs.paxos.View as P
 use Rattle.protocol.proofs.paxos.Invariant.{IsPut, MemberSound, Inv}
 use Rattle.protocol.proofs.paxos.Agreement.{agree}
 use Rattle.protocol.proofs.paxos.Simulation.{viewOf, viewAt}
 use Rattle.protocol.proofs.paxos.Parts.{Member, Part, applied}
 use Rattle.protocol.proofs.paxos.Growth.{Grown, grown-refl, KeepsWord, row-grown, prepare-word, accept-word, promise-word, open-word}
-use Rattle.protocol.proofs.paxos.Kept.{Good, GoodAfter, prepare-keeps, accept-keeps, promise-arrives-keeps, open-keeps}
-use Rattle.protocol.proofs.paxos.Members.{Steady, cleared-steady, cleared-idle, becomes-steady, passed-steady, vote-steady, timeout-steady, arrives-steady, decide-steady}
+use Rattle.protocol.proofs.paxos.Kept.{Good, prepare-keeps, accept-keeps, promise-arrives-keeps, open-keeps}
+use Rattle.protocol.proofs.paxos.Members.{Steady, cleared-steady, cleared-idle, passed-steady, vote-steady, timeout-steady, arrives-steady, decide-steady}
 use Rattle.protocol.proofs.paxos.Environment.{around-inv}
 
 -- the bench as the ballots see it

@@ -1,30 +1,28 @@
 -- What is sent in ballots passes the questions of its record: by the ballots' invariant a promise reports a ballot that its giver took, not above its own, with its word.
 use Prim.Native.Nat.{ℕ, _≤_}
 use mathlib.Core.Path.{_≡_, refl, sym, _∙_, ap}
-use mathlib.Core.Bool.{Bool, true, false, cond, not, _&&_, true≢false}
-use mathlib.Core.Logic.{_⊎_, inl, inr}
+use mathlib.Core.Bool.{Bool, true, false, not, true≢false}
+use mathlib.Core.Logic.{inl, inr}
 use native.Mathlib.Omega.{arith}
-use lib.Dec.{eqb, leb}
+use lib.Dec.{eqb}
 use borrow.Author.Tests.{le-leb, eqb-true}
-use Rattle.ground.specs.Tests.{split, by-cond, and-l, and-r, eqb-same}
+use Rattle.ground.specs.Tests.{by-cond, and-r}
 use Rattle.ground.specs.Mask.{has}
-use Rattle.votes.specs.VoteSets.{empty}
 use Rattle.model.specs.Numbers.{isNone}
-use Rattle.model.specs.Ranges.{sizesInRange, differentControllers, isBallot}
+use Rattle.model.specs.Ranges.{isBallot}
 use Rattle.model.specs.QuestionLaws.{yes-all}
 use Rattle.model.specs.declared.Outcome.{Outcome}
 use Rattle.model.specs.declared.BallotKind.{BallotKind}
 use Rattle.model.specs.declared.BallotKind.the-variants.{Prepare, Promise, Accept, Accepted}
 use Rattle.message_record.specs.BallotMessages.{tellsNothing, tellsWord, reportsLast, tellsForKind, ballotSuits, aboutBallot}
 use Rattle.protocol.specs.declared.Bench.{Bench}
-use Rattle.protocol.specs.Benches.{newBench, benchOf}
+use Rattle.protocol.specs.Benches.{benchOf}
 use Rattle.protocol.specs.Ballots.{owner, row, report}
 use Rattle.protocol.specs.BallotSteps.{wasSentIn, reportedWord}
 use Rattle.protocol.specs.Questions.{accepted, firstNo}
 use Rattle.protocol.specs.Reach.{lastIn, wordIn, ballotAt, WasSentInBallot}
 use Rattle.protocol.proofs.view.Simulation.{view, Sound}
 use Rattle.protocol.proofs.paxos.Invariant.{IsPut, PromiseSound}
-use Rattle.protocol.proofs.paxos.Order.{Balloted}
 use Rattle.protocol.proofs.lists.Reach.{Reached}
 
 module _ (b : Bench) (a : Sound b) (i j ballot : ℕ) where

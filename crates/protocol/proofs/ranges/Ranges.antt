@@ -29,6 +29,7 @@ use Rattle.protocol.specs.declared.Controller.{Controller}
 use Rattle.protocol.specs.declared.Answer.{Answer}
 use Rattle.protocol.specs.declared.Saved.{Saved}
 use Rattle.protocol.specs.declared.Saved.the-variants.{Newest}
+use Rattle.protocol.specs.declared.Send.{Send}
 use Rattle.protocol.specs.declared.Sent.{Sent}
 use Rattle.protocol.specs.Controllers.{isStopped, phaseIn, runs, phase, outcome, hasAck, hasCalled, cleared, advance, learn, aim, keepAck, keepHelped, freeze, addCaller, await, propose, conclude}
 use Rattle.protocol.specs.Rules.{passedOver, becomes, proposing, verdict, voteRule, countOwn, firstTimeout, ackJoin, proposeIfSufficient, helpVotes, frozen, ready, callsHelp, secondTimeout, keepsCall, answersCall}
@@ -54,17 +55,9 @@ WithinSet s = (k : ℕ) → wills s k ≡ true → knows s k ≡ true
 -- Positions are such as G says, and order numbers such as H says, if each event brings such ones; 0 is one.
 module _ (G H : ℕ → Type 0) (g0 : G 0) where
   -- what an event brings: a target, or an order's number
-  abbrev pub Given : Event → Type 0
-  Given (Lock a c own) = Unit {0}
-  Given (Order o) = H o
-  Given (Cast i w t) = G t
-  Given (Deliver i j k) = Unit {0}
-  Given (Timeout i) = Unit {0}
-  Given (Decide i w) = Unit {0}
-  Given (Stop i) = Unit {0}
-  Given (Save i) = Unit {0}
-  Given (OfBallots e) = Unit {0}
-  Given (Restore i) = Unit {0}
+  pub record Given (e : Event) : Type 0 where
+    pub target : (i : ℕ) (w : Bool) (t : ℕ) → e ≡ Cast i w t → G t
+    pub number : (o : ℕ) → e ≡ Order o → H o
 
   pub record GateIn (c : Controller) : Type 0 where
     pub target : G (c .gate .target)
@@ -170,10 +163,22 @@ module _ (G H : ℕ → Type 0) (g0 : G 0) where
       pub call : l .help .votes ≡ empty
       pub to : (kind : Kind) (j : ℕ) → has ((ofKind kind l) .to) j ≡ true → (1 ≤ o) × (k ≤ n) × (j ≤ n) × (route f kind k j ≡ true)
 
-    -- an answer's sends
+    -- an answer's sends, of each kind
+    abbrev GoesTo : ℕ → Kind → Send → Type 0
+    GoesTo k kind s = (j : ℕ) → has (receiversOf s) j ≡ true → (j ≤ n) × (route f kind k j ≡ true)
+
     record Sends-ok (k : ℕ) (a : Answer) : Type 0 where
       calls : (l : Sent) → l .help .votes ≡ empty → (sentAfter l (a .sends)) .help .votes ≡ empty
-      to : (kind : Kind) (j : ℕ) → has (receiversOf (sendOf kind (a .sends))) j ≡ true → (j ≤ n) × (route f kind k j ≡ true)
+      vote : GoesTo k Vote (a .sends .vote)
+      ack : GoesTo k Ack (a .sends .ack)
+      help : GoesTo k Help (a .sends .help)
+      helped : GoesTo k Helped (a .sends .helped)
+
+    to-of : (k : ℕ) (a : Answer) → Sends-ok k a → (kind : Kind) → GoesTo k kind (sendOf kind (a .sends))
+    to-of k a s Vote = s .vote
+    to-of k a s Ack = s .ack
+    to-of k a s Help = s .help
+    to-of k a s Helped = s .helped
 
     sent-in : (o k : ℕ) (l : Sent) (a : Answer) → 1 ≤ o → k ≤ n → Sends-ok k a → SentIn o k l → SentIn o k (sentAfter l (a .sends))
     sent-in o k l a open′ hi s h = record {
@@ -181,31 +186,27 @@ module _ (G H : ℕ → Type 0) (g0 : G 0) where
       call = s .calls l (h .call);
       to = λ kind j e. elim (or-e (has ((ofKind kind l) .to) j) (has (receiversOf (sendOf kind (a .sends))) j) (sym (sent-more n f l (a .sends) kind j) ∙ e)) [
         | inl q ↦ h .to kind j q
-        | inr q ↦ (open′, hi, s .to kind j q .0, s .to kind j q .1)
+        | inr q ↦ (open′, hi, to-of k a s kind j q .0, to-of k a s kind j q .1)
       ];
     }
 
+    nobody : (k : ℕ) (kind : Kind) (j : ℕ) → has 0 j ≡ true → (j ≤ n) × (route f kind k j ≡ true)
+    nobody k kind j e = none-has j e
+
     becomes-ok : (k : ℕ) (c : Controller) → Sends-ok k (becomes c)
-    becomes-ok k c = record { calls = λ l e. unfold becomes sentAfter in e; to = to }
-      where
-        to : (kind : Kind) (j : ℕ) → has (receiversOf (sendOf kind ((becomes c) .sends))) j ≡ true → (j ≤ n) × (route f kind k j ≡ true)
-        to Vote j e = unfold becomes in none-has j e
-        to Ack j e = unfold becomes in none-has j e
-        to Help j e = unfold becomes in none-has j e
-        to Helped j e = unfold becomes in none-has j e
+    unfolding becomes sentAfter
+    becomes-ok k c = record { calls = λ l e. e; vote = nobody k Vote; ack = nobody k Ack; help = nobody k Help; helped = nobody k Helped }
 
     passed-ok : (k : ℕ) (c : Controller) → Sends-ok k (passedOver c)
-    passed-ok k c = record { calls = λ l e. unfold passedOver sentAfter in e; to = to }
-      where
-        to : (kind : Kind) (j : ℕ) → has (receiversOf (sendOf kind ((passedOver c) .sends))) j ≡ true → (j ≤ n) × (route f kind k j ≡ true)
-        to Vote j e = unfold passedOver in none-has j e
-        to Ack j e = unfold passedOver in none-has j e
-        to Help j e = unfold passedOver in none-has j e
-        to Helped j e = unfold passedOver in none-has j e
+    unfolding passedOver sentAfter
+    passed-ok k c = record { calls = λ l e. e; vote = nobody k Vote; ack = nobody k Ack; help = nobody k Help; helped = nobody k Helped }
+
+    put-ok : (k : ℕ) (a : Answer) (o : Outcome) → Sends-ok k a → Sends-ok k (proposing a o)
+    unfolding proposing
+    put-ok k a o h = record { calls = h .calls; vote = h .vote; ack = h .ack; help = h .help; helped = h .helped }
 
     puts-ok : (k : ℕ) (a : Answer) → Sends-ok k a → Sends-ok k (proposeIfSufficient n f a)
-    unfolding proposing
-    puts-ok k a h = sufficient-cases (Sends-ok k) n f a (λ q. record { calls = h .calls; to = h .to }) (λ q. h)
+    puts-ok k a h = sufficient-cases (Sends-ok k) n f a (λ q. put-ok k a _ h) (λ q. h)
 
     -- those whose calls controller k has taken
     abbrev CallersIn : ℕ → Controller → Type 0
@@ -220,22 +221,12 @@ module _ (G H : ℕ → Type 0) (g0 : G 0) where
           (leb-true j n (and-r (leb 1 j) (leb j n) (and-l (leb 1 j && leb j n) (route f kind k j) h)), and-r (leb 1 j && leb j n) (route f kind k j) h)
 
       vote-ok : (k : ℕ) (w : Bool) (t : ℕ) (c : Controller) → Sends-ok k (voteRule n f k w t c)
-      vote-ok k w t c = record { calls = λ l e. unfold voteRule sentAfter in e; to = to }
-        where
-          to : (kind : Kind) (j : ℕ) → has (receiversOf (sendOf kind ((voteRule n f k w t c) .sends))) j ≡ true → (j ≤ n) × (route f kind k j ≡ true)
-          to Vote j e = unfold voteRule in sent-to Vote k j e
-          to Ack j e = unfold voteRule in none-has j e
-          to Help j e = unfold voteRule in none-has j e
-          to Helped j e = unfold voteRule in none-has j e
+      unfolding voteRule sentAfter
+      vote-ok k w t c = record { calls = λ l e. e; vote = sent-to Vote k; ack = nobody k Ack; help = nobody k Help; helped = nobody k Helped }
 
       first-ok : (k : ℕ) (c : Controller) → Sends-ok k (firstTimeout n f k c)
-      first-ok k c = record { calls = λ l e. unfold firstTimeout sentAfter in e; to = to }
-        where
-          to : (kind : Kind) (j : ℕ) → has (receiversOf (sendOf kind ((firstTimeout n f k c) .sends))) j ≡ true → (j ≤ n) × (route f kind k j ≡ true)
-          to Vote j e = unfold firstTimeout in none-has j e
-          to Ack j e = unfold firstTimeout in sent-to Ack k j e
-          to Help j e = unfold firstTimeout in none-has j e
-          to Helped j e = unfold firstTimeout in none-has j e
+      unfolding firstTimeout sentAfter
+      first-ok k c = record { calls = λ l e. e; vote = nobody k Vote; ack = sent-to Ack k; help = nobody k Help; helped = nobody k Helped }
 
       -- an answer goes back to a caller of the lock, over the way that its call came
       back : (j k : ℕ) → route f Help j k ≡ true → route f Helped k j ≡ true
@@ -247,22 +238,12 @@ module _ (G H : ℕ → Type 0) (g0 : G 0) where
 
       -- the help vote set at the second timeout: to those whose calls were kept, over the ways that their calls came
       ready-ok : (k : ℕ) (s : VoteSet) (next : Controller) → CallersIn k next → Sends-ok k (ready s next)
-      ready-ok k s next o = record { calls = λ l e. unfold ready sentAfter in e; to = to }
-        where
-          to : (kind : Kind) (j : ℕ) → has (receiversOf (sendOf kind ((ready s next) .sends))) j ≡ true → (j ≤ n) × (route f kind k j ≡ true)
-          to Vote j e = unfold ready in none-has j e
-          to Ack j e = unfold ready in none-has j e
-          to Help j e = unfold ready in none-has j e
-          to Helped j e = unfold ready in (o j e .0, back j k (o j e .1))
+      unfolding ready sentAfter
+      ready-ok k s next o = record { calls = λ l e. e; vote = nobody k Vote; ack = nobody k Ack; help = nobody k Help; helped = λ j e. (o j e .0, back j k (o j e .1)) }
 
       calls-ok : (k : ℕ) (s : VoteSet) (next : Controller) → CallersIn k next → Sends-ok k (callsHelp n f k s next)
-      calls-ok k s next o = record { calls = λ l e. unfold callsHelp sentAfter in refl; to = to }
-        where
-          to : (kind : Kind) (j : ℕ) → has (receiversOf (sendOf kind ((callsHelp n f k s next) .sends))) j ≡ true → (j ≤ n) × (route f kind k j ≡ true)
-          to Vote j e = unfold callsHelp in none-has j e
-          to Ack j e = unfold callsHelp in none-has j e
-          to Help j e = unfold callsHelp in sent-to Help k j e
-          to Helped j e = unfold callsHelp in (o j e .0, back j k (o j e .1))
+      unfolding callsHelp sentAfter
+      calls-ok k s next o = record { calls = λ l e. refl; vote = nobody k Vote; ack = nobody k Ack; help = sent-to Help k; helped = λ j e. (o j e .0, back j k (o j e .1)) }
 
       frozen-callers : (k : ℕ) (c : Controller) → CallersIn k c → CallersIn k (frozen n c)
       unfolding frozen freeze advance
@@ -271,20 +252,12 @@ module _ (G H : ℕ → Type 0) (g0 : G 0) where
       second-ok : (k : ℕ) (c : Controller) → CallersIn k c → Sends-ok k (secondTimeout n f k c)
       second-ok k c o = second-cases (Sends-ok k) n f k c
           (λ d. ready-ok k _ _ (unfold conclude in frozen-callers k c o))
-          (λ e. unfold proposing in record { calls = (ready-ok k _ _ (frozen-callers k c o)) .calls; to = (ready-ok k _ _ (frozen-callers k c o)) .to })
+          (λ e. put-ok k _ _ (ready-ok k _ _ (frozen-callers k c o)))
           (λ e. puts-ok k _ (calls-ok k _ _ (frozen-callers k c o)))
 
       answers-ok : (j k : ℕ) (c : Controller) → j ≤ n → route f Help j k ≡ true → Sends-ok k (answersCall j c)
-      answers-ok j k c hi r = record { calls = λ l e. unfold answersCall sentAfter in e; to = to }
-        where
-          to : (kind : Kind) (x : ℕ) → has (receiversOf (sendOf kind ((answersCall j c) .sends))) x ≡ true → (x ≤ n) × (route f kind k x ≡ true)
-          to Vote x e = unfold answersCall in none-has x e
-          to Ack x e = unfold answersCall in none-has x e
-          to Help x e = unfold answersCall in none-has x e
-          to Helped x e = unfold answersCall in elim (insert-only 0 j x e) [
-            | inl z ↦ rw z (hi, back j k r)
-            | inr z ↦ none-has x z
-          ]
+      unfolding answersCall sentAfter
+      answers-ok j k c hi r = record { calls = λ l e. e; vote = nobody k Vote; ack = nobody k Ack; help = nobody k Help; helped = λ x e. elim (insert-only 0 j x e) [ inl z ↦ rw z (hi, back j k r) | inr z ↦ none-has x z ] }
 
       arrives-ok : (kind : Kind) (j k : ℕ) (s : VoteSet) (c : Controller) → j ≤ n → route f kind j k ≡ true → Sends-ok k (arrives kind n f j s c)
       unfolding arrives
@@ -374,8 +347,8 @@ module _ (G H : ℕ → Type 0) (g0 : G 0) where
     perform-in : n ≤ limit → (v : View) (e : Event) → Inv n f v → accepts n f v e ≡ true → Given e → AllIn v → AllIn (performV n f v e)
     unfolding performV accepts firstNo isController
     perform-in s v (Lock a c own) inv q g h = h
-    perform-in s v (Order o) inv q g h = opened-in v o g h
-    perform-in s v (Cast i w t) inv q g h = commit-in v i _ (leb-true _ _ (search (ask-l, ask-r, and-l, and-r) depth 14)) (leb-true _ _ (search (ask-l, ask-r, and-l, and-r) depth 14)) h (vote-keeps i w t (v .ctl i) g (h .ctls i)) (vote-ok s i w t (v .ctl i))
+    perform-in s v (Order o) inv q g h = opened-in v o (g .number o refl) h
+    perform-in s v (Cast i w t) inv q g h = commit-in v i _ (leb-true _ _ (search (ask-l, ask-r, and-l, and-r) depth 14)) (leb-true _ _ (search (ask-l, ask-r, and-l, and-r) depth 14)) h (vote-keeps i w t (v .ctl i) (g .target i w t refl) (h .ctls i)) (vote-ok s i w t (v .ctl i))
     perform-in s v (Deliver i j k) inv q g h = commit-in v j _ (leb-true _ _ (search (ask-l, ask-r, and-l, and-r) depth 14)) (leb-true _ _ (search (ask-l, ask-r, and-l, and-r) depth 14)) h (arrives-keeps k i _ (v .ctl j) (h .ctls j)) (arrives-ok s k i j _ (v .ctl j) (leb-true _ _ (search (ask-l, ask-r, and-l, and-r) depth 14)) (search (ask-l, ask-r, and-l, and-r) depth 14))
     perform-in s v (Timeout i) inv q g h = commit-in v i _ (leb-true _ _ (search (ask-l, ask-r, and-l, and-r) depth 14)) (leb-true _ _ (search (ask-l, ask-r, and-l, and-r) depth 14)) h
         (timeout-cases Keeps n f i (v .ctl i) (λ p. first-keeps i (v .ctl i) (h .ctls i)) (λ p. second-keeps i (v .ctl i) (help-within v inv i) (h .ctls i)))

@@ -6,7 +6,7 @@ use mathlib.Core.List.{List, [], _∷_}
 use native.Mathlib.Omega.{arith}
 use lib.Pow.{pow-pos}
 use lib.ListN.{length}
-use lib.Dec.{eqb, leb}
+use lib.Dec.{eqb}
 use mathlib.Core.Logic.{inl, inr}
 use borrow.Author.Tests.{le-leb, eq-eqb}
 use Rattle.ground.specs.Tests.{no-both, and-l, and-i}
@@ -26,7 +26,7 @@ use Rattle.model.specs.declared.Kind.the-variants.{Vote, Ack, Help, Helped}
 use Rattle.model.specs.declared.Checkpoint.{Checkpoint}
 use Rattle.model.specs.declared.Telegram.the-variants.{Plain, OfBallot}
 use Rattle.model.specs.declared.Event.{Event}
-use Rattle.model.specs.declared.Event.the-variants.{Lock, Order, Cast, Deliver, Timeout, Decide, Stop, Save, Restore, OfBallots}
+use Rattle.model.specs.declared.Event.the-variants.{Cast}
 use Rattle.records.specs.Codec.{Codec, ownForm, recordLength, bytesOf, writeReply, writes}
 use Rattle.message_record.specs.Messages.{bitsInRange, knowsForKind, suits, aboutMessage}
 use Rattle.message_record.specs.Telegrams.{telegrams}
@@ -98,16 +98,7 @@ positioned-0 = refl
 
 asked-11 : (e : Event) (n f : ℕ) (v : View) → accepts n f v e ≡ true → Given Positioned Any positioned-0 e
 unfolding accepts firstNo
-asked-11 (Lock a c own) n f v q = tt
-asked-11 (Order o) n f v q = tt
-asked-11 (Cast i w t) n f v q = search (ask-l, ask-r) depth 14
-asked-11 (Deliver i j k) n f v q = tt
-asked-11 (Timeout i) n f v q = tt
-asked-11 (Decide i w) n f v q = tt
-asked-11 (Stop i) n f v q = tt
-asked-11 (Save i) n f v q = tt
-asked-11 (OfBallots e) n f v q = tt
-asked-11 (Restore i) n f v q = tt
+asked-11 e n f v q = record { target = λ i w t z. let a : accepts n f v (Cast i w t) ≡ true = rw z at q in search (ask-l, ask-r) depth 14; number = λ o z. tt }
 
 all-asked : (es : List Event) → AllGiven Positioned Any positioned-0 tt es
 all-asked [] = tt
@@ -127,16 +118,7 @@ short-0 : Short 0
 short-0 = pow-pos 32
 
 as-read : (e : Event) → AsRead e → (n f : ℕ) (v : View) → accepts n f v e ≡ true → Given Short Short short-0 e
-as-read (Lock a c own) r n f v q = tt
-as-read (Order o) r n f v q = r
-as-read (Cast i w t) r n f v q = r
-as-read (Deliver i j k) r n f v q = tt
-as-read (Timeout i) r n f v q = tt
-as-read (Decide i w) r n f v q = tt
-as-read (Stop i) r n f v q = tt
-as-read (Save i) r n f v q = tt
-as-read (OfBallots e) r n f v q = tt
-as-read (Restore i) r n f v q = tt
+as-read e r n f v q = record { target = λ i w t z. subst AsRead z r; number = λ o z. subst AsRead z r }
 
 all-read : (es : List Event) → AllRead es → AllGiven Short Short short-0 short-0 es
 all-read [] r = tt

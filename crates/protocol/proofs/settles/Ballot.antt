@@ -110,7 +110,7 @@ module _ (n f : ℕ) (sized : sizesInRange n f ≡ true) (f<n : f < n) (1≤f : 
   answers : (es : List Event) → Now es → (e : BallotEvent) (x : BallotAnswer) → 1 ≤ ballotSubject e → ballotSubject e ≤ n → runs ((viewAt es) .ctl (ballotSubject e)) ≡ true
       → ballotsAfter n (bs es) (((viewAt es) .ctl (ballotSubject e)) .proposal) e ≡ answered (bs es) (ballotSubject e) 1 x → accepts n f (viewAt es) (OfBallots e) ≡ true → Answered es e (ballotSubject e) x
   answers es m e x lo hi r does q = record {
-    later = later-one n f 1 f<n 1≤f small es m (OfBallots e) tt q r;
+    later = later-one n f 1 f<n 1≤f small es m (OfBallots e) refl q r;
     ctl = λ k. rw then (unfold performV ballotsV in refl);
     own = ap (λ (F : ℕ → Acceptor). F (ballotSubject e)) acceptors ∙ upd-same (acceptor (bs es)) (ballotSubject e) (x .acceptor);
     others = λ k d. ap (λ (F : ℕ → Acceptor). F k) acceptors ∙ upd-other (acceptor (bs es)) (ballotSubject e) (x .acceptor) k (ne-eqb k (ballotSubject e) d);

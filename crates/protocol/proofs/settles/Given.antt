@@ -124,23 +124,23 @@ module _ (n f : ℕ) (sized : sizesInRange n f ≡ true) (f<n : f < n) (1≤f : 
       accepted = rw (le-leb 1 k lo, le-leb k n hi, open-at n f 1 f<n 1≤f small (omega arith) es (t .moment), running, not-both (((viewAt es) .ctl k) .condition) running, at-3, passes-18 n (viewAt es) (balloted n f sized f<n 1≤f small es (t .moment)) own w now, own, now)
 
       later : Then ballot es′
-      later = later-trans n f 1 f<n 1≤f small ballot es es′ t (later-one n f 1 f<n 1≤f small es (t .moment) e tt accepted running)
+      later = later-trans n f 1 f<n 1≤f small ballot es es′ t (later-one n f 1 f<n 1≤f small es (t .moment) e refl accepted running)
 
       ballots-stay : (viewAt es′) .ballots ≡ (viewAt ballot) .ballots
       ballots-stay = ap (λ (v : View). v .ballots) (performs n f 1 f<n 1≤f small es (t .moment) e accepted) ∙ (unfold performV commitV chosen in same)
 
       entered : In e (logAt es′)
-      entered = subst (In e) (sym (logs n f 1 f<n 1≤f small es (t .moment) e accepted tt)) (inl refl)
+      entered = subst (In e) (sym (logs n f 1 f<n 1≤f small es (t .moment) e accepted refl)) (inl refl)
 
       earlier : (x : Event) → In x (logAt es) → In x (logAt es′)
-      earlier x i = subst (In x) (sym (logs n f 1 f<n 1≤f small es (t .moment) e accepted tt)) (inr i)
+      earlier x i = subst (In x) (sym (logs n f 1 f<n 1≤f small es (t .moment) e accepted refl)) (inr i)
 
       taken : outcome ((viewAt es) .ctl k) ≡ None → outcome ((viewAt es′) .ctl k) ≡ wordOf w
       taken z = rw (performs n f 1 f<n 1≤f small es (t .moment) e accepted)
           (unfold performV commitV chosen becomes in rw (upd-same ((viewAt es) .ctl) k (conclude ((viewAt es) .ctl k) (wordOf w))) (unfold conclude in noted-first (((viewAt es) .ctl k) .condition) (wordOf w) running z))
 
       unchanged : (j : ℕ) → (j ≡ k → ⊥) → (viewAt es′) .ctl j ≡ (viewAt es) .ctl j
-      unchanged j d = unmoved n f 1 f<n 1≤f small (omega arith) es (t .moment) e tt accepted j (ne-eqb j k d)
+      unchanged j d = unmoved n f 1 f<n 1≤f small (omega arith) es (t .moment) e refl accepted j (ne-eqb j k d)
 
     record GaveList (m : ℕ) : Type 0 where
       events : List Event

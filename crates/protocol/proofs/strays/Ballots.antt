@@ -1,11 +1,10 @@
 -- `BallotStrays`: each is a test that fails, of those behind which the rules stand.
 use Prim.Native.Nat.{ℕ}
 use mathlib.Core.Path.{_≡_, refl, sym, _∙_, ap}
-use mathlib.Core.Bool.{Bool, true, false, cond, not, _&&_, false≢true}
-use mathlib.Core.Logic.{inl, inr}
+use mathlib.Core.Bool.{Bool, true, false, not, _&&_, false≢true}
 use lib.Dec.{eqb}
 use borrow.Author.Tests.{eqb-true}
-use Rattle.ground.specs.Tests.{split, no-both, by-cond, and-l, and-r}
+use Rattle.ground.specs.Tests.{no-both, by-cond, and-l, and-r}
 use Rattle.ground.specs.Mask.{has}
 use Rattle.model.specs.Numbers.{isNone}
 use Rattle.model.specs.declared.BallotKind.{BallotKind}

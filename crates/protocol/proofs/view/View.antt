@@ -12,7 +12,6 @@ use Rattle.ground.specs.Update.{upd, fun-ext}
 use Rattle.model.specs.declared.Outcome.{Outcome}
 use Rattle.model.specs.declared.Outcome.the-variants.{None}
 use Rattle.model.specs.declared.Event.{Event}
-use Rattle.model.specs.declared.Event.the-variants.{Lock, Order, Cast, Deliver, Timeout, Decide, Stop, Save, Restore, OfBallots}
 use Rattle.protocol.specs.declared.Controller.{Controller}
 use Rattle.protocol.specs.declared.Saved.{Saved}
 use Rattle.protocol.specs.declared.Saved.the-variants.{Nothing, Newest}
@@ -24,7 +23,6 @@ use Rattle.protocol.specs.declared.Shared.{Shared}
 use Rattle.protocol.specs.declared.Effect.{Effect}
 use Rattle.protocol.specs.declared.Ballots.{Ballots}
 use Rattle.protocol.specs.Ballots.{newBallots, isChosen}
-use Rattle.protocol.specs.BallotSteps.{ballotSubject, ballotsAfter}
 use Rattle.protocol.specs.Benches.{unsentAll, noConsensus}
 use Rattle.protocol.specs.Events.{subject, source}
 use Rattle.protocol.specs.Questions.{Reply, isAccepted, unless, firstNo, mayOpen, wasProposed, noOther, factsOf, questionsOf}
@@ -99,21 +97,9 @@ module _ (n f : ℕ) where
     ballots = newBallots;
   }
 
-  -- what an accepted event does
+  -- what an accepted event does at the station of its controller
   abbrev pub playOneV : View → Event → View
   playOneV v e = putBackV v (subject e) (effect (sharedV v) e (v .state .sent (source e)) (stationV v (subject e)))
-
-  unfoldable pub playV : View → Event → View
-  playV v (Lock a c own) = v
-  playV v (Order o) = openedV v o
-  playV v (Cast i willing target) = playOneV v (Cast i willing target)
-  playV v (Deliver i j kind) = playOneV v (Deliver i j kind)
-  playV v (Timeout i) = playOneV v (Timeout i)
-  playV v (Decide i move) = playOneV v (Decide i move)
-  playV v (Stop i) = playOneV v (Stop i)
-  playV v (Save i) = playOneV v (Save i)
-  playV v (OfBallots e) = ballotsV v (ballotsAfter n (v .ballots) ((v .ctl (ballotSubject e)) .proposal) e)
-  playV v (Restore i) = playOneV v (Restore i)
 
 -- a part of a function changed at one place
 pub part : {A B : Type 0} (g : A → B) (F : ℕ → A) (i : ℕ) (a : A) → (λ (k : ℕ). g (upd F i a k)) ≡ upd (λ k. g (F k)) i (g a)
