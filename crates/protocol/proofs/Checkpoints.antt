@@ -1,4 +1,5 @@
--- `KeptCheckpoints`: of the events that are accepted a save alone changes a checkpoint, and its own controller's.
+-- `KeptCheckpoints`: of the events that are accepted a save alone changes a checkpoint, and its own controller's. By what each event does to the view
+-- (view/Performed), then along the list.
 use Prim.Native.Nat.{ℕ}
 use mathlib.Core.Path.{_≡_, refl, sym, _∙_, ap, subst}
 use mathlib.Core.Bool.{true, false, _&&_}

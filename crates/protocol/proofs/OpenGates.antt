@@ -1,5 +1,5 @@
--- The count of gates still open follows the controllers: at an event of one controller by that one's condition before and after, at a new order
--- by those that are present.
+-- The count of gates still open follows the controllers: at an event of one controller by that one's condition before and after, as a count does that
+-- changes at one place; at a new order by those that are present. Then along the list, through the view.
 use Prim.Native.Nat.{ℕ, suc, _≤_}
 use mathlib.Core.Path.{_≡_, refl, sym, _∙_, ap, subst}
 use mathlib.Core.Bool.{Bool, true, false, not, _||_}

@@ -1,4 +1,5 @@
--- The moments of the list of events left are moments of the list of acts; what a step back undoes; how many are remembered.
+-- The moments of the list of events left are moments of the list of acts, through the list one act at a time; what a step back undoes is the last event
+-- left; how many are remembered. Rests on Theorem.
 use Prim.Native.Nat.{ℕ, suc, _≤_, min}
 use mathlib.Core.Path.{_≡_, refl, sym, _∙_, ap, subst}
 use mathlib.Core.Bool.{Bool, true, false, cond, false≢true}

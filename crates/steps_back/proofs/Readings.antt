@@ -1,4 +1,4 @@
--- Demand 3, U5 and U10, read over the events left: the bench at a moment is the one after them.
+-- Demand 3, U5, U7, U9 and U10, read over the events left: the bench at a moment is the one after them (Moments), of which protocol's theorems speak.
 use Prim.Native.Nat.{ℕ, _+_, _*_, _≤_}
 use mathlib.Core.Path.{_≡_, refl, sym, _∙_, ap, subst}
 use mathlib.Core.Bool.{Bool, true, false}

@@ -1,4 +1,5 @@
--- A message keeps the invariant: one that is taken contradicts no vote set held.
+-- A message keeps the invariant: one that is taken contradicts no vote set held, since it passed the test, so with it all that is held tells one word of
+-- each controller (Telling). By the cases of each rule.
 use Prim.Native.Nat.{ℕ, _≤_}
 use mathlib.Core.Path.{_≡_, refl, _∙_, ap}
 use mathlib.Core.Bool.{true, false, _&&_}

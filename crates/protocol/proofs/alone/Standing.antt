@@ -1,4 +1,5 @@
--- The own vote stands on the own vote set with its word, from the vote on through every call that does not clear the controller.
+-- The own vote stands on the own vote set with its word, from the vote on through every call that does not clear the controller: a message leaves the
+-- stage and, by `Strays`, what the own vote set says of its owner; another vote is passed over; the other calls leave the own vote set.
 use Prim.Native.Nat.{ℕ, suc, _≤_}
 use mathlib.Core.Path.{_≡_, refl, sym, _∙_, ap, subst}
 use mathlib.Core.Bool.{Bool, true, false, not, _&&_, _||_, true≢false}

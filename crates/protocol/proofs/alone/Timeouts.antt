@@ -1,4 +1,5 @@
 -- The two timeouts keep the invariant: the first keeps the own vote set as an acknowledgement, the second may join the help vote set to the answers.
+-- Both are made of what is held, so they tell the same words (Telling).
 use Prim.Native.Nat.{ℕ, _≤_}
 use mathlib.Core.Path.{_≡_, refl, sym, _∙_, ap, subst}
 use mathlib.Core.Bool.{true, not, _&&_}

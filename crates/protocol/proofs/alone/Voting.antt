@@ -1,4 +1,5 @@
--- The own vote keeps the invariant: what contradicts it is dropped, and nobody has put its word on its own vote set before.
+-- The own vote keeps the invariant: what contradicts it is dropped (strays/Dropped), and nobody has put its word on its own vote set before; so with it
+-- all that is held tells one word of each controller (Telling).
 use Prim.Native.Nat.{ℕ, suc, _≤_}
 use mathlib.Core.Path.{_≡_, sym, _∙_, ap, subst}
 use mathlib.Core.Bool.{Bool, true, false, _&&_, cond}

@@ -1,4 +1,5 @@
--- The proof of demand 3: the statement's moments, carried through the view of the bench to the invariants.
+-- The proof of demand 3. A moment of the statement is one of a list from its lock on (lists/Start), and the bench there is seen as its view
+-- (view/Simulation). There agreement (invariant/Orders), the moves (gates/Moves), the clean decision (clean/Parts) and the bound (Bound) are known.
 use Prim.Native.Nat.{ℕ, _+_, _*_, _≤_, _<_}
 use mathlib.Core.Path.{_≡_, refl, sym, _∙_, ap, subst}
 use mathlib.Core.Bool.{Bool, true, false, cond, true≢false, false≢true}

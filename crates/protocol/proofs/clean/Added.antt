@@ -1,4 +1,5 @@
--- What an accepted event itself adds, as the clean order needs it.
+-- What an accepted event itself adds, as the clean order needs it: a vote is cast, or known where it arrives; an acknowledgement is held; a timeout
+-- leads to the next phase. By the event's questions, its rule and the invariant.
 use Prim.Native.Nat.{ℕ, suc, _≤_}
 use mathlib.Core.Path.{_≡_, refl, sym, _∙_, ap, subst}
 use mathlib.Core.Bool.{Bool, true, false, not, _&&_, _||_, cond, false≢true}

@@ -1,4 +1,4 @@
--- The claim is not hollow: clean orders exist, and demand 3 gives their outcomes. No run is computed.
+-- The claim is not hollow: clean orders exist (Schedule, Run), and demand 3 gives their outcomes. No run is computed.
 use Prim.Native.Nat.{ℕ, zero, suc, _≤_, _<_}
 use mathlib.Core.Path.{_≡_, refl, sym, _∙_, ap, subst, subst₂}
 use mathlib.Core.Bool.{Bool, true, false}

@@ -1,4 +1,5 @@
--- What an accepted event other than order and stop does to a running controller: the frames that the clean order needs.
+-- What an accepted event other than order and stop does to a running controller: it runs on, knows and holds what it did, and its phase changes at its
+-- own vote and timeouts alone. By the cases of each rule (view/RuleCases).
 use Prim.Native.Nat.{ℕ, suc, _≤_}
 use mathlib.Core.Path.{_≡_, refl, sym}
 use mathlib.Core.Bool.{Bool, true, false, not, _&&_, cond, false≢true}

@@ -1,4 +1,5 @@
--- The clean order over the log of its accepted events, newest first, step by step; and the decision of a second timeout in it.
+-- The clean order over the log of its accepted events, newest first, step by step; and the decision of a second timeout in it. The acknowledgements that
+-- it holds are complete and, by the invariant, tell the votes as they were cast, so their word is that of the votes.
 use Prim.Native.Nat.{ℕ, suc, _≤_, _<_}
 use mathlib.Core.Path.{_≡_, _∙_, ap}
 use mathlib.Core.Bool.{Bool, true, false, not, _&&_, _||_, cond}

@@ -1,4 +1,6 @@
--- A clean order goes through three parts: before any timeout, before any second timeout, after it.
+-- A clean order goes through three parts: before any timeout, before any second timeout, after it. Each event keeps what its part knows of the
+-- controllers (Kept, Added); as a part ends all its messages are in, since the order is clean, and the next begins. In the last a second timeout decides
+-- (Log).
 use Prim.Native.Nat.{ℕ, suc, _≤_, _<_}
 use mathlib.Core.Path.{_≡_, refl, sym, _∙_, subst}
 use mathlib.Core.Bool.{Bool, true, false, not, _&&_, false≢true}

@@ -1,4 +1,5 @@
--- A moment of a clean order that the bench can be brought to, by its log and the controllers' phases; and from one to the next.
+-- A moment of a clean order that the bench can be brought to, by its log and the controllers' phases; and from one to the next: what Ready says of the
+-- controllers lets the next event be accepted, and holds after it.
 use Prim.Native.Nat.{ℕ, _≤_}
 use mathlib.Core.Path.{_≡_, refl, sym, _∙_, ap, subst}
 use mathlib.Core.Bool.{false, Bool, true, false≢true}

@@ -1,5 +1,5 @@
 -- On the bench the test of vote sets finds nothing: what was sent suits its kind, tells the votes as they were cast, and so contradicts nothing that a
--- controller holds; and nobody knows a vote before it is cast.
+-- controller holds; and nobody knows a vote before it is cast. Rests on the invariant and on what stays in range (ranges/Ranges).
 use Prim.Native.Nat.{ℕ, zero, suc, _≤_}
 use mathlib.Core.Path.{_≡_, refl, sym, _∙_, ap, subst}
 use mathlib.Core.Bool.{Bool, true, false, _&&_}

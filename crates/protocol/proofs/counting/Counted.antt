@@ -1,4 +1,5 @@
--- The T line follows the sends: over every list, event by event, the sizes of the sets of receivers grow by what the event sends.
+-- The T line follows the sends: over every list, event by event, the sizes of the sets of receivers grow by what the event sends. By Sends, through the
+-- view; a new order begins with nothing sent.
 use Prim.Native.Nat.{ℕ, zero, suc, _+_, _≤_}
 use mathlib.Core.Path.{_≡_, refl, sym, _∙_, ap, subst}
 use mathlib.Core.Bool.{Bool, true, false, cond}

@@ -1,4 +1,5 @@
--- What each rule leaves alone: the vote sent, an outcome once held, the position but for a new Move of a running gate.
+-- What each rule leaves alone: the vote sent, an outcome once held, the position but for a new Move of a running gate. By the cases of each rule
+-- (view/RuleCases).
 use Prim.Native.Nat.{ℕ}
 use mathlib.Core.Path.{_≡_, refl, sym, _∙_, ap}
 use mathlib.Core.Bool.{Bool, true, false, not, _&&_, true≢false, false≢true}

@@ -1,4 +1,5 @@
--- Every accepted event keeps what the running controllers have done with what came to them; so it holds at every moment of every list.
+-- Every accepted event keeps what the running controllers have done with what came to them (Listening): the answer of its controller gives what it owes
+-- (RuleSteps), and the others have the same and one event more in the log, which adds nothing to them.
 use Prim.Native.Nat.{ℕ, _≤_, _<_}
 use mathlib.Core.Path.{_≡_, refl, sym, _∙_, ap}
 use mathlib.Core.Bool.{Bool, true, false, not, _&&_, _||_, false≢true}

@@ -1,4 +1,5 @@
--- At every moment of every list the running controllers have done with what came to them what Events.antt says.
+-- At every moment of every list the running controllers have done with what came to them what Listening says: after a lock nothing came, and each event
+-- keeps it (Events).
 use Prim.Native.Nat.{ℕ}
 use mathlib.Core.Path.{_≡_, refl, sym, _∙_, ap, subst}
 use mathlib.Core.Bool.{Bool, true}

@@ -1,4 +1,5 @@
--- Right after an order was opened, at a lock of either kind.
+-- Right after an order was opened, at a lock of either kind: the lock and the order, what holds at every moment (Moments), and that each controller runs
+-- and holds nothing.
 use Prim.Native.Nat.{ℕ, _≤_, _<_}
 use mathlib.Core.Path.{_≡_, refl, sym, _∙_, ap, subst}
 use mathlib.Core.Bool.{Bool, true}

@@ -1,4 +1,4 @@
--- The premises as tests that compute, over the bench of a moment and its log; each test says the same as its premise.
+-- The premises as tests that compute, over the bench of a moment and its log; each test says the same as its premise, test by test.
 use Prim.Native.Nat.{ℕ, _≤_}
 use mathlib.Core.Path.{_≡_, refl, sym, _∙_, ap, subst}
 use mathlib.Core.Bool.{Bool, true, false, not, _&&_, _||_, false≢true}

@@ -1,4 +1,5 @@
--- The other events: each answer fits.
+-- The answers to the own vote, to each kind of message, at the first timeout, a stop and a restore fit: what is kept is a copy of what was sent
+-- (Keeping), what is sent tells the votes as they were cast (TrueVotes), and who is cleared has an outcome from a checkpoint of this order alone.
 use Prim.Native.Nat.{ℕ, zero, suc, _≤_, _<_}
 use mathlib.Core.Path.{_≡_, refl, sym, _∙_, ap, subst}
 use mathlib.Core.Bool.{Bool, true, false, not, _&&_, _||_, cond, true≢false, false≢true}

@@ -1,4 +1,5 @@
--- One controller's answer put back keeps the invariant, if the answer fits. Every event of an order goes through this.
+-- One controller's answer put back keeps the invariant, if the answer fits. What the answer owes holds at its own place, and elsewhere all stays, since
+-- what was sent only grows (Growth). Every event of an order goes through this.
 use Prim.Native.Nat.{ℕ}
 use mathlib.Core.Path.{_≡_, refl}
 use mathlib.Core.Bool.{Bool, true, false, _||_, cond, false≢true}

@@ -1,4 +1,5 @@
 -- The statement's moments and the log of an order: an event stands in the log at its place exactly when it was accepted in the order of that moment.
+-- Along the list: an event that concerns one controller enters the log, any other begins it anew (view/Kinds).
 use Prim.Native.Nat.{ℕ}
 use mathlib.Core.Path.{_≡_, refl, sym, _∙_, ap, subst}
 use mathlib.Core.Bool.{Bool, true, false, false≢true, not, _||_, cond}

@@ -1,4 +1,5 @@
--- Two moments are of one order exactly when the order's number is the same.
+-- Two moments are of one order exactly when the order's number is the same: an order asks for a greater number (question 12), and no other event changes
+-- it (view/Kinds).
 use Prim.Native.Nat.{ℕ, _≤_, _<_}
 use mathlib.Core.Path.{_≡_, refl, _∙_}
 use mathlib.Core.Bool.{true, false, false≢true}

@@ -1,4 +1,5 @@
--- Every bench that a list of events leads to from a new one is new, or has its lock and keeps the invariant. Theorems over every list go by this.
+-- Every bench that a list of events leads to from a new one is new, or has its lock and keeps the invariant: the lock begins with it (Start), and each
+-- event keeps it (view/Simulation). Theorems over every list go by this.
 use Prim.Native.Nat.{ℕ, _≤_}
 use mathlib.Core.Path.{_≡_, refl, sym, subst}
 use mathlib.Core.Bool.{Bool, true}

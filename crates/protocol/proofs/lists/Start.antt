@@ -1,4 +1,5 @@
--- From the new bench on: either nothing was accepted yet, or one lock was, and the views start from a fresh bench of that n and f.
+-- From the new bench on: either nothing was accepted yet, or one lock was, and the views start from a fresh bench of that n and f. Every event but a
+-- lock asks for one (view/Kinds); a fresh bench holds nothing, so it keeps what is claimed of benches.
 use Prim.Native.Nat.{ℕ, zero, suc, _≤_, _<_}
 use mathlib.Core.Path.{_≡_, refl, sym, _∙_, ap, subst}
 use mathlib.Core.Bool.{Bool, true, false, false≢true}

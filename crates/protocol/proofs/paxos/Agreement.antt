@@ -1,4 +1,5 @@
--- From the invariant: no two words are chosen.
+-- From the invariant: no two words are chosen. A word put later has a majority's promises, and one of these took the chosen ballot (Meet), so a ballot
+-- not below it is reported; down the ballots reported the word is the same.
 use Prim.Native.Nat.{ℕ, zero, suc, _≤_, _<_}
 use mathlib.Core.Path.{_≡_, sym, _∙_, ap}
 use mathlib.Core.Bool.{Bool, true, cond}

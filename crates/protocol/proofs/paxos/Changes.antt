@@ -1,4 +1,5 @@
--- Each small change keeps the invariant.
+-- Each small change keeps the invariant: a promise given, a ballot taken, a promise counted, a word put. The heart: who takes a ballot has promised
+-- nothing above it, so what its promises report stays true.
 use Prim.Native.Nat.{ℕ, _≤_, _<_}
 use mathlib.Core.Path.{_≡_, refl, sym, _∙_, ap}
 use mathlib.Core.Bool.{Bool, true, false, cond}

@@ -1,4 +1,5 @@
--- What the rest of the bench does to the ballots' invariant: controllers stop, and put words.
+-- What the rest of the bench does to the ballots' invariant: controllers stop, and put words. It speaks of those that run and of words that were put, so
+-- it stays, part by part.
 use Prim.Native.Nat.{ℕ}
 use mathlib.Core.Path.{_≡_}
 use mathlib.Core.Bool.{Bool, true, cond}

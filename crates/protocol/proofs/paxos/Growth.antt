@@ -1,4 +1,4 @@
--- What stays of a ballot through every rule: who accepted it, its word, the room for reports.
+-- What stays of a ballot through every rule: who accepted it, its word, the room for reports. By the cases of each rule.
 use Prim.Native.Nat.{ℕ}
 use mathlib.Core.Path.{_≡_, refl, ap}
 use mathlib.Core.Bool.{true, not}

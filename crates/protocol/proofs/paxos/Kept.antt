@@ -1,4 +1,5 @@
--- Each rule keeps the invariant: the state with the rule's answer put back at one controller and one ballot.
+-- Each rule keeps the invariant: the state with the rule's answer put back at one controller and one ballot. An answer is one small change of the view
+-- or two (Simulation), and each keeps it (Changes).
 use Prim.Native.Nat.{ℕ, _≤_, _*_}
 use mathlib.Core.Path.{_≡_, refl, sym, _∙_, ap, subst}
 use mathlib.Core.Bool.{Bool, true, false, cond, not}

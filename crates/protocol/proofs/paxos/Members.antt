@@ -1,4 +1,5 @@
--- What the rules of document 01 do to a controller, as far as ballots look at it: a word put stays while it runs, and the arbiter hears of each.
+-- What the rules of document 01 do to a controller, as far as ballots look at it: a word put stays while it runs, and the arbiter hears of each. By the
+-- cases of each rule (view/RuleCases).
 use Prim.Native.Nat.{ℕ}
 use mathlib.Core.Path.{_≡_, refl, sym, _∙_, ap}
 use mathlib.Core.Bool.{Bool, true, false, not, _&&_}

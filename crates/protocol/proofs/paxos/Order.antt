@@ -1,4 +1,5 @@
--- The ballots of a bench's order: every accepted event keeps their invariant. So at c = 1 a word given passes document 01's question 18 too.
+-- The ballots of a bench's order: every accepted event keeps their invariant, one of ballots by its rule (Kept), any other by what it does to the
+-- controllers (Members, Environment). So at c = 1 a word given passes document 01's question 18 too (Agreement).
 use Prim.Native.Nat.{ℕ, zero, suc, _≤_, _<_, _*_}
 use mathlib.Core.Path.{_≡_, refl, sym, _∙_, ap, subst}
 use mathlib.Core.Bool.{Bool, true, false, cond, not, _&&_, _||_, false≢true}

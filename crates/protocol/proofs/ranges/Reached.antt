@@ -1,4 +1,4 @@
--- From what stays in range (Ranges) and the invariant to the statement: the questions of a record, one by one.
+-- From what stays in range (Ranges) and the invariant, over every list (lists/Reach), to the statement: the questions of a record, one by one.
 use Prim.Native.Nat.{ℕ, zero, suc, _≤_, _<_, _^_}
 use mathlib.Core.Path.{_≡_, refl, sym, _∙_, ap, subst}
 use mathlib.Core.Bool.{true, false, not, _&&_, false≢true}

@@ -1,4 +1,5 @@
 -- Ballot 1, event by event: 1 opens it; the asks come to all others, their promises to 1, and the word that 1 then puts to all others. Each takes it.
+-- Each event is accepted for what holds then, and does what Rules says.
 use Prim.Native.Nat.{ℕ, zero, suc, _≤_, _<_, _*_}
 use mathlib.Core.Path.{_≡_, refl, sym, _∙_, ap, subst}
 use mathlib.Core.Bool.{true, false, cond}

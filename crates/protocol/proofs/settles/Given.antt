@@ -1,4 +1,4 @@
--- The word that all have taken is chosen, so it is given to each, and each holds it: `BallotsNotHollow`.
+-- The word that all have taken is chosen (paxos/Chosen), so it is given to each, and by demand 3 each holds it: `BallotsNotHollow`.
 use Prim.Native.Nat.{ℕ, zero, suc, _≤_, _<_}
 use mathlib.Core.Path.{_≡_, refl, sym, _∙_, ap, subst}
 use mathlib.Core.Bool.{Bool, true, false, true≢false, false≢true}

@@ -1,4 +1,5 @@
--- Controller 1 votes and has both its timeouts before anything else happens, so it puts a word; then all others come to stage 3.
+-- Controller 1 votes and has both its timeouts before anything else happens, so it holds its own acknowledgement alone and puts a word; then all others
+-- come to stage 3 (hearing/Onward).
 use Prim.Native.Nat.{ℕ, zero, suc, _≤_, _<_}
 use mathlib.Core.Path.{_≡_, refl, sym, _∙_, ap, subst}
 use mathlib.Core.Bool.{true, cond, not, _&&_}

@@ -1,4 +1,5 @@
--- What the own vote drops of the acknowledgements held: those that contradict it, and no others; each is counted off.
+-- What the own vote drops of the acknowledgements held: those that contradict it, and no others; each is counted off. Along the senders that are asked,
+-- one by one.
 use Prim.Native.Nat.{ℕ, zero, suc, _≤_}
 use mathlib.Core.Path.{_≡_, refl, sym, _∙_, ap, subst}
 use mathlib.Core.Bool.{Bool, true, false, not, _&&_, false≢true}

@@ -1,4 +1,5 @@
--- `Strays`, by the cases of `receive` and of each rule.
+-- `Strays`, by the cases of `receive` and of each rule: a message is asked for what the statement says, no rule refuses (view/Refusals), so a refusal is
+-- the test's and changes nothing; and what a vote drops is what Dropped says.
 use Prim.Native.Nat.{ℕ, suc, _≤_}
 use mathlib.Core.Path.{_≡_, refl, sym, _∙_, ap, subst}
 use mathlib.Core.Bool.{Bool, true, false, not, _&&_, _||_, and-false, true≢false, and-true}
