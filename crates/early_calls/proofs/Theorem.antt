@@ -26,7 +26,7 @@ use Rattle.protocol.specs.Display.{WasSent}
 use Rattle.protocol.specs.NoContradiction.{untestedReply}
 use Rattle.protocol.specs.Reach.{messageAt}
 use Rattle.protocol.specs.Claim.{after}
-use Rattle.protocol.proofs.view.View.{View, accepts, ask-l, ask-r}
+use Rattle.protocol.proofs.view.View.{View, same-view, accepts, ask-l, ask-r}
 use Rattle.protocol.proofs.view.Performed.{stepV}
 use Rattle.protocol.proofs.view.Simulation.{view, Sound, Runs, Steps, reply-untested, reply-sim, step-steps, step-sim}
 use Rattle.protocol.proofs.lists.Moments.{refused-step}
@@ -159,15 +159,7 @@ locked-rel b l = subst (λ (x : Bench). Both x x) (sym (l .is)) (record {
   sound₁ = lock-sound (l .n) (l .f) (l .own) (l .sized);
   same-n = refl;
   same-f = refl;
-  view-is = unfold view forgetV in λ p. record {
-    own = (view (benchOf true (l .n) (l .f) (l .own))) .own;
-    order = (benchOf true (l .n) (l .f) (l .own)) .shared .order;
-    state = (view (benchOf true (l .n) (l .f) (l .own))) .state;
-    ctl = λ k. sym (fresh-kept true (l .n) (l .f) (l .own) k) p;
-    saved = (view (benchOf true (l .n) (l .f) (l .own))) .saved;
-    counts = (view (benchOf true (l .n) (l .f) (l .own))) .counts;
-    ballots = (view (benchOf true (l .n) (l .f) (l .own))) .ballots;
-  };
+  view-is = unfold view forgetV in same-view _ _ refl refl refl refl (λ p k. sym (fresh-kept true (l .n) (l .f) (l .own) k) p) refl refl refl;
 })
 
 -- on the new bench

@@ -19,8 +19,8 @@ use Rattle.protocol.specs.Steps.{renewed, step, run}
 use Rattle.protocol.specs.Claim.{after}
 use Rattle.protocol.specs.KeptCheckpoints.{savesAt, savesAny, checkpointIn, asShown, KeptCheckpoints}
 use Rattle.protocol.proofs.view.View.{View, ballotsV, openedV}
-use Rattle.protocol.proofs.view.Performed.{commitV, chosen, savedV, performV, stepV, by-effect}
-use Rattle.protocol.proofs.view.Simulation.{view, Sound, reply-sim, step-sim}
+use Rattle.protocol.proofs.view.Performed.{commitV, chosen, savedV, performV, by-effect}
+use Rattle.protocol.proofs.view.Simulation.{view, Sound, step-performs}
 use Rattle.protocol.proofs.lists.Moments.{accepted-is, run-append, run-one, run-cons, refused-step}
 use Rattle.protocol.proofs.lists.Start.{freshes, new-refuses}
 use Rattle.protocol.proofs.lists.Reach.{Reached, new-step, step-reached, reached}
@@ -32,12 +32,8 @@ module _ (b : Bench) (a : Sound b) where
   abbrev f : ℕ
   f = b .shared .f
 
-  -- what an accepted event leaves, of the view
-  stepped : (e : Event) → isAccepted (reply b e) ≡ true → view (step b e) ≡ performV n f (view b) e
-  stepped e q = step-sim b a e ∙ (unfold stepV in rw (sym (reply-sim b a e) ∙ q))
-
   as-view : (e : Event) (i : ℕ) → isAccepted (reply b e) ≡ true → checkpointIn (step b e) i ≡ (performV n f (view b) e) .saved i
-  as-view e i q = unfold view in ap (λ (v : View). v .saved i) (stepped e q)
+  as-view e i q = unfold view in ap (λ (v : View). v .saved i) (step-performs b a e q)
 
   kept-by : (e : Event) (i : ℕ) → isAccepted (reply b e) ≡ true → savesAt i b e ≡ false → (performV n f (view b) e) .saved i ≡ checkpointIn b i
   unfolding commitV view

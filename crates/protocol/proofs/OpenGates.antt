@@ -34,10 +34,10 @@ use Rattle.protocol.specs.Steps.{renewed, orderOpened, run}
 use Rattle.protocol.specs.Claim.{after}
 use Rattle.protocol.specs.OpenCount.{isOpen, fullCount, hasEnded, OpenCount}
 use Rattle.protocol.specs.Events.{subject}
-use Rattle.protocol.proofs.view.View.{ballotsV, View, openedV, accepts, part}
+use Rattle.protocol.proofs.view.View.{ballotsV, View, openedV, accepts, part, all-of-copies}
 use Rattle.protocol.proofs.view.Performed.{upd-id, commitV, chosen, savedV, performV, place, stepV, runV, by-effect}
 use Rattle.protocol.proofs.view.Simulation.{view, Runs, run-sim}
-use Rattle.protocol.proofs.lists.Start.{start, all-of-copies, lock-sound}
+use Rattle.protocol.proofs.lists.Start.{start, lock-sound}
 
 -- counts ---------------------------------------------------------------------------
 

@@ -34,9 +34,6 @@ record Inside (l es : List Event) (e : Event) : Type 0 where
   rest : List Event
   parts : l ≡ es ++ (e ∷ rest)
 
-inside-more : (y : Event) (l es : List Event) (e : Event) → Inside l es e → Inside (y ∷ l) (y ∷ es) e
-inside-more y l es e i = record { rest = i .rest; parts = ap (λ (m : List Event). y ∷ m) (i .parts) }
-
 nothing-there : (es : List Event) (e : Event) (rest : List Event) → [] ≡ es ++ (e ∷ rest) → ⊥
 nothing-there [] e rest p = nil≢cons p
 nothing-there (x ∷ es) e rest p = nil≢cons p

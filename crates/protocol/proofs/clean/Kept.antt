@@ -28,12 +28,11 @@ use Rattle.protocol.specs.Controllers.{isRunning, isStopped, runs, phase
 use Rattle.protocol.specs.Rules.{keepsCall, answersCall, passedOver, becomes, proposing, verdict, voteRule, countOwn, firstTimeout, ackJoin, proposeIfSufficient, frozen, ready, callsHelp, secondTimeout, helpVotes}
 use Rattle.protocol.specs.declared.Identity.{Identity}
 use Rattle.protocol.specs.declared.Saved.{Saved}
-use Rattle.protocol.specs.declared.Saved.the-variants.{Nothing, Newest}
-use Rattle.protocol.specs.Calls.{arrives, restore}
+use Rattle.protocol.specs.Calls.{arrives}
 use Rattle.protocol.specs.Events.{restoreFrom, concernsOne}
 use Rattle.protocol.specs.Benches.{sentAfter}
 use Rattle.protocol.specs.Questions.{firstNo}
-use Rattle.protocol.proofs.view.RuleCases.{timeout-cases, vote-cases, ack-cases, help-cases, helped-cases, sufficient-cases, second-cases}
+use Rattle.protocol.proofs.view.RuleCases.{timeout-cases, vote-cases, ack-cases, help-cases, helped-cases, sufficient-cases, second-cases, restore-cases}
 use Rattle.protocol.proofs.view.View.{ballotsV, View, accepts, ask-l, ask-r}
 use Rattle.protocol.proofs.view.Performed.{commitV, chosen, savedV, checkpointAt, identityV, performV}
 use Rattle.protocol.proofs.invariant.Words.{noting-runs, noting-phase}
@@ -141,9 +140,7 @@ module _ (n f : ℕ) where
   restore-live e j o c l q = record { live = record { running = sym q; votes = λ r. absurd (no-both (runs c) r q); acks = λ r. absurd (no-both (runs c) r q); phase = λ r. absurd (no-both (runs c) r q); acked = λ h. inl (h, refl) } }
 
   restored-live : (e : Event) (j : ℕ) (me : Identity) (s : Saved) (c : Controller) (l : Sent) → runs c ≡ false → KeptBy e j c l (restoreFrom me s c)
-  unfolding restoreFrom restore
-  restored-live e j me Nothing c l q = passed-over-kept e j c l
-  restored-live e j me (Newest x) c l q = by-cond (KeptBy e j c l) (isStopped (c .condition)) _ _ (λ t. restore-live e j _ c l q) (λ t. passed-over-kept e j c l)
+  restored-live e j me s c l q = restore-cases (KeptBy e j c l) me s c (λ x z y. restore-live e j _ c l q) (passed-over-kept e j c l)
 
   abbrev pub KeptAll : Event → View → View → Type 0
   KeptAll e b b′ = (k : ℕ) → Kept e k (b .ctl k) (b′ .ctl k) (b .state .sent k) (b′ .state .sent k)

@@ -27,12 +27,12 @@ use Rattle.protocol.specs.Events.{concernsOne}
 use Rattle.protocol.specs.Claim.{after, Accepted}
 use Rattle.protocol.specs.CleanOrders.{deliveries, fromLock}
 use Rattle.ground.specs.Limit.{limit}
-use Rattle.protocol.proofs.view.View.{View, openedV, accepts}
+use Rattle.protocol.proofs.view.View.{View, openedV, accepts, all-of-copies}
 use Rattle.protocol.proofs.view.Performed.{performV, stepV}
 use Rattle.protocol.proofs.clean.Log.{entered}
 use Rattle.protocol.proofs.lists.Moments.{accepted-is, push, logOf, logAt, entry-of, run-append, run-one, log-append}
 use Rattle.protocol.proofs.view.Simulation.{view, Sound, Steps, step-steps, reply-sim, step-sim}
-use Rattle.protocol.proofs.lists.Start.{all-of-copies, lock-sound}
+use Rattle.protocol.proofs.lists.Start.{lock-sound}
 use Rattle.protocol.proofs.clean.Loops.{rows-all}
 use Rattle.protocol.proofs.clean.Ready.{due, begun, ReadyAll, ElseSame, vote-accepted, vote-going, deliver-accepted, deliver-going, timeout-accepted, first-going, second-going}
 

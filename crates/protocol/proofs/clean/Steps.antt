@@ -166,16 +166,13 @@ module _ (n f : ℕ) where
   acks-log : (es : List Event) → claim.AcksIn n f es → AcksIn n f (logAt es)
   acks-log es v = record { sent = λ i j a b c d r. in-log es _ refl (v .delivered i j a b c d r) }
 
-  second-log : (es : List Event) (i : ℕ) → IsSecondTimeout n f es i → Second n f i (logAt es)
-  second-log es i (inl h) = inl h
-  second-log es i (inr t) = inr (in-log es (Timeout i) refl t)
+  pub second-is : (es : List Event) (i : ℕ) → IsSecondTimeout n f es i → Second n f i (logAt es)
+  second-is es i (inl h) = inl h
+  second-is es i (inr t) = inr (in-log es (Timeout i) refl t)
 
   pub log-second : (es : List Event) (i : ℕ) → Second n f i (logAt es) → IsSecondTimeout n f es i
   log-second es i (inl h) = inl h
   log-second es i (inr m) = inr (in-order es (Timeout i) m)
-
-  pub second-is : (es : List Event) (i : ℕ) → IsSecondTimeout n f es i → Second n f i (logAt es)
-  second-is = second-log
 
   pub clean-log : (es : List Event) → claim.Clean n f es → CleanOrder (logAt es)
   clean-log es c = record {
@@ -185,5 +182,5 @@ module _ (n f : ℕ) where
     acks = λ i earlier later p s ns. let t : Placed es (Timeout i) earlier = placed es (Timeout i) earlier later p in
         subst (AcksIn n f) (t .was) (acks-log (t .event .before) (c .acks-first i (t .event) (log-second (t .event .before) i (subst (Second n f i) (sym (t .was)) s))
         (λ j u v. let k : Stands (t .event .before) (Timeout j) (u .before) = stands (t .event .before) (Timeout j) refl u in
-        ns j (logAt (u .before)) (k .later) (sym (t .was) ∙ k .is) (second-log (u .before) j v))));
+        ns j (logAt (u .before)) (k .later) (sym (t .was) ∙ k .is) (second-is (u .before) j v))));
   }

@@ -2,7 +2,7 @@
 -- is put, so the arbiter gives none (question 18), and an outcome comes of a second timeout alone, before which every vote and every acknowledgement was delivered.
 use Prim.Native.Nat.{ℕ, _≤_, _<_}
 use mathlib.Core.Path.{_≡_, refl, sym, _∙_, ap}
-use mathlib.Core.Bool.{Bool, true, false, not, _&&_, false≢true}
+use mathlib.Core.Bool.{Bool, true, false, not, _&&_, false≢true, cond}
 use mathlib.Core.List.{List, [], _∷_}
 use native.Mathlib.Omega.{arith}
 use lib.Dec.{eqb}
@@ -25,6 +25,7 @@ use Rattle.model.specs.declared.Event.{Event}
 use Rattle.model.specs.declared.Event.the-variants.{Lock, Order, Cast, Deliver, Timeout, Decide, Stop, Save, Restore, OfBallots}
 use Rattle.protocol.specs.declared.Ballots.{Ballots}
 use Rattle.protocol.specs.declared.Consensus.{Consensus}
+use Rattle.protocol.specs.declared.Condition.the-variants.{Standby}
 use Rattle.protocol.specs.declared.Controller.{Controller}
 use Rattle.protocol.specs.declared.Answer.{Answer}
 use Rattle.protocol.specs.declared.Saved.{Saved}
@@ -32,13 +33,13 @@ use Rattle.protocol.specs.declared.Saved.the-variants.{Newest}
 use Rattle.protocol.specs.declared.Sent.{Sent}
 use Rattle.protocol.specs.Controllers.{isStopped, phase, outcome, hasAck, hasCalled, cleared, advance, learn, aim, keepAck, freeze, conclude}
 use Rattle.protocol.specs.Rules.{passedOver, becomes, verdict, voteRule, countOwn, firstTimeout, ackJoin, decides, sufficient, proposeIfSufficient, helpVotes, frozen, ready, secondTimeout}
-use Rattle.protocol.specs.Calls.{arrives, restore}
+use Rattle.protocol.specs.Calls.{arrives}
 use Rattle.protocol.specs.Benches.{ofKind, unsentAll, sentAfter}
 use Rattle.protocol.specs.Questions.{firstNo, wasProposed}
 use Rattle.protocol.specs.Steps.{renewed, orderOpened}
 use Rattle.protocol.specs.SentOnce.{receiversOf}
 use Rattle.protocol.proofs.view.View.{ballotsV, View, savedOrder, savedOutcome, openedV, accepts, ask-l, ask-r}
-use Rattle.protocol.proofs.view.Performed.{commitV, savedV, checkpointAt, identityV, timeoutRule, performV, stepV, runV}
+use Rattle.protocol.proofs.view.Performed.{commitV, savedV, checkpointAt, timeoutRule, performV, stepV, runV}
 use Rattle.protocol.proofs.view.RuleCases.{vote-cases, ack-cases, restore-cases, sufficient-cases, timeout-cases}
 use Rattle.protocol.proofs.invariant.Invariant.{Inv}
 use Rattle.protocol.proofs.invariant.Words.{none-word}
@@ -162,11 +163,10 @@ module _ (n f : ℕ) where
   deliver-without-help b log i j Helped s q = absurd (no-both _ s (q .no-helped i j))
 
   -- a checkpoint brings back an outcome of this order, or none
-  restored-without-help : (b : View) (log : List Event) (i : ℕ) → WithoutHelp b log → (x : Checkpoint) → b .saved i ≡ Newest x → WithoutHelpBy (Restore i ∷ log) (restore (identityV n f b i) x (b .ctl i))
-  unfolding restore cleared
-  restored-without-help b log i q x s = by-cond (WithoutHelpBy _) (isStopped ((b .ctl i) .condition)) _ _
-      (λ e. becomes-without-help _ _ (record { waits = refl; held = λ v. by-cond (λ (o : Outcome). o ≡ wordOf v → Delivered (Restore i ∷ log)) (eqb (x .order) (b .order)) (x .outcome) None (λ t h. more _ log (q .saved i v (ap savedOrder s ∙ eqb-true _ _ t) (ap savedOutcome s ∙ h))) (λ t h. none-word v h) }))
-      (λ e. passed-without-help _ _ (now b log (Restore i) i q))
+  restored-without-help : (b : View) (log : List Event) (i : ℕ) → WithoutHelp b log → (x : Checkpoint) → b .saved i ≡ Newest x → isStopped ((b .ctl i) .condition) ≡ true → WithoutHelpBy (Restore i ∷ log) (becomes (cleared (Standby (cond (eqb (x .order) (b .order)) (x .outcome) None)) (b .ctl i)))
+  unfolding cleared
+  restored-without-help b log i q x s z =
+      becomes-without-help _ _ (record { waits = refl; held = λ v. by-cond (λ (o : Outcome). o ≡ wordOf v → Delivered (Restore i ∷ log)) (eqb (x .order) (b .order)) (x .outcome) None (λ t h. more _ log (q .saved i v (ap savedOrder s ∙ eqb-true _ _ t) (ap savedOutcome s ∙ h))) (λ t h. none-word v h) })
 
   ballot-without-help : (b : View) (log : List Event) (e : BallotEvent) (s : Ballots) → WasSent b (OfBallots e) → WithoutHelp b log → WithoutHelp (ballotsV b s) (OfBallots e ∷ log)
   unfolding ballotsV

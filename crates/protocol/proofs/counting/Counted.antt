@@ -33,8 +33,8 @@ use Rattle.protocol.specs.Claim.{after, opensOrder, opensAny}
 use Rattle.protocol.specs.SentOnce.{receiversOf, sendOf, receiversAt, sendCount, countAccepted, countSends, StaysSent, SentOnce}
 use Rattle.protocol.proofs.view.View.{ballotsV, View, openedV, accepts}
 use Rattle.protocol.proofs.view.Kinds.{IsLock}
-use Rattle.protocol.proofs.view.Performed.{by-effect, commitV, chosen, savedV, ruleAnswer, performV, place, stepV}
-use Rattle.protocol.proofs.view.Simulation.{view, Sound, rule-sim, reply-sim, step-steps, step-sim}
+use Rattle.protocol.proofs.view.Performed.{by-effect, commitV, chosen, savedV, ruleAnswer, performV, place}
+use Rattle.protocol.proofs.view.Simulation.{view, Sound, rule-sim, reply-sim, step-steps, step-performs}
 use Rattle.protocol.proofs.invariant.Arrivals.{count-zero}
 use Rattle.protocol.proofs.lists.Moments.{accepted-is, lock-refused, run-append, refused-step}
 use Rattle.protocol.proofs.lists.Start.{new-lock, freshes}
@@ -85,10 +85,7 @@ module _ (b : Bench) (a : Sound b) where
     sends x = countTo n (has (receiversOf (sendOf kind (x .sends))))
 
     after-view : messageCount (step b e) kind ≡ messageCountV n f (performV n f (view b) e) kind
-    after-view = as-view (step b e) n f kind (step-steps b (a) e .same-n) ∙ ap (λ (v : View). messageCountV n f v kind) (step-sim b (a) e ∙ stepped)
-      where
-        stepped : stepV n f (view b) e ≡ performV n f (view b) e
-        stepped = unfold stepV in rw q
+    after-view = as-view (step b e) n f kind (step-steps b (a) e .same-n) ∙ ap (λ (v : View). messageCountV n f v kind) (step-performs b a e (reply-sim b a e ∙ q))
 
     by-rule : messageCountV n f (view b) kind + sends (ruleAnswer n f (view b) e) ≡ messageCount b kind + sendCount b e kind
     by-rule = rw (as-view b n f kind refl) (ap (λ (x : Answer). messageCountV n f (view b) kind + sends x) (sym (rule-sim b (a) e q)))
@@ -130,10 +127,7 @@ module _ (b : Bench) (a : Sound b) where
 
   accepted-kept : (e : Event) → accepts n f (view b) e ≡ true → opensOrder b e ≡ false → (kind : Kind) (j i : ℕ) → has ((ofKind kind (sentBy b i)) .to) j ≡ true
       → Stays j (ofKind kind (sentBy b i)) (ofKind kind (sentBy (step b e) i))
-  accepted-kept e q o kind j i h = unfold view in subst (λ (v : View). Stays j (ofKind kind (sentBy b i)) (ofKind kind (v .state .sent i))) (sym (step-sim b (a) e ∙ stepped)) (performed-kept e q o kind j i h)
-    where
-      stepped : stepV n f (view b) e ≡ performV n f (view b) e
-      stepped = unfold stepV in rw q
+  accepted-kept e q o kind j i h = unfold view in subst (λ (v : View). Stays j (ofKind kind (sentBy b i)) (ofKind kind (v .state .sent i))) (sym (step-performs b a e (reply-sim b a e ∙ q))) (performed-kept e q o kind j i h)
 
 -- from the new bench the lock alone is accepted, and nothing is sent
 new-counted : (kind : Kind) (e : Event) → isAccepted (reply newBench e) ≡ true → messageCount (step newBench e) kind ≡ countAccepted kind newBench e (messageCount newBench kind)

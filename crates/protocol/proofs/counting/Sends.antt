@@ -9,7 +9,7 @@ use native.Mathlib.Decide.{ℕ-discrete}
 use lib.Dec.{eqb}
 use mathlib.Core.Logic.{inl, inr}
 use borrow.Author.Tests.{eqb-true, ne-eqb}
-use Rattle.ground.specs.Tests.{no-both, refuted, by-cond, and-l, and-r, or-l, or-second}
+use Rattle.ground.specs.Tests.{no-both, refuted, and-l, and-r, or-l, or-second}
 use Rattle.ground.specs.Quantify.{countTo}
 use Rattle.ground.specs.Sizes.{count-union}
 use Rattle.ground.specs.Mask.{has, insert}
@@ -28,17 +28,17 @@ use Rattle.protocol.specs.declared.Send.{Send}
 use Rattle.protocol.specs.declared.Send.the-variants.{Nothing, To}
 use Rattle.protocol.specs.declared.Sends.{Sends}
 use Rattle.protocol.specs.declared.Sent.{Sent}
-use Rattle.protocol.specs.Controllers.{isStopped, runs, phase, hasCalled}
+use Rattle.protocol.specs.Controllers.{runs, phase, hasCalled}
 use Rattle.protocol.specs.Events.{subject}
-use Rattle.protocol.specs.Rules.{passedOver, becomes, proposing, voteRule, firstTimeout, proposeIfSufficient, ready, callsHelp, secondTimeout, keepsCall, answersCall}
-use Rattle.protocol.specs.Calls.{arrives, restore}
+use Rattle.protocol.specs.Rules.{passedOver, becomes, proposing, voteRule, firstTimeout, proposeIfSufficient, ready, callsHelp, secondTimeout, answersCall}
+use Rattle.protocol.specs.Calls.{arrives}
 use Rattle.protocol.specs.Benches.{ofKind, afterSend, sentAfter}
 use Rattle.protocol.specs.Questions.{firstNo}
 use Rattle.protocol.specs.Display.{sumTo}
 use Rattle.protocol.specs.SentOnce.{receiversOf, sendOf}
 use Rattle.protocol.proofs.view.View.{View, accepts, ask-l, ask-r, part}
 use Rattle.protocol.proofs.view.Performed.{commitV, ruleAnswer}
-use Rattle.protocol.proofs.view.RuleCases.{vote-cases, ack-cases, helped-cases, help-cases, restore-cases, sufficient-cases, second-cases, timeout-cases}
+use Rattle.protocol.proofs.view.RuleCases.{restore-cases, sufficient-cases, second-cases, timeout-cases, arrives-cases}
 use Rattle.protocol.proofs.invariant.Invariant.{votedBy, ackedBy, frozenBy, Inv}
 
 -- what is sent of one kind goes to nobody that was sent it before, and leaves the vote set as it is, where somebody was sent it
@@ -148,11 +148,7 @@ module _ (n f : ℕ) where
         fresh k e = elim (insert-only 0 j k e) [ inr z ↦ none-has k z | inl z ↦ rw z (inv .owns i .helping .answered p j ∙ q) ]
 
     arrives-new : (kind : Kind) (j : ℕ) (s : VoteSet) → New l (arrives kind n f j s c)
-    unfolding arrives
-    arrives-new Vote j s = vote-cases (New l) s c (λ p. becomes-new l _) (passed-new l c)
-    arrives-new Ack j s = ack-cases (New l) n f j s c (λ p. puts-new l _ (becomes-new l _)) (λ p. passed-new l c)
-    arrives-new Help j s = help-cases (New l) j c (λ p. unfold keepsCall in becomes-new l _) (λ p q. answers-new j p q) (λ q. passed-new l c)
-    arrives-new Helped j s = helped-cases (New l) n f j s c (λ p q. puts-new l _ (becomes-new l _)) (λ q. passed-new l c)
+    arrives-new kind j s = arrives-cases (New l) n f kind j s c (λ c′ q. becomes-new l c′) (puts-new l) (λ z p q. answers-new j p q) (passed-new l c)
 
   -- the rule of every accepted event
   pub rule-new : (b : View) → Inv n f b → (e : Event) → accepts n f b e ≡ true → New (b .state .sent (subject e)) (ruleAnswer n f b e)
@@ -167,7 +163,7 @@ module _ (n f : ℕ) where
   rule-new b inv (Stop i) q = becomes-new _ _
   rule-new b inv (Save i) q = passed-new _ _
   rule-new b inv (OfBallots e) q = passed-new _ _
-  rule-new b inv (Restore i) q = restore-cases (New (b .state .sent i)) _ _ (b .ctl i) (λ x z. unfold restore in by-cond (New (b .state .sent i)) (isStopped ((b .ctl i) .condition)) _ _ (λ y. becomes-new _ _) (λ y. passed-new _ _)) (passed-new _ _)
+  rule-new b inv (Restore i) q = restore-cases (New (b .state .sent i)) _ _ (b .ctl i) (λ x z y. becomes-new _ _) (passed-new _ _)
 
   -- what is sent of a kind after an answer
   after-send : (old : Outgoing) (s : Send) (j : ℕ) → has ((afterSend old s) .to) j ≡ (has (old .to) j || has (receiversOf s) j)

@@ -33,7 +33,7 @@ use Rattle.protocol.specs.declared.Answer.{Answer}
 use Rattle.protocol.specs.declared.Consensus.{Consensus}
 use Rattle.protocol.specs.declared.Bench.{Bench}
 use Rattle.protocol.specs.Controllers.{isStopped, runs, phase, conclude}
-use Rattle.protocol.specs.Rules.{passedOver, becomes, proposing, proposeIfSufficient, keepsCall, answersCall, secondTimeout}
+use Rattle.protocol.specs.Rules.{passedOver, becomes, proposing, proposeIfSufficient, answersCall, secondTimeout}
 use Rattle.protocol.specs.Calls.{arrives}
 use Rattle.protocol.specs.Benches.{newBench, benchOf, controller, ofKind}
 use Rattle.protocol.specs.Events.{subject, concernsOne}
@@ -46,7 +46,7 @@ use Rattle.protocol.specs.Reach.{messageAt}
 use Rattle.protocol.specs.Termination.{RunsAt, HasPut, WasGiven, Premise, few-down, at-stage-3, delivered, answered, Meets, Onward}
 use Rattle.protocol.proofs.view.View.{accepts}
 use Rattle.protocol.proofs.view.Performed.{commitV, chosen, timeoutRule, performV}
-use Rattle.protocol.proofs.view.RuleCases.{vote-cases, ack-cases, helped-cases, help-cases, sufficient-cases}
+use Rattle.protocol.proofs.view.RuleCases.{sufficient-cases, arrives-cases}
 use Rattle.protocol.proofs.view.Simulation.{view}
 use Rattle.protocol.proofs.invariant.Orders.{not-both}
 use Rattle.protocol.proofs.clean.Log.{In}
@@ -95,11 +95,7 @@ answers-silent Help h j c = record { none = λ x. has-none x }
 answers-silent Helped h j c = absurd (false≢true h)
 
 arrives-silent : (n f : ℕ) (kind k : Kind) → still kind k ≡ true → (i : ℕ) (s : VoteSet) (c : Controller) → Silent k (arrives kind n f i s c)
-unfolding arrives
-arrives-silent n f Vote k h i s c = vote-cases (Silent k) s c (λ q. becomes-silent k _) (passed-silent k c)
-arrives-silent n f Ack k h i s c = ack-cases (Silent k) n f i s c (λ q. settle-silent n f k _ (becomes-silent k _)) (λ q. passed-silent k c)
-arrives-silent n f Help k h i s c = help-cases (Silent k) i c (λ q. unfold keepsCall in becomes-silent k _) (λ p q. answers-silent k h i c) (λ q. passed-silent k c)
-arrives-silent n f Helped k h i s c = helped-cases (Silent k) n f i s c (λ p q. settle-silent n f k _ (becomes-silent k _)) (λ q. passed-silent k c)
+arrives-silent n f kind k h i s c = arrives-cases (Silent k) n f kind i s c (λ c′ q. becomes-silent k c′) (settle-silent n f k) (λ z p q. answers-silent k (ap (λ (x : Kind). still x k) (sym z) ∙ h) i c) (passed-silent k c)
 
 -- a word that the arbiter may give
 record Choice (k : Consensus) : Type 0 where

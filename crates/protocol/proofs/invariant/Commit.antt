@@ -32,7 +32,7 @@ upd-all₂ P f g i a b here there k = elim (split (eqb k i)) [
   | inr e ↦ rw (upd-other f i a k e, upd-other g i b k e) (there k)
 ]
 
-cond-or : (v a b p q : Bool) → cond v a b ≡ true → cond v (a || p) (b || q) ≡ true
+pub cond-or : (v a b p q : Bool) → cond v a b ≡ true → cond v (a || p) (b || q) ≡ true
 cond-or true a b p q e = or-l a p e
 cond-or false a b p q e = or-l b q e
 

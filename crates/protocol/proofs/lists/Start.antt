@@ -34,7 +34,7 @@ use Rattle.protocol.proofs.invariant.Invariant.{votedBy, ackedBy, Inv}
 use Rattle.protocol.proofs.invariant.Decisions.{Blank, blank-inv}
 use Rattle.protocol.proofs.clean.Log.{entered}
 use Rattle.protocol.proofs.clean.Parts.{Good, blank-good}
-use Rattle.protocol.proofs.view.View.{ask-l}
+use Rattle.protocol.proofs.view.View.{ask-l, all-of-copies}
 use Rattle.protocol.proofs.view.Kinds.{IsLock, asks-lock}
 use Rattle.protocol.proofs.view.Simulation.{view, Any, Sound}
 use Rattle.protocol.proofs.ranges.Ranges.{InRange, SentIn, AllIn, unsent-in}
@@ -106,13 +106,6 @@ start (e ∷ es) = elim (split (isAccepted (reply newBench e))) [
 ]
 
 -- the stations of a bench on which nothing has happened
-pub all-of-copies : {A : Type 0} (P : A → Type 0) (d a : A) → P d → P a → (m k : ℕ) → P (nth d (replicate m a) k)
-unfolding nth
-all-of-copies P d a x y m zero = x
-all-of-copies P d a x y zero (suc k) = x
-all-of-copies P d a x y (suc m) (suc zero) = y
-all-of-copies P d a x y (suc m) (suc (suc k)) = all-of-copies P d a x y m (suc k)
-
 pub record Fresh (s : Station) : Type 0 where
   pub sent : s .sent ≡ unsentAll
   pub ctl : Blank (s .controller)
@@ -148,7 +141,7 @@ module _ (G H : ℕ → Type 0) (g0 : G 0) (h0 : H 0) where
       controllers : (k : ℕ) → InRange G H g0 (controller (benchOf locked n f own) k)
       controllers k = unfold station benchOf in all-of-copies (λ (s : Station). InRange G H g0 (s .controller)) (freshStation []) (freshStation (replicate limit empty)) (fresh-controller []) (fresh-controller (replicate limit empty)) limit k
 
-unput : (n f : ℕ) (own : Bool) (k : ℕ) → (controller (benchOf true n f own) k) .proposal ≡ None
+pub unput : (n f : ℕ) (own : Bool) (k : ℕ) → (controller (benchOf true n f own) k) .proposal ≡ None
 unfolding station benchOf
 unput n f own k = all-of-copies (λ (x : Station). x .controller .proposal ≡ None) (freshStation []) (freshStation (replicate limit empty)) (unfold freshStation fresh in refl) (unfold freshStation fresh in refl) limit k
 

@@ -21,8 +21,8 @@ use Rattle.protocol.specs.Steps.{step, run}
 use Rattle.protocol.specs.Claim.{after, opensOrder, opensAny}
 use Rattle.protocol.specs.BallotClaim.{Chosen, BallotsAgree}
 use Rattle.protocol.proofs.view.View.{View, ballotsV, accepts, ask-l, ask-r}
-use Rattle.protocol.proofs.view.Performed.{commitV, chosen, savedV, performV, stepV, by-effect}
-use Rattle.protocol.proofs.view.Simulation.{view, Sound, reply-sim, step-sim, step-steps}
+use Rattle.protocol.proofs.view.Performed.{commitV, chosen, savedV, performV, by-effect}
+use Rattle.protocol.proofs.view.Simulation.{view, Sound, reply-sim, step-steps, step-performs}
 use Rattle.protocol.proofs.paxos.Growth.{Grown, grown-refl}
 use Rattle.protocol.proofs.paxos.Order.{Balloted, chosen-found, chosen-on, put-first, one, ballots-grown}
 use Rattle.protocol.proofs.paxos.Order as O
@@ -53,11 +53,8 @@ module _ (b : Bench) (a : Sound b) where
   small : b .shared .n ≤ limit
   small = ranges (b .shared .n) (b .shared .f) (a .sized) .small
 
-  stepped : (e : Event) → isAccepted (reply b e) ≡ true → view (step b e) ≡ performV (b .shared .n) (b .shared .f) (view b) e
-  stepped e q = step-sim b a e ∙ (unfold stepV in rw (sym (reply-sim b a e) ∙ q))
-
   step-grown : (e : Event) → isAccepted (reply b e) ≡ true → ((o : ℕ) → e ≡ Order o → ⊥) → AllGrown (view b) (view (step b e))
-  step-grown e q z = subst (AllGrown (view b)) (sym (stepped e q))
+  step-grown e q z = subst (AllGrown (view b)) (sym (step-performs b a e q))
       (perform-grown (b .shared .n) (b .shared .f) small (view b) e (a .balloted) (sym (reply-sim b a e) ∙ q) z)
 
   -- what is chosen stays so

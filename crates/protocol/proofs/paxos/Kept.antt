@@ -7,7 +7,7 @@ use mathlib.Core.Logic.{_⊎_, inl, inr}
 use native.Mathlib.Omega.{arith}
 use lib.ListN.{length}
 use lib.Dec.{eqb, leb, ltb}
-use borrow.Author.Tests.{eqb-true, eqb-false, leb-true}
+use borrow.Author.Tests.{eqb-true, eqb-false, leb-true, not-true}
 use Rattle.ground.specs.Limit.{limit}
 use Rattle.ground.specs.Tests.{split, by-cond, and-l, and-r}
 use Rattle.ground.specs.Update.{upd, upd-same}
@@ -27,10 +27,6 @@ use Rattle.protocol.proofs.paxos.Invariant.{IsPut, MemberSound, TopSoun
 use Rattle.protocol.proofs.paxos.Changes.{promise-inv, take-inv, count-inv, put-inv}
 use Rattle.protocol.proofs.paxos.Parts.{Member, Part, applied, promise-silent}
 use Rattle.protocol.proofs.paxos.Simulation.{viewAt, at-member, at-ballot, promisedPart, countedPart, wordedPart, promise-view, take-view, count-view, put-view}
-
-not-false : (t : Bool) → not t ≡ true → t ≡ false
-not-false true e = sym e
-not-false false e = refl
 
 module _ (n : ℕ) (M : ℕ → Member) (R : ℕ → BallotRow) (x y : Bool) (b i : ℕ) (b-low : 1 ≤ b) (low : 1 ≤ i) (high : i ≤ limit) where
   -- the invariant with part p put back
@@ -65,7 +61,7 @@ module _ (n : ℕ) (M : ℕ → Member) (R : ℕ → BallotRow) (x y : Bool) (b 
   -- one that answers an ask has not promised that ballot: what it promised is not above its last promise
   not-yet : (p : Part) → Good p → p .member .running ≡ true → answersPrepare b (p .member .acceptor) ≡ true → has (p .ballot .«promised_by») i ≡ false
   not-yet p g r e = elim (split (has (p .ballot .«promised_by») i)) [
-    | inl z ↦ absurd (eqb-false _ _ (not-false (eqb (p .member .acceptor .promised) b) (and-r (leb (p .member .acceptor .highest) b) (not (eqb (p .member .acceptor .promised) b)) e)) (same z))
+    | inl z ↦ absurd (eqb-false _ _ (not-true (eqb (p .member .acceptor .promised) b) (and-r (leb (p .member .acceptor .highest) b) (not (eqb (p .member .acceptor .promised) b)) e)) (same z))
     | inr z ↦ z
   ]
     where

@@ -5,7 +5,7 @@ use mathlib.Core.Bool.{Bool, true, false, not, true≢false}
 use mathlib.Core.Logic.{inl, inr}
 use native.Mathlib.Omega.{arith}
 use lib.Dec.{eqb}
-use borrow.Author.Tests.{le-leb, eqb-true}
+use borrow.Author.Tests.{le-leb, eqb-true, not-true}
 use Rattle.ground.specs.Tests.{by-cond, and-r}
 use Rattle.ground.specs.Mask.{has}
 use Rattle.model.specs.Numbers.{isNone}
@@ -47,11 +47,7 @@ module _ (b : Bench) (a : Sound b) (i j ballot : ℕ) where
   unfolding tellsForKind wasSentIn tellsNothing view
   told Prepare e = refl
   told Promise e = reports (and-r (eqb (owner (b .shared .n) ballot) j) _ e)
-  told Accept e = tells _ (not-false _ (and-r (eqb (owner (b .shared .n) ballot) i) _ e))
-    where
-      not-false : (t : Bool) → not t ≡ true → t ≡ false
-      not-false true e = sym e
-      not-false false e = refl
+  told Accept e = tells _ (not-true _ (and-r (eqb (owner (b .shared .n) ballot) i) _ e))
   told Accepted e = tells _ (a .balloted .inv .takings ballot i (and-r (eqb (owner (b .shared .n) ballot) j) _ e))
 
   passes : (kind : BallotKind) → WasSentInBallot b kind i j ballot → firstNo (aboutBallot (ballotAt b kind i j ballot)) ≡ accepted

@@ -32,8 +32,8 @@ use Rattle.protocol.specs.declared.Saved.the-variants.{Newest}
 use Rattle.protocol.specs.declared.Send.{Send}
 use Rattle.protocol.specs.declared.Sent.{Sent}
 use Rattle.protocol.specs.Controllers.{isStopped, phaseIn, runs, phase, outcome, hasAck, hasCalled, cleared, advance, learn, aim, keepAck, keepHelped, freeze, addCaller, await, propose, conclude}
-use Rattle.protocol.specs.Rules.{passedOver, becomes, proposing, verdict, voteRule, countOwn, firstTimeout, ackJoin, proposeIfSufficient, helpVotes, frozen, ready, callsHelp, secondTimeout, keepsCall, answersCall}
-use Rattle.protocol.specs.Calls.{arrives, restore, renew}
+use Rattle.protocol.specs.Rules.{passedOver, becomes, proposing, verdict, voteRule, countOwn, firstTimeout, ackJoin, proposeIfSufficient, helpVotes, frozen, ready, callsHelp, secondTimeout, answersCall}
+use Rattle.protocol.specs.Calls.{arrives, renew}
 use Rattle.protocol.specs.Benches.{ofKind, unsentAll, sentAfter}
 use Rattle.protocol.specs.Questions.{firstNo}
 use Rattle.protocol.specs.Steps.{renewed, orderOpened}
@@ -41,7 +41,7 @@ use Rattle.protocol.specs.SentOnce.{receiversOf, sendOf}
 use Rattle.protocol.specs.NoContradiction.{acksUnion}
 use Rattle.protocol.proofs.view.View.{ballotsV, View, openedV, accepts, ask-l, ask-r}
 use Rattle.protocol.proofs.view.Performed.{commitV, chosen, savedV, checkpointAt, ruleAnswer, performV, stepV}
-use Rattle.protocol.proofs.view.RuleCases.{vote-cases, ack-cases, helped-cases, help-cases, restore-cases, sufficient-cases, second-cases, timeout-cases}
+use Rattle.protocol.proofs.view.RuleCases.{restore-cases, sufficient-cases, second-cases, timeout-cases, arrives-cases, Same, ack-same, caller-same}
 use Rattle.protocol.proofs.invariant.Invariant.{votedBy, Truthful, Inv}
 use Rattle.protocol.proofs.invariant.Words.{noting-phase}
 use Rattle.protocol.proofs.invariant.TrueVotes.{union-ok}
@@ -87,17 +87,12 @@ module _ (G H : ℕ → Type 0) (g0 : G 0) where
   unfolding passedOver
   passed-keeps c h = record { keeps = h }
 
-  learn-in : (c : Controller) (s : VoteSet) → InRange c → InRange (learn c s)
-  unfolding learn
-  learn-in c s h = record { low = h .low; gate = record { target = h .gate .target; position = h .gate .position }; help = h .help }
-
-  ack-in : (c : Controller) (j : ℕ) (s : VoteSet) → InRange c → InRange (keepAck c j s)
-  unfolding keepAck
-  ack-in c j s h = record { low = h .low; gate = record { target = h .gate .target; position = h .gate .position }; help = h .help }
-
-  helped-in : (c : Controller) (j : ℕ) (s : VoteSet) → InRange c → InRange (keepHelped c j s)
-  unfolding keepHelped
-  helped-in c j s h = record { low = h .low; gate = record { target = h .gate .target; position = h .gate .position }; help = h .help }
+  same-in : (c c′ : Controller) → Same c c′ → InRange c → InRange c′
+  same-in c c′ q h = record {
+    low = rw (q .condition) (h .low);
+    gate = record { target = rw (q .gate) (h .gate .target); position = rw (q .gate) (h .gate .position) };
+    help = subst WithinSet (sym (q .frozen)) (h .help);
+  }
 
   cleared-in : (k : Condition) (c : Controller) → phaseIn k ≤ 3 → InRange c → InRange (cleared k c)
   unfolding cleared
@@ -113,10 +108,6 @@ module _ (G H : ℕ → Type 0) (g0 : G 0) where
     };
     help = h .help;
   }
-
-  caller-in : (c : Controller) (j : ℕ) → InRange c → InRange (addCaller c j)
-  unfolding addCaller
-  caller-in c j h = record { low = h .low; gate = record { target = h .gate .target; position = h .gate .position }; help = h .help }
 
   frozen-in : (n : ℕ) (c : Controller) → WithinSet (helpVotes n c) → InRange c → InRange (frozen n c)
   unfolding frozen freeze advance
@@ -136,7 +127,7 @@ module _ (G H : ℕ → Type 0) (g0 : G 0) where
     first-keeps i c h = record { keeps = record { low = omega arith; gate = record { target = own .gate .target; position = own .gate .position }; help = own .help } }
       where
         own : InRange (countOwn f i c)
-        own = unfold countOwn in by-cond InRange (isBackup f i && not (hasAck c i)) (keepAck c i (c .votes)) c (λ e. ack-in c i (c .votes) h) (λ e. h)
+        own = unfold countOwn in by-cond InRange (isBackup f i && not (hasAck c i)) (keepAck c i (c .votes)) c (λ e. same-in c (keepAck c i (c .votes)) (ack-same c i (c .votes)) h) (λ e. h)
 
     second-keeps : (i : ℕ) (c : Controller) → WithinSet (helpVotes n c) → InRange c → Keeps (secondTimeout n f i c)
     second-keeps i c w h = second-cases Keeps n f i c (λ d. direct) (λ e. puts) (λ e. puts-keeps n f _ waits)
@@ -151,11 +142,8 @@ module _ (G H : ℕ → Type 0) (g0 : G 0) where
         waits = unfold callsHelp await keepHelped in let k : InRange (frozen n c) = frozen-in n c w h in record { keeps = record { low = k .low; gate = record { target = k .gate .target; position = k .gate .position }; help = k .help } }
 
     arrives-keeps : (kind : Kind) (j : ℕ) (s : VoteSet) (c : Controller) → InRange c → Keeps (arrives kind n f j s c)
-    unfolding arrives
-    arrives-keeps Vote j s c h = vote-cases Keeps s c (λ p. becomes-keeps _ (learn-in c s h)) (passed-keeps c h)
-    arrives-keeps Ack j s c h = ack-cases Keeps n f j s c (λ p. puts-keeps n f _ (becomes-keeps _ (ack-in c j s h))) (λ p. passed-keeps c h)
-    arrives-keeps Help j s c h = help-cases Keeps j c (λ p. unfold keepsCall in becomes-keeps _ (caller-in c j h)) (λ p q. unfold answersCall in record { keeps = caller-in c j h }) (λ q. passed-keeps c h)
-    arrives-keeps Helped j s c h = helped-cases Keeps n f j s c (λ p q. puts-keeps n f _ (becomes-keeps _ (helped-in c j s h))) (λ q. passed-keeps c h)
+    arrives-keeps kind j s c h = arrives-cases Keeps n f kind j s c (λ c′ q. becomes-keeps c′ (same-in c c′ q h)) (puts-keeps n f)
+        (λ z p q. unfold answersCall in record { keeps = same-in c (addCaller c j) (caller-same c j) h }) (passed-keeps c h)
 
     -- what was sent in an order o: a vote by a controller of the lock; help calls with no vote set; a kind only where it may travel
     pub record SentIn (o k : ℕ) (l : Sent) : Type 0 where
@@ -260,11 +248,7 @@ module _ (G H : ℕ → Type 0) (g0 : G 0) where
       answers-ok j k c hi r = record { calls = λ l e. e; vote = nobody k Vote; ack = nobody k Ack; help = nobody k Help; helped = λ x e. elim (insert-only 0 j x e) [ inl z ↦ rw z (hi, back j k r) | inr z ↦ none-has x z ] }
 
       arrives-ok : (kind : Kind) (j k : ℕ) (s : VoteSet) (c : Controller) → j ≤ n → route f kind j k ≡ true → Sends-ok k (arrives kind n f j s c)
-      unfolding arrives
-      arrives-ok Vote j k s c hi r = vote-cases (Sends-ok k) s c (λ p. becomes-ok k _) (passed-ok k c)
-      arrives-ok Ack j k s c hi r = ack-cases (Sends-ok k) n f j s c (λ p. puts-ok k _ (becomes-ok k _)) (λ p. passed-ok k c)
-      arrives-ok Help j k s c hi r = help-cases (Sends-ok k) j c (λ p. unfold keepsCall in becomes-ok k _) (λ p q. answers-ok j k c hi r) (λ q. passed-ok k c)
-      arrives-ok Helped j k s c hi r = helped-cases (Sends-ok k) n f j s c (λ p q. puts-ok k _ (becomes-ok k _)) (λ q. passed-ok k c)
+      arrives-ok kind j k s c hi r = arrives-cases (Sends-ok k) n f kind j s c (λ c′ q. becomes-ok k c′) (puts-ok k) (λ z p q. answers-ok j k c hi (rw z at r)) (passed-ok k c)
 
     -- a checkpoint of controller k
     pub record SavedIn (k : ℕ) (p : Checkpoint) : Type 0 where
@@ -326,11 +310,11 @@ module _ (G H : ℕ → Type 0) (g0 : G 0) where
 
     restore-keeps : (v : View) (i : ℕ) → AllIn v → Keeps (ruleAnswer n f v (Restore i))
     unfolding ruleAnswer
-    restore-keeps v i h = restore-cases Keeps _ _ (v .ctl i) (λ x q. unfold restore in by-cond Keeps (isStopped ((v .ctl i) .condition)) _ _ (λ e. becomes-keeps _ (cleared-in _ (v .ctl i) (omega arith) (h .ctls i))) (λ e. passed-keeps _ (h .ctls i))) (passed-keeps _ (h .ctls i))
+    restore-keeps v i h = restore-cases Keeps _ _ (v .ctl i) (λ x q e. becomes-keeps _ (cleared-in _ (v .ctl i) (omega arith) (h .ctls i))) (passed-keeps _ (h .ctls i))
 
     restore-ok : (v : View) (i : ℕ) → Sends-ok i (ruleAnswer n f v (Restore i))
     unfolding ruleAnswer
-    restore-ok v i = restore-cases (Sends-ok i) _ _ (v .ctl i) (λ x q. unfold restore in by-cond (Sends-ok i) (isStopped ((v .ctl i) .condition)) _ _ (λ e. becomes-ok i _) (λ e. passed-ok i _)) (passed-ok i _)
+    restore-ok v i = restore-cases (Sends-ok i) _ _ (v .ctl i) (λ x q e. becomes-ok i _) (passed-ok i _)
 
     decide-in : (v : View) (i : ℕ) (w : Bool) → 1 ≤ v .order → i ≤ n → AllIn v → AllIn (commitV (chosen v w) i (becomes (conclude (v .ctl i) (wordOf w))))
     unfolding chosen

@@ -1,7 +1,7 @@
 -- The word that all have taken is chosen (paxos/Chosen), so it is given to each, and by demand 3 each holds it: `BallotsNotHollow`.
 use Prim.Native.Nat.{ℕ, zero, suc, _≤_, _<_}
 use mathlib.Core.Path.{_≡_, refl, sym, _∙_, ap, subst}
-use mathlib.Core.Bool.{Bool, true, false, true≢false, false≢true}
+use mathlib.Core.Bool.{Bool, true, false, false≢true}
 use mathlib.Core.List.{List, [], _∷_, _++_}
 use mathlib.Core.Logic.{inl, inr}
 use native.Mathlib.Omega.{arith}
@@ -15,7 +15,7 @@ use Rattle.model.specs.Numbers.{wordOf}
 use Rattle.model.specs.Ranges.{sizesInRange, isController}
 use Rattle.model.specs.RangeLaws.{Ranges, ranges}
 use Rattle.model.specs.declared.Outcome.{Outcome}
-use Rattle.model.specs.declared.Outcome.the-variants.{None, Stay, Move}
+use Rattle.model.specs.declared.Outcome.the-variants.{None}
 use Rattle.model.specs.declared.Event.{Event}
 use Rattle.model.specs.declared.Event.the-variants.{Decide}
 use Rattle.protocol.specs.declared.Condition.{Condition}
@@ -40,23 +40,12 @@ use Rattle.protocol.proofs.clean.Log.{In}
 use Rattle.protocol.proofs.lists.Moments.{logAt, in-order}
 use Rattle.protocol.proofs.ranges.Reached.{reach}
 use Rattle.protocol.proofs.paxos.Chosen.{ballots-agree}
-use Rattle.protocol.proofs.claim.Theorem.{demand-3}
-use Rattle.protocol.proofs.paxos.Invariant.{IsPut}
+use Rattle.protocol.proofs.claim.Theorem.{Word, word-of, demand-3}
 use Rattle.protocol.proofs.paxos.Order.{passes-18}
 use Rattle.protocol.proofs.hearing.Later.{viewAt, performs, logs, no-more, later-refl, later-trans, later-one}
 use Rattle.protocol.proofs.hearing.Onward.{open-at, unmoved}
-use Rattle.protocol.proofs.settles.Proposer.{At, To, Staged, StagedList, all-staged}
+use Rattle.protocol.proofs.settles.Proposer.{To, Staged, StagedList, all-staged}
 use Rattle.protocol.proofs.settles.Ballot.{all-majority, balloted, noted, Reach, Taken, take-all}
-
--- a word, as a Bool
-record Word (o : Outcome) : Type 0 where
-  move : Bool
-  is : o ≡ wordOf move
-
-word-of : (o : Outcome) → IsPut o → Word o
-word-of None p = absurd (true≢false p)
-word-of Stay p = record { move = false; is = refl }
-word-of Move p = record { move = true; is = refl }
 
 is-word : (w : Bool) → isWord (wordOf w) w ≡ true
 is-word true = refl
@@ -69,9 +58,6 @@ noted-first Stopped o r e = absurd (false≢true r)
 noted-first (Standby x) o r e = absurd (false≢true r)
 
 module _ (n f : ℕ) (sized : sizesInRange n f ≡ true) (f<n : f < n) (1≤f : 1 ≤ f) (small : n ≤ limit) where
-  abbrev Now : List Event → Type 0
-  Now es = At n f sized f<n 1≤f small es
-
   abbrev Then : List Event → List Event → Type 0
   Then es es′ = To n f sized f<n 1≤f small es es′
 

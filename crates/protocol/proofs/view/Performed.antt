@@ -37,7 +37,7 @@ use Rattle.protocol.specs.Benches.{identity, message, ofKind, sentAfter}
 use Rattle.protocol.specs.Events.{concernsOne, subject, source, restoreFrom, answerTo}
 use Rattle.protocol.specs.Questions.{firstNo}
 use Rattle.protocol.specs.Steps.{proposedTo, decidedAs, stationAfter, answering, keeping, effectOf, perform, performOne}
-use Rattle.protocol.proofs.view.View.{View, ballotsV, stationV, putBackV, sharedV, openedV, accepts, playOneV, ask-l, ask-r}
+use Rattle.protocol.proofs.view.View.{View, same-view, ballotsV, stationV, putBackV, sharedV, openedV, accepts, playOneV, ask-l, ask-r}
 
 -- one controller's answer put back
 unfoldable pub commitV : View → ℕ → Answer → View
@@ -150,55 +150,17 @@ module _ (n f : ℕ) where
     answer-back i a a′ e = back ∙ ap (commitV v i) e
       where
         back : putBackV v i (answering (sharedV n f v) (stationV v i) a) ≡ commitV v i a
-        back = unfold putBackV answering proposedTo stationAfter commitV in λ p. record {
-          own = v .own;
-          order = v .order;
-          state = record {
-            sent = upd (v .state .sent) i (sentAfter (v .state .sent i) (a .sends));
-            consensus = record {
-              «move_proposed» = v .state .consensus .«move_proposed» || isMove (a .proposal);
-              «stay_proposed» = v .state .consensus .«stay_proposed» || isStay (a .proposal);
-              decision = v .state .consensus .decision;
-            };
-          };
-          ctl = upd (v .ctl) i (a .controller);
-          saved = upd-id (v .saved) i p;
-          counts = countsAfter ((v .ctl i) .condition) (a .controller .condition) (v .counts);
-          ballots = v .ballots;
-        }
+        back = unfold putBackV answering proposedTo stationAfter commitV in same-view _ _ refl refl refl refl refl (upd-id (v .saved) i) refl refl
 
     decision-back : (i : ℕ) (w : Bool) (a a′ : Answer) → a ≡ a′ → putBackV v i (answering (decidedAs (sharedV n f v) w) (stationV v i) a) ≡ commitV (chosen v w) i a′
     decision-back i w a a′ e = back ∙ ap (commitV (chosen v w) i) e
       where
         back : putBackV v i (answering (decidedAs (sharedV n f v) w) (stationV v i) a) ≡ commitV (chosen v w) i a
-        back = unfold putBackV answering decidedAs proposedTo stationAfter commitV chosen in λ p. record {
-          own = v .own;
-          order = v .order;
-          state = record {
-            sent = upd (v .state .sent) i (sentAfter (v .state .sent i) (a .sends));
-            consensus = record {
-              «move_proposed» = v .state .consensus .«move_proposed» || isMove (a .proposal);
-              «stay_proposed» = v .state .consensus .«stay_proposed» || isStay (a .proposal);
-              decision = wordOf w;
-            };
-          };
-          ctl = upd (v .ctl) i (a .controller);
-          saved = upd-id (v .saved) i p;
-          counts = countsAfter ((v .ctl i) .condition) (a .controller .condition) (v .counts);
-          ballots = v .ballots;
-        }
+        back = unfold putBackV answering decidedAs proposedTo stationAfter commitV chosen in same-view _ _ refl refl refl refl refl (upd-id (v .saved) i) refl refl
 
     pub saved-back : (i : ℕ) → (runs (v .ctl i) || standsBy (v .ctl i)) ≡ true → playOneV n f v (Save i) ≡ savedV v i (checkpointAt v i)
     unfolding effectOf putBackV keeping savedV
-    saved-back i p = λ t. record {
-      own = v .own;
-      order = v .order;
-      state = record { sent = upd-id (v .state .sent) i t; consensus = v .state .consensus };
-      ctl = upd-id (v .ctl) i t;
-      saved = upd (v .saved) i (save-is t);
-      counts = v .counts;
-      ballots = v .ballots;
-    }
+    saved-back i p = same-view _ _ refl refl (upd-id (v .state .sent) i) refl (upd-id (v .ctl) i) (ap (upd (v .saved) i) save-is) refl refl
       where
         save-is : save (identityV v i) (v .ctl i) ≡ Newest (checkpointAt v i)
         save-is = unfold save checkpointOf in rw p

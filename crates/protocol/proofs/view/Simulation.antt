@@ -20,7 +20,7 @@ use Rattle.protocol.specs.declared.Answer.{Answer}
 use Rattle.protocol.specs.declared.Station.{Station}
 use Rattle.protocol.specs.declared.Effect.{Effect}
 use Rattle.protocol.specs.declared.Bench.{Bench}
-use Rattle.protocol.specs.Ballots.{newBallots, isChosen}
+use Rattle.protocol.specs.Ballots.{isChosen}
 use Rattle.protocol.specs.Controllers.{cleared}
 use Rattle.protocol.specs.Rules.{isContradicted}
 use Rattle.protocol.specs.Calls.{renew}
@@ -30,7 +30,7 @@ use Rattle.protocol.specs.Questions.{Reply, accepted, refused, isAccepte
 use Rattle.protocol.specs.QuestionLaws.{asked-last}
 use Rattle.protocol.specs.NoContradiction.{untestedReply}
 use Rattle.protocol.specs.Steps.{renewed, orderOpened, effect, putBack, performOne, perform, step, run}
-use Rattle.protocol.proofs.view.View.{View, ballotsV, mayGiveV, putBackV, openedV, accepts, playOneV, ask-l, ask-r, part}
+use Rattle.protocol.proofs.view.View.{View, same-view, ballotsV, mayGiveV, putBackV, openedV, accepts, playOneV, ask-l, ask-r, part}
 use Rattle.protocol.proofs.view.Kinds.{by-sort, One, one, tests-delivery}
 use Rattle.protocol.proofs.view.Performed.{Clear, answerV, ruleAnswer, answered-by-rule, answered-back, decided-back, saved-back, performV, by-effect, place as inside, stepV, runV}
 use Rattle.protocol.proofs.view.Refusals.{arrives-unrefused}
@@ -59,15 +59,7 @@ field b i lo hi g s = ap (λ (F : ℕ → Station). λ k. g (F k)) (nth-put (fre
 
 view-put-back : (b : Bench) (i : ℕ) → 1 ≤ i → i ≤ length (b .stations) → (t : Effect) → view (putBack b i t) ≡ putBackV (view b) i t
 unfolding view putBackV station
-view-put-back b i lo hi t = λ p. record {
-  own = t .shared .own;
-  order = t .shared .order;
-  state = record { sent = field b i lo hi (λ s. s .sent) (t .station) p; consensus = t .shared .consensus };
-  ctl = field b i lo hi (λ s. s .controller) (t .station) p;
-  saved = field b i lo hi (λ s. s .saved) (t .station) p;
-  counts = t .shared .counts;
-  ballots = b .ballots;
-}
+view-put-back b i lo hi t = same-view _ _ refl refl (field b i lo hi (λ s. s .sent) (t .station)) refl (field b i lo hi (λ s. s .controller) (t .station)) (field b i lo hi (λ s. s .saved) (t .station)) refl refl
 
 renewed-fresh : renewed (freshStation []) ≡ freshStation []
 unfolding renewed freshStation fresh renew cleared
@@ -146,15 +138,7 @@ module _ (b : Bench) (ok : Sound b) where
 
   view-open : (o : ℕ) → view (perform b (Order o)) ≡ openedV n f (view b) o
   unfolding view perform openedV station renewed orderOpened
-  view-open o = λ t. record {
-    own = b .shared .own;
-    order = o;
-    state = record { sent = renewed-at (λ s. s .sent) b t; consensus = (orderOpened (b .shared) o) .consensus };
-    ctl = renewed-at (λ s. s .controller) b t;
-    saved = renewed-at (λ s. s .saved) b t;
-    counts = (orderOpened (b .shared) o) .counts;
-    ballots = newBallots;
-  }
+  view-open o = same-view _ _ refl refl (renewed-at (λ s. s .sent) b) refl (renewed-at (λ s. s .controller) b) (renewed-at (λ s. s .saved) b) refl refl
 
   -- an event of one controller
   view-one : (e : Event) → perform b e ≡ performOne b e → (1 ≤ subject e) × (subject e ≤ n) → view (perform b e) ≡ playOneV n f (view b) e
@@ -201,6 +185,10 @@ module _ (b : Bench) (ok : Sound b) where
     | inl q ↦ rw (reply-sim e, q) (perform-sim e q)
     | inr q ↦ rw (reply-sim e, q)
   ]
+
+  pub step-performs : (e : Event) → isAccepted (reply b e) ≡ true → view (step b e) ≡ performV n f (view b) e
+  unfolding step
+  step-performs e q = rw q (perform-sim e (sym (reply-sim e) ∙ q))
 
   pub step-steps : (e : Event) → Steps (step b e)
   step-steps e =

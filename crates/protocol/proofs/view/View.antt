@@ -1,13 +1,15 @@
 -- The bench seen as functions of the controller's number, with n and f as they were locked. The questions and the effect of an event are the
 -- definitions' own; only where the stations lie differs. Simulation.antt shows that the bench of the declared types steps as its view does, and
 -- Performed.antt which rule an accepted event comes down to.
-use Prim.Native.Nat.{ℕ}
+use Prim.Native.Nat.{ℕ, zero, suc}
 use mathlib.Core.Path.{_≡_, refl, sym}
 use mathlib.Core.Logic.{inl, inr}
 use lib.Dec.{eqb}
 use Rattle.ground.specs.Tests.{split}
 use native.Mathlib.Omega.{arith}
 use mathlib.Core.Bool.{Bool, true, false, cond, _&&_}
+use lib.ListN.{replicate}
+use Rattle.ground.specs.Lists.{nth}
 use Rattle.ground.specs.Update.{upd, fun-ext}
 use Rattle.model.specs.declared.Outcome.{Outcome}
 use Rattle.model.specs.declared.Outcome.the-variants.{None}
@@ -41,6 +43,18 @@ pub record View : Type 0 where
   pub saved : ℕ → Saved
   pub counts : Counts
   pub ballots : Ballots
+
+-- two are the same that are the same part by part: own, order, sent, consensus, controllers, checkpoints, counts, ballots
+pub same-view : (v w : View) → v .own ≡ w .own → v .order ≡ w .order → v .state .sent ≡ w .state .sent → v .state .consensus ≡ w .state .consensus → v .ctl ≡ w .ctl → v .saved ≡ w .saved → v .counts ≡ w .counts → v .ballots ≡ w .ballots → v ≡ w
+same-view v w own order sent consensus ctl saved counts ballots = λ p. record {
+  own = own p;
+  order = order p;
+  state = record { sent = sent p; consensus = consensus p };
+  ctl = ctl p;
+  saved = saved p;
+  counts = counts p;
+  ballots = ballots p;
+}
 
 unfoldable pub newOrderState : OrderState
 newOrderState = record { sent = λ k. unsentAll; consensus = noConsensus }
@@ -105,6 +119,14 @@ module _ (n f : ℕ) where
 pub part : {A B : Type 0} (g : A → B) (F : ℕ → A) (i : ℕ) (a : A) → (λ (k : ℕ). g (upd F i a k)) ≡ upd (λ k. g (F k)) i (g a)
 unfolding upd
 part g F i a = fun-ext (λ k. g (upd F i a k)) (upd (λ k. g (F k)) i (g a)) (λ k. elim (split (eqb k i)) [ inl e ↦ rw e | inr e ↦ rw e ])
+
+-- in a list of copies
+pub all-of-copies : {A : Type 0} (P : A → Type 0) (d a : A) → P d → P a → (m k : ℕ) → P (nth d (replicate m a) k)
+unfolding nth
+all-of-copies P d a x y m zero = x
+all-of-copies P d a x y zero (suc k) = x
+all-of-copies P d a x y (suc m) (suc zero) = y
+all-of-copies P d a x y (suc m) (suc (suc k)) = all-of-copies P d a x y m (suc k)
 
 -- an accepted event passed each test: one premise each, so that `search` finds them
 pub ask-l : (q : ℕ) (t : Bool) (rest : Reply) → isAccepted (unless q t rest) ≡ true → t ≡ true
