@@ -1,7 +1,7 @@
 use Rattle.protocol.specs.Rules.{voteRule}
 use borrow.Author.Needs.{needs}
-use Rattle.controller_rules.proofs.first.vote_rule.Statement.{statement}
-use Rattle.controller_rules.proofs.first.vote_rule.Tie as tie
+use Rattle.controller_rules.proofs.vote.vote_rule.Statement.{statement}
+use Rattle.controller_rules.proofs.vote.vote_rule.Tie as tie
 
 single-requires : tie.Need-single-requires
 single-requires c κs = search needs
