@@ -14,7 +14,7 @@ use Rattle.model.specs.declared.Event.{Event}
 use Rattle.protocol.specs.declared.Bench.{Bench}
 use Rattle.protocol.specs.Benches.{newBench}
 use Rattle.protocol.specs.Steps.{run}
-use Rattle.protocol.proofs.claim.Reach.{controllers-limit}
+use Rattle.protocol.proofs.lists.Reach.{controllers-limit}
 use Rattle.steps_back.specs.Memory.{left}
 use Rattle.steps_back.proofs.Moments.{as-left}
 use Rattle.bench_run.specs.Schedule.{count, acts}

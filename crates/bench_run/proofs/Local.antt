@@ -29,7 +29,7 @@ use Rattle.protocol.specs.Events.{subject as subjectOf, source as sourceOf}
 use Rattle.protocol.specs.Questions.{number, reply, firstNo, questionsOf, mayOpen, mayGive, factsOf}
 use Rattle.protocol.specs.Steps.{renewed, orderOpened, perform, step, run}
 use Rattle.protocol.specs.NoContradiction.{untestedReply, untestedPerform}
-use Rattle.protocol.proofs.claim.Reach.{Reached, reached, controllers-limit}
+use Rattle.protocol.proofs.lists.Reach.{Reached, reached, controllers-limit}
 use Rattle.bench_state.proofs.Replies.{all-numbered, step-refused}
 use Rattle.bench_turns.proofs.OneStation.{changesStation}
 use Rattle.bench_run.proofs.Untested.{untestedEffect, same-reply, accepted-step, performs}

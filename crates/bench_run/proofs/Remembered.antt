@@ -16,7 +16,7 @@ use Rattle.model.specs.Questions.{Reply, accepted, isAccepted, number}
 use Rattle.model.specs.declared.Act.{Act}
 use Rattle.model.specs.declared.Act.the-variants.{Play, Back}
 use Rattle.model.specs.declared.Event.{Event}
-use Rattle.model.specs.declared.Event.the-variants.{Lock, Order, Cast, Deliver, Timeout, Decide, Stop, Save, Restore, OfBallots}
+use Rattle.model.specs.declared.Event.the-variants.{Lock}
 use Rattle.event_record.specs.Events.{readEvent}
 use Rattle.event_record.specs.declared.ReadEvent.{ReadEvent}
 use Rattle.event_record.specs.declared.ReadEvent.the-variants.{Read, Refused}
@@ -25,12 +25,13 @@ use Rattle.protocol.specs.Benches.{newBench, benchOf}
 use Rattle.protocol.specs.Questions.{reply}
 use Rattle.protocol.specs.Steps.{perform, step, run}
 use Rattle.protocol.specs.Claim.{after}
-use Rattle.protocol.proofs.claim.Moments.{step-locked, lock-refused}
-use Rattle.protocol.proofs.claim.Start.{unlocked}
+use Rattle.protocol.proofs.view.Kinds.{IsLock}
+use Rattle.protocol.proofs.lists.Moments.{step-locked, lock-refused}
+use Rattle.protocol.proofs.lists.Start.{new-lock}
 use Rattle.steps_back.specs.Memory.{Remembering, newRemembering, canBeUndone, mostRemembered, pastAfter, isSome, backReply, answer, done, next, runActs, withoutLast, leftBy, leftFrom, left}
 use Rattle.steps_back.specs.Claim.{at, bench, remembers}
 use Rattle.steps_back.proofs.Theorem.{without-snoc, run-snoc, Found, find, inv, left-taken, at-taken, left-refused, at-refused}
-use Rattle.steps_back.proofs.Moments.{as-left, one-more, one-fewer}
+use Rattle.steps_back.proofs.Moments.{undoable, as-left, one-more, one-fewer}
 use Rattle.bench_run.specs.Schedule.{piece, letThrough, actsTo}
 use Rattle.bench_run.specs.Runs.{answerAt}
 use Rattle.bench_run.specs.Memory.{remembered, backNumber}
@@ -151,42 +152,17 @@ same-memory s k count undoable ring even odd m a l = record {
 -- one more event ----------------------------------------------------------
 -- an accepted event is the lock where none is left, and none where some are
 first-lock : (e : Event) → reply newBench e ≡ accepted → canBeUndone e ≡ false
-first-lock (Lock n f own) a = refl
-first-lock (Order o) a = absurd (false≢true (sym (unlocked (Order o) tt) ∙ ap isAccepted a))
-first-lock (Cast i w t) a = absurd (false≢true (sym (unlocked (Cast i w t) tt) ∙ ap isAccepted a))
-first-lock (Deliver i j k) a = absurd (false≢true (sym (unlocked (Deliver i j k) tt) ∙ ap isAccepted a))
-first-lock (Timeout i) a = absurd (false≢true (sym (unlocked (Timeout i) tt) ∙ ap isAccepted a))
-first-lock (Decide i w) a = absurd (false≢true (sym (unlocked (Decide i w) tt) ∙ ap isAccepted a))
-first-lock (Stop i) a = absurd (false≢true (sym (unlocked (Stop i) tt) ∙ ap isAccepted a))
-first-lock (Save i) a = absurd (false≢true (sym (unlocked (Save i) tt) ∙ ap isAccepted a))
-first-lock (Restore i) a = absurd (false≢true (sym (unlocked (Restore i) tt) ∙ ap isAccepted a))
-first-lock (OfBallots x) a = absurd (false≢true (sym (unlocked (OfBallots x) tt) ∙ ap isAccepted a))
+first-lock e a = ap canBeUndone (new-lock e (ap isAccepted a) .is)
 
 later-none : (b : Bench) (e : Event) → b .shared .locked ≡ true → reply b e ≡ accepted → canBeUndone e ≡ true
-later-none b (Lock n f own) l a = absurd (false≢true (sym (lock-refused b n f own l) ∙ ap isAccepted a))
-later-none b (Order o) l a = refl
-later-none b (Cast i w t) l a = refl
-later-none b (Deliver i j k) l a = refl
-later-none b (Timeout i) l a = refl
-later-none b (Decide i w) l a = refl
-later-none b (Stop i) l a = refl
-later-none b (Save i) l a = refl
-later-none b (Restore i) l a = refl
-later-none b (OfBallots x) l a = refl
+later-none b e l a = undoable e (λ n f own z. false≢true (sym (lock-refused b n f own l) ∙ ap (λ (x : Event). isAccepted (reply b x)) (sym z) ∙ ap isAccepted a))
 
 -- a lock that is accepted is set up
 first-locked : (e : Event) → canBeUndone e ≡ false → reply newBench e ≡ accepted → (step newBench e) .shared .locked ≡ true
-unfolding step perform benchOf
-first-locked (Lock n f own) u a = ap (λ (r : Reply). (cond (isAccepted r) (perform newBench (Lock n f own)) newBench) .shared .locked) a
-first-locked (Order o) u a = absurd (true≢false u)
-first-locked (Cast i w t) u a = absurd (true≢false u)
-first-locked (Deliver i j k) u a = absurd (true≢false u)
-first-locked (Timeout i) u a = absurd (true≢false u)
-first-locked (Decide i w) u a = absurd (true≢false u)
-first-locked (Stop i) u a = absurd (true≢false u)
-first-locked (Save i) u a = absurd (true≢false u)
-first-locked (Restore i) u a = absurd (true≢false u)
-first-locked (OfBallots x) u a = absurd (true≢false u)
+first-locked e u a = let l : IsLock e = new-lock e (ap isAccepted a) in subst (λ (x : Event). (step newBench x) .shared .locked ≡ true) (sym (l .is)) (locks (l .n) (l .f) (l .own) (rw (l .is) at (ap isAccepted a)))
+  where
+    locks : (n f : ℕ) (own : Bool) → isAccepted (reply newBench (Lock n f own)) ≡ true → (step newBench (Lock n f own)) .shared .locked ≡ true
+    locks n f own q = unfold step perform benchOf in rw q
 
 module _ (s : List ℕ) (k count undoable : ℕ) (ring : List ℕ) (even odd : Bench) (m : Memory s k count undoable ring even odd)
     (e : Event) (r : readEvent (piece s k) ≡ Read (Play e)) (z : answerAt s k ≡ 0) (ok : reply (after (leftTo s k)) e ≡ accepted) where

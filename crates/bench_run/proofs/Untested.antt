@@ -10,8 +10,8 @@ use Rattle.protocol.specs.Events.{subject, source, answerTo, restoreFrom}
 use Rattle.protocol.specs.Questions.{Reply, accepted, isAccepted, reply}
 use Rattle.protocol.specs.Steps.{effectOf, putBack, perform, step, run, decidedAs, answering, keeping}
 use Rattle.protocol.specs.NoContradiction.{untestedReply, untestedPerform, untestedStep, untestedRun}
-use Rattle.protocol.proofs.claim.Moments.{run-append}
-use Rattle.protocol.proofs.claim.Untouched.{no-contradiction}
+use Rattle.protocol.proofs.lists.Moments.{run-append}
+use Rattle.protocol.proofs.contradictions.Untouched.{no-contradiction}
 use Rattle.protocol.specs.declared.Sent.{Sent}
 use Rattle.protocol.specs.declared.Station.{Station}
 use Rattle.protocol.specs.declared.Shared.{Shared}

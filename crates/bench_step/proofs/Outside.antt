@@ -30,7 +30,7 @@ use Rattle.protocol.specs.Benches.{freshStation, fresh, station, sentBy, identi
 use Rattle.protocol.specs.Steps.{effectOf, effect, answering, putBack, performOne, perform}
 use Rattle.protocol.specs.Events.{subject, source, restoreFrom, answerTo}
 use Rattle.protocol.proofs.alone.Sound.{place-of}
-use Rattle.protocol.proofs.claim.Strayed.{small-of}
+use Rattle.protocol.proofs.strays.Strayed.{small-of}
 use Rattle.bench_turns.proofs.OneStation.{changesStation}
 use Rattle.bench_step.proofs.StationsRead.{stationRead, sentRead, read-sent, read-station}
 

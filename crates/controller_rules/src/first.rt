@@ -1,19 +1,14 @@
-// The vote, and the first timeout.
+// The first timeout.
 use controller_state::acks_to;
 use controller_state::advance;
-use controller_state::aim;
 use controller_state::keep_ack;
-use controller_state::learn;
-use controller_state::phase_after_vote;
 use controller_state::sending;
-use controller_state::votes_to;
 use ground::has;
 use model::Kind;
 use model::is_backup;
 use model::recipients;
 use protocol::Answer;
 use protocol::Controller;
-use votes::single;
 ghost use mathlib.Core.Path.{_≡_};
 ghost use mathlib.Core.Bool.{not, _&&_};
 ghost use Rattle.ground.specs.Mask.{has};
@@ -21,17 +16,7 @@ ghost use Rattle.model.specs.Ranges.{isBackup};
 ghost use Rattle.model.specs.Routes.{recipients};
 ghost use Rattle.model.specs.declared.Kind.the-variants.{Ack};
 ghost use Rattle.protocol.specs.Controllers.{advance};
-ghost use Rattle.protocol.specs.Rules.{sending, acksTo, voteRule, countOwn, firstTimeout};
-
-// Its own vote goes on its vote set, and to the backups.
-pub fn vote_rule(n: u8, f: u8, i: u8, willing: bool, target: u32, c: Controller) -> Answer
-    ensures { λ r. ⌜ r ≡ voteRule n f i willing target c ⌝ }
-{
-    let own = single(i, willing);
-    let next = advance(aim(learn(c, own), target), phase_after_vote(f, i));
-    let to = recipients(n, f, Kind::Vote, i);
-    sending(next, votes_to(to, own))
-}
+ghost use Rattle.protocol.specs.Rules.{sending, acksTo, countOwn, firstTimeout};
 
 // Is its own acknowledgement to be counted? A backup counts it, once; the second backup, f + 1, does not.
 pub fn counts_own(f: u8, i: u8, from: u32) -> bool

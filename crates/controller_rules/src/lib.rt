@@ -6,6 +6,7 @@ mod deciding;
 mod first;
 mod held;
 mod second;
+mod vote;
 mod waiting;
 
 pub use arrivals::arrives;
@@ -16,7 +17,7 @@ pub use arrivals::vote_arrives;
 pub use first::acknowledge;
 pub use first::counts_own;
 pub use first::first_timeout;
-pub use first::vote_rule;
 pub use held::contradicts_held;
 pub use second::second_timeout;
+pub use vote::vote_rule;
 pub use waiting::propose_if_sufficient;

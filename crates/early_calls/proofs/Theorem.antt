@@ -5,14 +5,14 @@ use mathlib.Core.Bool.{Bool, true, false, false≢true}
 use mathlib.Core.List.{List, [], _∷_, _++_}
 use lib.Dec.{eqb, leb}
 use mathlib.Core.Logic.{_⊎_, inl, inr}
-use Rattle.ground.specs.Tests.{split, by-cond, and-l, and-r, and-i, or-e, no-both}
+use Rattle.ground.specs.Tests.{split, by-cond, and-l, and-r, and-i, or-e, no-both, refuted}
 use Rattle.ground.specs.Mask.{has}
 use Rattle.model.specs.Ranges.{isController}
 use Rattle.model.specs.RangeLaws.{ranges, member}
 use Rattle.model.specs.QuestionLaws.{all-yes}
-use Rattle.model.specs.declared.Kind.the-variants.{Vote, Ack, Help, Helped}
+use Rattle.model.specs.declared.Kind.the-variants.{Help}
 use Rattle.model.specs.declared.Event.{Event}
-use Rattle.model.specs.declared.Event.the-variants.{Lock, Order, Cast, Deliver, Timeout, Decide, Stop, Save, Restore, OfBallots}
+use Rattle.model.specs.declared.Event.the-variants.{Deliver, Timeout}
 use Rattle.message_record.specs.Messages.{aboutMessage}
 use Rattle.protocol.specs.declared.Condition.{Condition}
 use Rattle.protocol.specs.declared.Controller.{Controller}
@@ -26,32 +26,21 @@ use Rattle.protocol.specs.Display.{WasSent}
 use Rattle.protocol.specs.NoContradiction.{untestedReply}
 use Rattle.protocol.specs.Reach.{messageAt}
 use Rattle.protocol.specs.Claim.{after}
-use Rattle.protocol.proofs.view.View.{View, accepts, ask-l, ask-r}
+use Rattle.protocol.proofs.view.View.{View, same-view, accepts, ask-l, ask-r}
 use Rattle.protocol.proofs.view.Performed.{stepV}
 use Rattle.protocol.proofs.view.Simulation.{view, Sound, Runs, Steps, reply-untested, reply-sim, step-steps, step-sim}
-use Rattle.protocol.proofs.claim.Start.{unlocked, idle, freshes, lock-sound}
-use Rattle.protocol.proofs.claim.Reach.{Reached, JustLocked, new-step, reached}
-use Rattle.protocol.proofs.claim.Reached.{reach}
+use Rattle.protocol.proofs.lists.Moments.{refused-step}
+use Rattle.protocol.proofs.lists.Start.{new-refuses, freshes, lock-sound}
+use Rattle.protocol.proofs.lists.Reach.{Reached, JustLocked, new-step, reached}
+use Rattle.protocol.proofs.ranges.Reached.{reach}
 use Rattle.early_calls.specs.Document01.{isEarly, step01, run01, isSecondTimeout, keptCalls, onceMore, lengthened, withCallers, withoutKept, SameButKept, AsDocument01}
 use Rattle.early_calls.proofs.Rules.{by-equal, alike}
-use Rattle.early_calls.proofs.Views.{forgetV, step-forget, call-forget, earlyV, stepV01, runV01, MayCome, timeout-forget}
+use Rattle.early_calls.proofs.Views.{forgetV, by-calls, step-forget, call-forget, earlyV, stepV01, runV01, MayCome, timeout-forget}
 
 -- document 01's bench steps as its view does
 early-sim : (b : Bench) (e : Event) → earlyV (view b) e ≡ isEarly b e
 unfolding view
-early-sim b (Lock a c own) = refl
-early-sim b (Order o) = refl
-early-sim b (Cast i w t) = refl
-early-sim b (Deliver i j Vote) = refl
-early-sim b (Deliver i j Ack) = refl
-early-sim b (Deliver i j Help) = refl
-early-sim b (Deliver i j Helped) = refl
-early-sim b (Timeout i) = refl
-early-sim b (Decide i w) = refl
-early-sim b (Stop i) = refl
-early-sim b (Save i) = refl
-early-sim b (Restore i) = refl
-early-sim b (OfBallots e) = refl
+early-sim b = by-calls (b .shared .n) (b .shared .f) (λ e. earlyV (view b) e ≡ isEarly b e) (λ i j. refl) (λ i. refl) (λ e x. x .early-view (view b) ∙ sym (x .early b))
 
 step01-sim : (b : Bench) (ok : Sound b) (e : Event) → view (step01 b e) ≡ stepV01 (b .shared .n) (b .shared .f) (view b) e
 unfolding step01 stepV01
@@ -143,19 +132,7 @@ module _ (b : Bench) (ok : Fine b) (a : Sound b) where
 
   together : (e : Event) → Together e
   unfolding runV01 stepV01
-  together (Lock x y own) = step-forget n f v (Lock x y own) (λ q. tt)
-  together (Order o) = step-forget n f v (Order o) (λ q. tt)
-  together (Cast i w t) = step-forget n f v (Cast i w t) (λ q. tt)
-  together (Deliver i j Vote) = step-forget n f v (Deliver i j Vote) (λ q. tt)
-  together (Deliver i j Ack) = step-forget n f v (Deliver i j Ack) (λ q. tt)
-  together (Deliver i j Help) = call-together i j
-  together (Deliver i j Helped) = step-forget n f v (Deliver i j Helped) (λ q. tt)
-  together (Timeout i) = timeout-together i
-  together (Decide i w) = step-forget n f v (Decide i w) (λ q. tt)
-  together (Stop i) = step-forget n f v (Stop i) (λ q. tt)
-  together (Save i) = step-forget n f v (Save i) (λ q. tt)
-  together (Restore i) = step-forget n f v (Restore i) (λ q. tt)
-  together (OfBallots e) = step-forget n f v (OfBallots e) (λ q. tt)
+  together = by-calls n f Together call-together timeout-together (λ e x. rw (x .once b, x .early-view (forgetV v)) (step-forget n f v e (λ q. x .apart v)))
 
 -- the bench, and document 01's: both new, or with the same lock and the same view but for the calls kept
 record Both (b b₁ : Bench) : Type 0 where
@@ -182,33 +159,15 @@ locked-rel b l = subst (λ (x : Bench). Both x x) (sym (l .is)) (record {
   sound₁ = lock-sound (l .n) (l .f) (l .own) (l .sized);
   same-n = refl;
   same-f = refl;
-  view-is = unfold view forgetV in λ p. record {
-    own = (view (benchOf true (l .n) (l .f) (l .own))) .own;
-    order = (benchOf true (l .n) (l .f) (l .own)) .shared .order;
-    state = (view (benchOf true (l .n) (l .f) (l .own))) .state;
-    ctl = λ k. sym (fresh-kept true (l .n) (l .f) (l .own) k) p;
-    saved = (view (benchOf true (l .n) (l .f) (l .own))) .saved;
-    counts = (view (benchOf true (l .n) (l .f) (l .own))) .counts;
-    ballots = (view (benchOf true (l .n) (l .f) (l .own))) .ballots;
-  };
+  view-is = unfold view forgetV in same-view _ _ refl refl refl refl (λ p k. sym (fresh-kept true (l .n) (l .f) (l .own) k) p) refl refl refl;
 })
 
 -- on the new bench
 new-same : (e : Event) → run01 (step01 newBench e) (onceMore newBench e) ≡ step newBench e
 unfolding run01 step01
-new-same (Lock n f own) = refl
-new-same (Order o) = refl
-new-same (Cast i w t) = refl
-new-same (Deliver i j Vote) = refl
-new-same (Deliver i j Ack) = refl
-new-same (Deliver i j Help) = by-cond (λ (x : Bench). x ≡ step newBench (Deliver i j Help)) (isEarly newBench (Deliver i j Help)) _ _ (λ e. sym (idle (Deliver i j Help) tt)) (λ e. refl)
-new-same (Deliver i j Helped) = refl
-new-same (Timeout i) = rw (unlocked (Timeout i) tt)
-new-same (Decide i w) = refl
-new-same (Stop i) = refl
-new-same (Save i) = refl
-new-same (Restore i) = refl
-new-same (OfBallots e) = refl
+new-same = by-calls 0 0 (λ e. run01 (step01 newBench e) (onceMore newBench e) ≡ step newBench e)
+    (λ i j. by-cond (λ (x : Bench). x ≡ step newBench (Deliver i j Help)) (isEarly newBench (Deliver i j Help)) _ _ (λ e. sym (refused-step newBench (Deliver i j Help) (refuted _ (new-refuses (Deliver i j Help) refl)))) (λ e. refl))
+    (λ i. rw (refuted _ (new-refuses (Timeout i) refl))) (λ e x. rw (x .once newBench, x .early newBench))
 
 new-rel : (e : Event) → Rel (step newBench e) (run01 (step01 newBench e) (onceMore newBench e))
 new-rel e = subst (Rel (step newBench e)) (sym (new-same e)) (elim (new-step e) [ inl z ↦ inl (z, z) | inr l ↦ inr (locked-rel (step newBench e) l) ])

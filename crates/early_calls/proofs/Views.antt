@@ -10,9 +10,9 @@ use lib.Dec.{eqb, leb}
 use mathlib.Core.Logic.{inl, inr}
 use borrow.Author.Tests.{eqb-true, not-true, le-leb, lt-leb}
 use Rattle.ground.specs.Limit.{limit}
-use Rattle.ground.specs.Tests.{split, by-cond, and-l, and-r, and-i, or-e, or-l, or-r, same-test, refuted, no-both}
+use Rattle.ground.specs.Tests.{split, by-cond, and-l, and-r, and-i, same-test, refuted, no-both}
 use Rattle.ground.specs.Mask.{has, insert, collect}
-use Rattle.ground.specs.MaskLaws.{has-or, insert-own, insert-keeps, insert-only, insert-from}
+use Rattle.ground.specs.MaskLaws.{has-or}
 use Rattle.ground.specs.Collect.{has-collect}
 use Rattle.ground.specs.Inclusion.{same-set}
 use Rattle.ground.specs.Update.{upd, upd-same, upd-other, upd-all, fun-ext}
@@ -39,15 +39,18 @@ use Rattle.protocol.specs.Counts.{countsAfter}
 use Rattle.protocol.specs.CountLaws.{counts-stay}
 use Rattle.protocol.specs.Rules.{nothing, helps, ackJoin, helpVotes, firstTimeout, secondTimeout, answersCall, helpArrives}
 use Rattle.protocol.specs.Calls.{arrives}
+use Rattle.protocol.specs.declared.Sends.{Sends}
+use Rattle.protocol.specs.declared.Bench.{Bench}
 use Rattle.protocol.specs.Benches.{afterSend, sentAfter}
 use Rattle.protocol.specs.Events.{subject, source, receiversIn}
 use Rattle.protocol.specs.Questions.{isAccepted, firstNo, mayOpen, isSaved, questionsOf}
 use Rattle.protocol.specs.Steps.{renewed, orderOpened}
 use Rattle.protocol.specs.Sequence.{members}
 use Rattle.protocol.specs.BallotSteps.{ballotSubject, ballotsAfter}
-use Rattle.protocol.proofs.view.View.{View, ballotsV, mayGiveV, sharedV, accepts, openedV, ask-l, ask-r, part}
+use Rattle.protocol.proofs.view.View.{View, same-view, ballotsV, mayGiveV, sharedV, accepts, openedV, ask-l, ask-r, part}
 use Rattle.protocol.proofs.view.Performed.{commitV, chosen, savedV, checkpointAt, identityV, timeoutRule, performV, stepV}
-use Rattle.early_calls.specs.Document01.{withCallers, withoutKept}
+use Rattle.protocol.proofs.invariant.Arrivals.{insert-more}
+use Rattle.early_calls.specs.Document01.{isEarly, onceMore, withCallers, withoutKept}
 use Rattle.early_calls.proofs.Timeouts.{answeredTo, timeout-kept, Frozen, timeout-frozen}
 use Rattle.early_calls.proofs.Rules.{by-equal, early, late, alike, Matches, vote-matches, ack-matches, helped-matches, call-matches, KeptAlone, early-call, cast-matches, first-matches, conclude-kept, cleared-kept, renew-kept, becomes-matches, restore-matches}
 
@@ -58,22 +61,10 @@ forgetV v = record { own = v .own; order = v .order; state = v .state; ctl = λ 
 -- one controller's answer, put back
 commit-forget : (v : View) (i : ℕ) (a a′ : Answer) → Matches a a′ → forgetV (commitV v i a) ≡ commitV (forgetV v) i a′
 unfolding forgetV commitV
-commit-forget v i a a′ m = λ p. record {
-  own = v .own;
-  order = v .order;
-  state = record {
-    sent = upd (v .state .sent) i (sentAfter (v .state .sent i) (m .sends p));
-    consensus = record {
-      «move_proposed» = v .state .consensus .«move_proposed» || isMove (m .word p);
-      «stay_proposed» = v .state .consensus .«stay_proposed» || isStay (m .word p);
-      decision = v .state .consensus .decision;
-    };
-  };
-  ctl = (part withoutKept (v .ctl) i (a .controller) ∙ ap (upd (λ k. withoutKept (v .ctl k)) i) (m .next)) p;
-  saved = v .saved;
-  counts = countsAfter (sym (alike (v .ctl i) .condition) p) ((sym (alike (a .controller) .condition) ∙ ap (λ (x : Controller). x .condition) (m .next)) p) (v .counts);
-  ballots = v .ballots;
-}
+commit-forget v i a a′ m = same-view _ _ refl refl (ap (λ (x : Sends). upd (v .state .sent) i (sentAfter (v .state .sent i) x)) (m .sends))
+    (ap (λ (o : Outcome). record { «move_proposed» = v .state .consensus .«move_proposed» || isMove o; «stay_proposed» = v .state .consensus .«stay_proposed» || isStay o; decision = v .state .consensus .decision }) (m .word))
+    (part withoutKept (v .ctl) i (a .controller) ∙ ap (upd (λ k. withoutKept (v .ctl k)) i) (m .next)) refl
+    (λ p. countsAfter (sym (alike (v .ctl i) .condition) p) ((sym (alike (a .controller) .condition) ∙ ap (λ (x : Controller). x .condition) (m .next)) p) (v .counts)) refl
 
 -- the counts of a controller whose condition stays
 counts-same : (c c′ : Condition) (k : Counts) → c′ ≡ c → countsAfter c c′ k ≡ k
@@ -88,22 +79,14 @@ unsaid said z x o e = ap (λ (o : Outcome). x || said o) e ∙ ap (λ (y : Bool)
 
 commit-kept : (v : View) (i : ℕ) (a : Answer) → KeptAlone (v .ctl i) a → forgetV (commitV v i a) ≡ forgetV v
 unfolding forgetV commitV
-commit-kept v i a m = λ p. record {
-  own = v .own;
-  order = v .order;
-  state = record {
-    sent = upd-id (v .state .sent) i (sentAfter (v .state .sent i) (a .sends)) (ap (sentAfter (v .state .sent i)) (m .sends) ∙ silent) p;
-    consensus = record {
+commit-kept v i a m = same-view _ _ refl refl (upd-id (v .state .sent) i (sentAfter (v .state .sent i) (a .sends)) (ap (sentAfter (v .state .sent i)) (m .sends) ∙ silent))
+    (λ p. record {
       «move_proposed» = unsaid isMove refl (v .state .consensus .«move_proposed») (a .proposal) (m .word) p;
       «stay_proposed» = unsaid isStay refl (v .state .consensus .«stay_proposed») (a .proposal) (m .word) p;
       decision = v .state .consensus .decision;
-    };
-  };
-  ctl = (part withoutKept (v .ctl) i (a .controller) ∙ upd-id (λ k. withoutKept (v .ctl k)) i (withoutKept (a .controller)) (m .next)) p;
-  saved = v .saved;
-  counts = counts-same ((v .ctl i) .condition) (a .controller .condition) (v .counts) (sym (alike (a .controller) .condition) ∙ ap (λ (x : Controller). x .condition) (m .next) ∙ alike (v .ctl i) .condition) p;
-  ballots = v .ballots;
-}
+    })
+    (part withoutKept (v .ctl) i (a .controller) ∙ upd-id (λ k. withoutKept (v .ctl k)) i (withoutKept (a .controller)) (m .next)) refl
+    (counts-same ((v .ctl i) .condition) (a .controller .condition) (v .counts) (sym (alike (a .controller) .condition) ∙ ap (λ (x : Controller). x .condition) (m .next) ∙ alike (v .ctl i) .condition)) refl
   where
     silent : sentAfter (v .state .sent i) nothing ≡ v .state .sent i
     silent = unfold sentAfter in refl
@@ -156,6 +139,28 @@ module _ (n f : ℕ) where
   Apart v (Restore i) = Unit {0}
   Apart v (OfBallots e) = Unit {0}
 
+  -- an event that is neither a help call nor a timeout: document 01 knows it as it is
+  pub record Plain (e : Event) : Type 0 where
+    pub early : (b : Bench) → isEarly b e ≡ false
+    pub early-view : (v : View) → earlyV v e ≡ false
+    pub once : (b : Bench) → onceMore b e ≡ []
+    pub apart : (v : View) → Apart v e
+
+  pub by-calls : (P : Event → Type 0) → ((i j : ℕ) → P (Deliver i j Help)) → ((i : ℕ) → P (Timeout i)) → ((e : Event) → Plain e → P e) → (e : Event) → P e
+  by-calls P call timeout plain (Lock a c own) = plain (Lock a c own) (record { early = λ b. refl; early-view = λ v. refl; once = λ b. refl; apart = λ v. tt })
+  by-calls P call timeout plain (Order o) = plain (Order o) (record { early = λ b. refl; early-view = λ v. refl; once = λ b. refl; apart = λ v. tt })
+  by-calls P call timeout plain (Cast i w t) = plain (Cast i w t) (record { early = λ b. refl; early-view = λ v. refl; once = λ b. refl; apart = λ v. tt })
+  by-calls P call timeout plain (Deliver i j Vote) = plain (Deliver i j Vote) (record { early = λ b. refl; early-view = λ v. refl; once = λ b. refl; apart = λ v. tt })
+  by-calls P call timeout plain (Deliver i j Ack) = plain (Deliver i j Ack) (record { early = λ b. refl; early-view = λ v. refl; once = λ b. refl; apart = λ v. tt })
+  by-calls P call timeout plain (Deliver i j Help) = call i j
+  by-calls P call timeout plain (Deliver i j Helped) = plain (Deliver i j Helped) (record { early = λ b. refl; early-view = λ v. refl; once = λ b. refl; apart = λ v. tt })
+  by-calls P call timeout plain (Timeout i) = timeout i
+  by-calls P call timeout plain (Decide i w) = plain (Decide i w) (record { early = λ b. refl; early-view = λ v. refl; once = λ b. refl; apart = λ v. tt })
+  by-calls P call timeout plain (Stop i) = plain (Stop i) (record { early = λ b. refl; early-view = λ v. refl; once = λ b. refl; apart = λ v. tt })
+  by-calls P call timeout plain (Save i) = plain (Save i) (record { early = λ b. refl; early-view = λ v. refl; once = λ b. refl; apart = λ v. tt })
+  by-calls P call timeout plain (Restore i) = plain (Restore i) (record { early = λ b. refl; early-view = λ v. refl; once = λ b. refl; apart = λ v. tt })
+  by-calls P call timeout plain (OfBallots e) = plain (OfBallots e) (record { early = λ b. refl; early-view = λ v. refl; once = λ b. refl; apart = λ v. tt })
+
   first-rule : (i : ℕ) (c : Controller) → eqb (phase c) 1 ≡ true → timeoutRule n f i c ≡ firstTimeout n f i c
   unfolding timeoutRule
   first-rule i c e = rw e
@@ -166,20 +171,13 @@ module _ (n f : ℕ) where
 
   saved-forget : (v : View) (i : ℕ) → forgetV (savedV v i (checkpointAt n f v i)) ≡ savedV (forgetV v) i (checkpointAt n f (forgetV v) i)
   unfolding forgetV savedV
-  saved-forget v i = λ p. record {
-    own = v .own;
-    order = v .order;
-    state = v .state;
-    ctl = λ k. withoutKept (v .ctl k);
-    saved = upd (v .saved) i (Newest (record { id = i; n = n; f = f; outcome = outcomeIn (sym (alike (v .ctl i) .condition) p); order = v .order; position = sym (alike (v .ctl i) .position) p }));
-    counts = v .counts;
-    ballots = v .ballots;
-  }
+  saved-forget v i = same-view _ _ refl refl refl refl refl
+      (λ p. upd (v .saved) i (Newest (record { id = i; n = n; f = f; outcome = outcomeIn (sym (alike (v .ctl i) .condition) p); order = v .order; position = sym (alike (v .ctl i) .position) p }))) refl refl
 
   perform-forget : (v : View) (e : Event) → accepts n f v e ≡ true → Apart v e → forgetV (performV n f v e) ≡ performV n f (forgetV v) e
   unfolding performV accepts firstNo forgetV arrives
   perform-forget v (Lock a c own) q t = refl
-  perform-forget v (Order o) q t = unfold openedV renewed orderOpened in λ p. record { own = (openedV n f v o) .own; order = o; state = (openedV n f v o) .state; ctl = λ k. renew-kept (v .ctl k) p; saved = v .saved; counts = (openedV n f v o) .counts; ballots = (openedV n f v o) .ballots }
+  perform-forget v (Order o) q t = unfold openedV renewed orderOpened in same-view _ _ refl refl refl refl (λ p k. renew-kept (v .ctl k) p) refl refl refl
   perform-forget v (Cast i w g) q t = commit-forget v i _ _ (cast-matches n f i w g (v .ctl i) (search (ask-l, ask-r) depth 14))
   perform-forget v (Deliver i j Vote) q t = commit-forget v j _ _ (vote-matches _ (v .ctl j))
   perform-forget v (Deliver i j Ack) q t = commit-forget v j _ _ (ack-matches n f i _ (v .ctl j))
@@ -190,15 +188,7 @@ module _ (n f : ℕ) where
   perform-forget v (Stop i) q t = commit-forget v i _ _ (becomes-matches _ _ (cleared-kept Stopped (v .ctl i) refl))
   perform-forget v (Save i) q t = saved-forget v i
   perform-forget v (Restore i) q t = commit-forget v i _ _ (restore-matches (identityV n f v i) (v .saved i) (v .ctl i))
-  perform-forget v (OfBallots e) q t = unfold ballotsV in λ p. record {
-    own = v .own;
-    order = v .order;
-    state = v .state;
-    ctl = λ k. withoutKept (v .ctl k);
-    saved = v .saved;
-    counts = v .counts;
-    ballots = ballotsAfter n (v .ballots) (sym (alike (v .ctl (ballotSubject e)) .proposal) p) e;
-  }
+  perform-forget v (OfBallots e) q t = unfold ballotsV in same-view _ _ refl refl refl refl refl refl refl (ap (λ (o : Outcome). ballotsAfter n (v .ballots) o e) (sym (alike (v .ctl (ballotSubject e)) .proposal)))
 
   pub step-forget : (v : View) (e : Event) → (accepts n f v e ≡ true → Apart v e) → forgetV (stepV n f v e) ≡ stepV n f (forgetV v) e
   unfolding stepV
@@ -307,15 +297,7 @@ module _ (n f : ℕ) where
     -- one caller more
     one-more : (h m j : ℕ) → 1 ≤ j → j ≤ n → bitOr (bitOr h m) (insert 0 j) ≡ bitOr h (insert m j)
     one-more h m j lo hi = same-set _ _ (λ k. has-or (bitOr h m) (insert 0 j) k ∙ ap (λ (x : Bool). x || has (insert 0 j) k) (has-or h m k)
-        ∙ or-assoc (has h k) (has m k) (has (insert 0 j) k) ∙ ap (λ (x : Bool). has h k || x) (with-one k) ∙ sym (has-or h (insert m j) k))
-      where
-        with-one : (k : ℕ) → (has m k || has (insert 0 j) k) ≡ has (insert m j) k
-        with-one k = same-test _ _
-            (λ e. elim (or-e (has m k) (has (insert 0 j) k) e) [ inl y ↦ insert-keeps m j k y | inr y ↦ insert-from m j k y ])
-            (λ e. elim (insert-only m j k e) [
-              | inl y ↦ or-r (has m k) (has (insert 0 j) k) (rw y (insert-own 0 j lo (omega arith)))
-              | inr y ↦ or-l (has m k) (has (insert 0 j) k) y
-            ])
+        ∙ or-assoc (has h k) (has m k) (has (insert 0 j) k) ∙ ap (λ (x : Bool). has h k || x) (insert-more m j k lo (omega arith)) ∙ sym (has-or h (insert m j) k))
 
     again : {A : Type 0} (F : ℕ → A) (x y z : A) → y ≡ z → upd (upd F i x) i y ≡ upd F i z
     unfolding upd
@@ -323,22 +305,14 @@ module _ (n f : ℕ) where
 
     answered-more : (m j : ℕ) → 1 ≤ j → j ≤ n → commitV (afterTimeout m) i (answersCall j (d m)) ≡ afterTimeout (insert m j)
     unfolding commitV forgetV answersCall addCaller
-    answered-more m j lo hi = λ p. record {
-      own = v .own;
-      order = v .order;
-      state = record {
-        sent = again (v .state .sent) (sentAfter (v .state .sent i) ((answeredTo m s timedOut) .sends)) _ _ outgoing p;
-        consensus = record {
+    answered-more m j lo hi = same-view _ _ refl refl (again (v .state .sent) (sentAfter (v .state .sent i) ((answeredTo m s timedOut) .sends)) _ _ outgoing)
+        (λ p. record {
           «move_proposed» = or-false (v .state .consensus .«move_proposed» || isMove (timedOut .proposal)) p;
           «stay_proposed» = or-false (v .state .consensus .«stay_proposed» || isStay (timedOut .proposal)) p;
           decision = v .state .consensus .decision;
-        };
-      };
-      ctl = again (λ k. withoutKept (v .ctl k)) (d m) (addCaller (d m) j) (d (insert m j)) refl p;
-      saved = v .saved;
-      counts = counts-same (((afterTimeout m) .ctl i) .condition) (d m .condition) ((afterTimeout m) .counts) (sym (ap (λ (x : Controller). x .condition) (upd-same (λ k. withoutKept (v .ctl k)) i (d m)))) p;
-      ballots = v .ballots;
-    }
+        })
+        (again (λ k. withoutKept (v .ctl k)) (d m) (addCaller (d m) j) (d (insert m j)) refl) refl
+        (counts-same (((afterTimeout m) .ctl i) .condition) (d m .condition) ((afterTimeout m) .counts) (sym (ap (λ (x : Controller). x .condition) (upd-same (λ k. withoutKept (v .ctl k)) i (d m))))) refl
       where
         outgoing : sentAfter ((afterTimeout m) .state .sent i) (helps Nothing (To (insert 0 j) (timedOut .controller .help .votes))) ≡ sentAfter (v .state .sent i) ((answeredTo (insert m j) s timedOut) .sends)
         outgoing = unfold commitV forgetV in ap (λ (l : Sent). sentAfter l (helps Nothing (To (insert 0 j) (timedOut .controller .help .votes)))) (upd-same (v .state .sent) i _) ∙ joined

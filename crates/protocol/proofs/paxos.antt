@@ -12,4 +12,4 @@ pub mod Kept
 pub mod Members
 pub mod Environment
 pub mod Order
-pub mod Strayed
+pub mod Chosen

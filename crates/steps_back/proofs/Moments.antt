@@ -1,4 +1,5 @@
--- The moments of the list of events left are moments of the list of acts; what a step back undoes; how many are remembered.
+-- The moments of the list of events left are moments of the list of acts, through the list one act at a time; what a step back undoes is the last event
+-- left; how many are remembered. Rests on Theorem.
 use Prim.Native.Nat.{ℕ, suc, _≤_, min}
 use mathlib.Core.Path.{_≡_, refl, sym, _∙_, ap, subst}
 use mathlib.Core.Bool.{Bool, true, false, cond, false≢true}
@@ -20,7 +21,8 @@ use Rattle.steps_back.specs.Memory.{Remembering, newRemembering, canBeUn
 use Rattle.steps_back.specs.Claim.{at, bench, remembers, Accepted, NoLock, Came, Undoes}
 use Rattle.model.specs.declared.Act.{Act}
 use Rattle.model.specs.declared.Act.the-variants.{Play, Back}
-use Rattle.protocol.proofs.claim.Moments.{step-locked}
+use Rattle.protocol.proofs.view.Kinds.{asks-lock}
+use Rattle.protocol.proofs.lists.Moments.{accepted-is, step-locked}
 use Rattle.steps_back.proofs.Theorem.{without-snoc, run-snoc, Found, found, find, inv, left-taken, at-taken, left-refused, at-refused}
 
 -- where an element of a list with one more at its end stands: it is that one, or it stands in the list
@@ -31,9 +33,6 @@ record Last (l : List Event) (x : Event) (es : List Event) (e : Event) : Type 0 
 record Inside (l es : List Event) (e : Event) : Type 0 where
   rest : List Event
   parts : l ≡ es ++ (e ∷ rest)
-
-inside-more : (y : Event) (l es : List Event) (e : Event) → Inside l es e → Inside (y ∷ l) (y ∷ es) e
-inside-more y l es e i = record { rest = i .rest; parts = ap (λ (m : List Event). y ∷ m) (i .parts) }
 
 nothing-there : (es : List Event) (e : Event) (rest : List Event) → [] ≡ es ++ (e ∷ rest) → ⊥
 nothing-there [] e rest p = nil≢cons p
@@ -104,7 +103,7 @@ as-left acts = inv acts .bench
 is-no-lock : (e : Event) → canBeUndone e ≡ true → NoLock e
 is-no-lock e u n f own same = false≢true (subst (λ (x : Event). canBeUndone x ≡ true) same u)
 
-undoable : (e : Event) → NoLock e → canBeUndone e ≡ true
+pub undoable : (e : Event) → NoLock e → canBeUndone e ≡ true
 undoable (Lock n f own) h = absurd (h n f own refl)
 undoable (Order o) h = refl
 undoable (Cast i willing target) h = refl
@@ -184,16 +183,7 @@ none-there (b ∷ past) h = absurd (omega arith)
 -- a lock is set up where an event is remembered: that was asked of it
 has-lock : (b : Bench) (e : Event) → canBeUndone e ≡ true → reply b e ≡ accepted → b .shared .locked ≡ true
 unfolding reply
-has-lock b (Lock n f own) u ok = absurd (false≢true u)
-has-lock b (Order o) u ok = all-yes _ ok .0
-has-lock b (Cast i willing target) u ok = all-yes _ ok .0
-has-lock b (Deliver i j kind) u ok = all-yes _ ok .0
-has-lock b (Timeout i) u ok = all-yes _ ok .0
-has-lock b (Decide i move) u ok = all-yes _ ok .0
-has-lock b (Stop i) u ok = all-yes _ ok .0
-has-lock b (Save i) u ok = all-yes _ ok .0
-has-lock b (Restore i) u ok = all-yes _ ok .0
-has-lock b (OfBallots e) u ok = all-yes _ ok .0
+has-lock b e u ok = elim (asks-lock _ e (accepted-is _ ok)) [ inl l ↦ absurd (false≢true (sym (ap canBeUndone (l .is)) ∙ u)) | inr h ↦ h ]
 
 lock-there : (acts : List Act) → isSome (at acts .past) ≡ true → (bench acts) .shared .locked ≡ true
 lock-there acts some =

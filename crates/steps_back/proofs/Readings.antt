@@ -1,4 +1,4 @@
--- Demand 3, U5 and U10, read over the events left: the bench at a moment is the one after them.
+-- Demand 3, U5, U7, U9 and U10, read over the events left: the bench at a moment is the one after them (Moments), of which protocol's theorems speak.
 use Prim.Native.Nat.{ℕ, _+_, _*_, _≤_}
 use mathlib.Core.Path.{_≡_, refl, sym, _∙_, ap, subst}
 use mathlib.Core.Bool.{Bool, true, false}
@@ -7,14 +7,13 @@ use native.Mathlib.Omega.{arith}
 use mathlib.Core.Logic.{inl, inr}
 use Rattle.ground.specs.Tests.{split}
 use Rattle.model.specs.QuestionLaws.{is-accepted}
-use Rattle.model.specs.Questions.{accepted, refused, number, isAccepted, ask, unless, firstNo}
+use Rattle.model.specs.Questions.{refused, number, isAccepted, ask, unless, firstNo}
 use Rattle.model.specs.declared.Kind.the-variants.{Vote, Ack, Help, Helped}
 use Rattle.model.specs.declared.Outcome.{Outcome}
 use Rattle.model.specs.declared.Outcome.the-variants.{Stay, Move}
 use Rattle.model.specs.declared.Event.{Event}
 use Rattle.model.specs.declared.Event.the-variants.{Timeout, Restore}
 use Rattle.protocol.specs.declared.Bench.{Bench}
-use Rattle.protocol.specs.Questions.{reply}
 use Rattle.protocol.specs.Display.{shownOutcome, shownPosition, messageCount}
 use Rattle.protocol.specs.Claim.{after, SameOrder, IsSecondTimeout, Clean, AllWilling, OneUnwilling, WillingVote, Demand3}
 use Rattle.protocol.specs.Claim as events

@@ -1,4 +1,5 @@
--- The proof.
+-- The benches remembered are those before the last events left, each after the events before it (`Trace`). Every act keeps that, so the bench is the one
+-- after the events left.
 use Prim.Native.Nat.{ℕ, zero, suc}
 use mathlib.Core.Path.{_≡_, refl, sym, _∙_, ap, subst}
 use mathlib.Core.Bool.{Bool, true, false, cond, false≢true}

@@ -20,8 +20,8 @@ use Rattle.protocol.specs.Controllers.{phaseIn, isStopped, outcome}
 use Rattle.protocol.specs.Benches.{newBench, controller, sentBy, ofKind}
 use Rattle.protocol.specs.Steps.{run}
 use Rattle.protocol.specs.Display.{stageShown, sumTo, sentCount, messageCount}
-use Rattle.protocol.proofs.claim.Reach.{controllers-limit}
-use Rattle.protocol.proofs.claim.Reached.{reach}
+use Rattle.protocol.proofs.lists.Reach.{controllers-limit}
+use Rattle.protocol.proofs.ranges.Reached.{reach}
 use Rattle.bench_report.specs.declared.Row.{Row}
 use Rattle.bench_summary.specs.Summary.{summaryOf, shows}
 use Rattle.generator.specs.File.{fileOf}

@@ -1,4 +1,5 @@
--- A message keeps the invariant: one that is taken contradicts no vote set held.
+-- A message keeps the invariant: one that is taken contradicts no vote set held, since it passed the test, so with it all that is held tells one word of
+-- each controller (Telling). By the cases of each rule.
 use Prim.Native.Nat.{ℕ, _≤_}
 use mathlib.Core.Path.{_≡_, refl, _∙_, ap}
 use mathlib.Core.Bool.{true, false, _&&_}
@@ -26,7 +27,7 @@ use Rattle.protocol.specs.Calls.{arrives, contradictsHeld, tested, recei
 use Rattle.protocol.specs.Strays.{own, answers, ack, Comes, untested}
 use Rattle.protocol.proofs.view.RuleCases.{vote-cases, ack-cases, helped-cases, help-cases, sufficient-cases}
 use Rattle.protocol.proofs.view.Held.{found-held}
-use Rattle.protocol.proofs.claim.Strayed.{asked, comes-is, small-of, unknown}
+use Rattle.protocol.proofs.strays.Strayed.{asked, comes-is, small-of, unknown}
 use Rattle.protocol.proofs.alone.Telling.{told-or, or-tells, Extended, extended}
 use Rattle.protocol.proofs.alone.Sound.{Sound, Leaves, passed-leaves, put-sound, called-sound, kept-sound, joined-sound}
 

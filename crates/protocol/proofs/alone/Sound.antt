@@ -1,4 +1,5 @@
--- The invariant of a controller alone, and the small changes that keep it.
+-- The invariant of a controller alone: what it holds tells one word of each controller (Telling), the counts are those of the senders, and no answer is
+-- held before the second timeout. And the small changes that keep it.
 use Prim.Native.Nat.{ℕ, suc, _≤_}
 use mathlib.Core.Path.{_≡_, refl, sym, _∙_, ap, subst}
 use mathlib.Core.Bool.{Bool, true, false}

@@ -1,4 +1,5 @@
--- The own vote stands on the own vote set with its word, from the vote on through every call that does not clear the controller.
+-- The own vote stands on the own vote set with its word, from the vote on through every call that does not clear the controller: a message leaves the
+-- stage and, by `Strays`, what the own vote set says of its owner; another vote is passed over; the other calls leave the own vote set.
 use Prim.Native.Nat.{ℕ, suc, _≤_}
 use mathlib.Core.Path.{_≡_, refl, sym, _∙_, ap, subst}
 use mathlib.Core.Bool.{Bool, true, false, not, _&&_, _||_, true≢false}
@@ -16,7 +17,6 @@ use Rattle.votes.specs.declared.Joined.{Joined}
 use Rattle.model.specs.Ranges.{isBackup}
 use Rattle.model.specs.Numbers.{wordOf}
 use Rattle.model.specs.declared.Kind.{Kind}
-use Rattle.model.specs.declared.Kind.the-variants.{Vote, Ack, Help, Helped}
 use Rattle.model.specs.declared.Message.{Message}
 use Rattle.model.specs.declared.Checkpoint.{Checkpoint}
 use Rattle.message_record.specs.Messages.{suits}
@@ -26,13 +26,13 @@ use Rattle.protocol.specs.declared.Condition.the-variants.{Running, Stop
 use Rattle.protocol.specs.declared.Controller.{Controller}
 use Rattle.protocol.specs.declared.Answer.{Answer}
 use Rattle.protocol.specs.Controllers.{isStopped, phaseIn, runs, phase, hasAck, advance, learn, aim, keepAck, dropContradicting, keepHelped, freeze, addCaller, await, propose, noting, conclude}
-use Rattle.protocol.specs.Rules.{isTaken, passedOver, contradicted, becomes, proposing, voteRule, countOwn, firstTimeout, proposeIfSufficient, frozen, ready, callsHelp, secondTimeout, keepsCall, answersCall}
+use Rattle.protocol.specs.Rules.{isTaken, passedOver, contradicted, becomes, proposing, voteRule, countOwn, firstTimeout, proposeIfSufficient, frozen, ready, callsHelp, secondTimeout, answersCall}
 use Rattle.protocol.specs.Calls.{validIdentity, vote, addressed, arrives, contradictsHeld, tested, receive, timeout, awaitsDecision, decide, restore}
 use Rattle.protocol.specs.Strays.{untested, MayVote}
 use Rattle.protocol.specs.Alone.{Call, voting, receiving, timing-out, deciding, stopping, restoring, renewing, Cabinet, inOrder, called, calledAll, clears, noneClears}
-use Rattle.protocol.proofs.view.RuleCases.{vote-cases, ack-cases, helped-cases, help-cases, sufficient-cases, second-cases}
+use Rattle.protocol.proofs.view.RuleCases.{sufficient-cases, second-cases, arrives-cases}
 use Rattle.protocol.proofs.invariant.Words.{noting-phase}
-use Rattle.protocol.proofs.claim.Strayed.{strays}
+use Rattle.protocol.proofs.strays.Strayed.{strays}
 use Rattle.protocol.proofs.alone.Sound.{Sound}
 use Rattle.protocol.proofs.alone.Voting.{own-free, stage, known-is, willing-is}
 
@@ -89,16 +89,9 @@ refused-stage : (c : Controller) → SameStage c (contradicted c)
 unfolding contradicted
 refused-stage c = record { is = refl }
 
-puts-stage : (n f : ℕ) (c c′ : Controller) → phase c′ ≡ phase c → SameStage c (proposeIfSufficient n f (becomes c′))
-unfolding becomes proposing propose
-puts-stage n f c c′ h = sufficient-cases (SameStage c) n f _ (λ q. record { is = h }) (λ q. record { is = h })
-
 arrives-stage : (kind : Kind) (n f j : ℕ) (s : VoteSet) (c : Controller) → SameStage c (arrives kind n f j s c)
-unfolding arrives
-arrives-stage Vote n f j s c = vote-cases (SameStage c) s c (λ h. unfold becomes learn in record { is = refl }) (passed-stage c)
-arrives-stage Ack n f j s c = ack-cases (SameStage c) n f j s c (λ h. puts-stage n f c _ (unfold keepAck in refl)) (λ h. passed-stage c)
-arrives-stage Help n f j s c = help-cases (SameStage c) j c (λ p. unfold keepsCall becomes addCaller in record { is = refl }) (λ p q. unfold answersCall addCaller in record { is = refl }) (λ q. passed-stage c)
-arrives-stage Helped n f j s c = helped-cases (SameStage c) n f j s c (λ p h. puts-stage n f c _ (unfold keepHelped in refl)) (λ q. passed-stage c)
+arrives-stage kind n f j s c = arrives-cases (SameStage c) n f kind j s c (λ c′ q. unfold becomes in record { is = ap phaseIn (q .condition) })
+    (λ a h. sufficient-cases (SameStage c) n f a (λ q. unfold proposing propose in record { is = h .is }) (λ q. h)) (λ z p q. unfold answersCall addCaller in record { is = refl }) (passed-stage c)
 
 receive-stage : (me : Identity) (m : Message) (c : Controller) → SameStage c (receive me m c)
 unfolding receive tested

@@ -1,4 +1,5 @@
--- `ControllerAlone`: the invariant through every list of calls, and what it says.
+-- `ControllerAlone`: every call keeps the invariant (Voting, Arriving, Timeouts), so it holds after every list of calls; and what it says of what is
+-- held and joined.
 use Prim.Native.Nat.{ℕ}
 use mathlib.Core.Path.{_≡_, refl, sym, subst}
 use mathlib.Core.Bool.{Bool, true, false, _&&_, _||_, true≢false}

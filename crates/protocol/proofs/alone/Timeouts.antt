@@ -1,4 +1,5 @@
 -- The two timeouts keep the invariant: the first keeps the own vote set as an acknowledgement, the second may join the help vote set to the answers.
+-- Both are made of what is held, so they tell the same words (Telling).
 use Prim.Native.Nat.{ℕ, _≤_}
 use mathlib.Core.Path.{_≡_, refl, sym, _∙_, ap, subst}
 use mathlib.Core.Bool.{true, not, _&&_}
@@ -21,7 +22,7 @@ use Rattle.protocol.specs.Rules.{proposing, countOwn, firstTimeout, ackJ
 use Rattle.protocol.specs.Calls.{validIdentity, timeout}
 use Rattle.protocol.specs.NoContradiction.{acksUnion}
 use Rattle.protocol.proofs.view.RuleCases.{second-cases}
-use Rattle.protocol.proofs.claim.Strayed.{small-of}
+use Rattle.protocol.proofs.strays.Strayed.{small-of}
 use Rattle.protocol.proofs.alone.Telling.{Tells, union-tells, told-or, all-tell, all-told}
 use Rattle.protocol.proofs.alone.Sound.{Sound, Leaves, passed-leaves, put-sound, concluded-sound, kept-sound, joined-sound, counted-leaves, place-of}
 

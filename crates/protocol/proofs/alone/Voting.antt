@@ -1,4 +1,5 @@
--- The own vote keeps the invariant: what contradicts it is dropped, and nobody has put its word on its own vote set before.
+-- The own vote keeps the invariant: what contradicts it is dropped (strays/Dropped), and nobody has put its word on its own vote set before; so with it
+-- all that is held tells one word of each controller (Telling).
 use Prim.Native.Nat.{ℕ, suc, _≤_}
 use mathlib.Core.Path.{_≡_, sym, _∙_, ap, subst}
 use mathlib.Core.Bool.{Bool, true, false, _&&_, cond}
@@ -24,8 +25,8 @@ use Rattle.protocol.specs.Controllers.{runs, phase, hasAck, ackOf, advan
 use Rattle.protocol.specs.Rules.{voteRule}
 use Rattle.protocol.specs.Calls.{validIdentity}
 use Rattle.protocol.specs.Strays.{MayVote}
-use Rattle.protocol.proofs.claim.Dropped.{sets-kept, drops, drop-only, drop-counted}
-use Rattle.protocol.proofs.claim.Strayed.{small-of}
+use Rattle.protocol.proofs.strays.Dropped.{sets-kept, drops, drop-only, drop-counted}
+use Rattle.protocol.proofs.strays.Strayed.{small-of}
 use Rattle.protocol.proofs.alone.Telling.{Tells, or-tells, Extended, extended}
 use Rattle.protocol.proofs.alone.Sound.{Counted, Sound, place-of}
 

@@ -1,5 +1,5 @@
 -- `protocol::ballots_agree` meets its contract.
-use Rattle.protocol.proofs.claim.Chosen.{ballots-agree}
+use Rattle.protocol.proofs.paxos.Chosen.{ballots-agree}
 use Rattle.protocol.proofs.ballots_agree.Statement.{statement}
 use Rattle.protocol.proofs.ballots_agree.Tie as tie
 

@@ -1,4 +1,5 @@
--- Kinds 1 and 2 together are at most 2fn messages in any order: what was sent lies within the routes.
+-- Kinds 1 and 2 together are at most 2fn messages in any order: by the invariant what was sent lies within the routes, and these are counted, controller
+-- by controller.
 use Prim.Native.Nat.{ℕ, zero, suc, _+_, _*_, _≤_, _<_}
 use mathlib.Core.Path.{_≡_, sym, _∙_}
 use mathlib.Core.Bool.{Bool, true, false, not, _&&_}

@@ -1,4 +1,5 @@
--- The proof of demand 3: the statement's moments, carried through the view of the bench to the invariants.
+-- The proof of demand 3. A moment of the statement is one of a list from its lock on (lists/Start), and the bench there is seen as its view
+-- (view/Simulation). There agreement (invariant/Orders), the moves (gates/Moves), the clean decision (clean/Parts) and the bound (Bound) are known.
 use Prim.Native.Nat.{ℕ, _+_, _*_, _≤_, _<_}
 use mathlib.Core.Path.{_≡_, refl, sym, _∙_, ap, subst}
 use mathlib.Core.Bool.{Bool, true, false, cond, true≢false, false≢true}
@@ -15,7 +16,7 @@ use Rattle.model.specs.declared.Kind.the-variants.{Vote, Ack}
 use Rattle.model.specs.declared.Outcome.{Outcome}
 use Rattle.model.specs.declared.Outcome.the-variants.{None, Stay, Move}
 use Rattle.model.specs.declared.Event.{Event}
-use Rattle.model.specs.declared.Event.the-variants.{Lock, Cast, Timeout, Restore, OfBallots}
+use Rattle.model.specs.declared.Event.the-variants.{Lock, Cast, Timeout, Restore}
 use Rattle.protocol.specs.declared.Bench.{Bench}
 use Rattle.protocol.specs.Controllers.{outcome}
 use Rattle.protocol.specs.Benches.{benchOf, newBench}
@@ -34,10 +35,10 @@ use Rattle.protocol.proofs.clean.Log as steps
 use Rattle.protocol.proofs.clean.Steps.{CleanOrder, clean-by-steps, clean-log, second-is}
 use Rattle.protocol.proofs.clean.Parts.{clean-decides, Decides}
 use Rattle.protocol.proofs.view.Simulation.{view, Sound, Steps, Runs, reply-sim, step-steps, step-sim, run-sim}
-use Rattle.protocol.proofs.claim.Moments.{accepted-is, push, logOf, logAt, append-assoc, run-append, run-one, run-cons, log-append, in-order, in-log}
-use Rattle.protocol.proofs.claim.OrderNumbers.{same-number, number-same}
+use Rattle.protocol.proofs.lists.Moments.{accepted-is, push, logOf, logAt, append-assoc, run-append, run-one, run-cons, log-append, in-order, in-log}
+use Rattle.protocol.proofs.lists.OrderNumbers.{same-number, number-same}
 use Rattle.protocol.proofs.claim.Bound.{sent-bound}
-use Rattle.protocol.proofs.claim.Start.{Opened, start, lock-sound, lock-inv, lock-good, lock-unvoted, new-holds, new-still}
+use Rattle.protocol.proofs.lists.Start.{Opened, start, lock-sound, lock-inv, lock-good, lock-unvoted, new-holds, new-still}
 
 vrun-one : (n f : ℕ) (e : Event) (b : View) → runV n f b (e ∷ []) ≡ stepV n f b e
 unfolding runV
@@ -257,7 +258,7 @@ module _ (es : List Event) (o : Opened es) (i : ℕ) (a : Accepted es (Timeout i
 
   clean-stay₁ : OneUnwilling es → shownOutcome (step (after es) (Timeout i)) i ≡ Stay
   unfolding view
-  clean-stay₁ u = ap (λ (v : View). outcome (v .ctl i)) timeout-view ∙ decides .stay (u .who) (u .target) (who .0) (who .1) (subst (In (Cast (u .who) false (u .target))) is-log (in-log es (Cast (u .who) false (u .target)) tt (u .vote)))
+  clean-stay₁ u = ap (λ (v : View). outcome (v .ctl i)) timeout-view ∙ decides .stay (u .who) (u .target) (who .0) (who .1) (subst (In (Cast (u .who) false (u .target))) is-log (in-log es (Cast (u .who) false (u .target)) refl (u .vote)))
     where
       -- the number of one whose vote was accepted is in range
       who : (1 ≤ u .who) × (u .who ≤ o .n)

@@ -1,6 +1,7 @@
--- What an accepted event itself adds, as the clean order needs it.
+-- What an accepted event itself adds, as the clean order needs it: a vote is cast, or known where it arrives; an acknowledgement is held; a timeout
+-- leads to the next phase. By the event's questions, its rule and the invariant.
 use Prim.Native.Nat.{ℕ, suc, _≤_}
-use mathlib.Core.Path.{_≡_, refl, sym, _∙_, ap}
+use mathlib.Core.Path.{_≡_, refl, sym, _∙_, ap, subst}
 use mathlib.Core.Bool.{Bool, true, false, not, _&&_, _||_, cond, false≢true}
 use native.Mathlib.Omega.{arith}
 use lib.Dec.{leb, eqb}
@@ -16,9 +17,9 @@ use Rattle.votes.specs.declared.VoteSet.{VoteSet}
 use Rattle.ground.specs.Limit.{limit}
 use Rattle.model.specs.Ranges.{isController}
 use Rattle.model.specs.Routes.{route, voteRoute}
-use Rattle.model.specs.declared.Kind.the-variants.{Vote, Ack, Help, Helped}
+use Rattle.model.specs.declared.Kind.the-variants.{Vote, Ack}
 use Rattle.model.specs.declared.Event.{Event}
-use Rattle.model.specs.declared.Event.the-variants.{Lock, Order, Cast, Deliver, Timeout, Decide, Stop, Save, Restore, OfBallots}
+use Rattle.model.specs.declared.Event.the-variants.{Cast, Deliver, Timeout}
 use Rattle.protocol.specs.declared.Controller.{Controller}
 use Rattle.protocol.specs.declared.Answer.{Answer}
 use Rattle.protocol.specs.Controllers.{runs, phase, hasAck, advance, learn, keepAck, keepHelped, freeze, await, propose, conclude}
@@ -136,48 +137,52 @@ module _ (n f : ℕ) where
     pub at-phase : (phase (b .ctl i) ≡ 1) ⊎ (phase (b .ctl i) ≡ 2)
     pub after : 2 ≤ phase (b′ .ctl i)
 
-  abbrev pub New : Event → View → View → Type 0
-  New (Lock a c own) b b′ = Unit {0}
-  New (Order o) b b′ = Unit {0}
-  New (Cast i w t) b b′ = NewVote b b′ i w
-  New (Deliver i j Vote) b b′ = NewVoteTo b b′ i j
-  New (Deliver i j Ack) b b′ = NewAckTo b b′ i j
-  New (Deliver i j Help) b b′ = Unit {0}
-  New (Deliver i j Helped) b b′ = Unit {0}
-  New (Timeout i) b b′ = NewTimeout b b′ i
-  New (Decide i w) b b′ = Unit {0}
-  New (Stop i) b b′ = Unit {0}
-  New (Save i) b b′ = Unit {0}
-  New (OfBallots e) b b′ = Unit {0}
-  New (Restore i) b b′ = Unit {0}
+  -- what an accepted event adds
+  pub record New (e : Event) (b b′ : View) : Type 0 where
+    pub vote : (i : ℕ) (w : Bool) (t : ℕ) → e ≡ Cast i w t → NewVote b b′ i w
+    pub vote-to : (i j : ℕ) → e ≡ Deliver i j Vote → NewVoteTo b b′ i j
+    pub ack-to : (i j : ℕ) → e ≡ Deliver i j Ack → NewAckTo b b′ i j
+    pub timeout : (i : ℕ) → e ≡ Timeout i → NewTimeout b b′ i
+
+  module _ (s : n ≤ limit) (b : View) (inv : Inv n f b) where
+    abbrev after : Event → View
+    after e = performV n f b e
+
+    vote-new : (i : ℕ) (w : Bool) (t : ℕ) → accepts n f b (Cast i w t) ≡ true → NewVote b (after (Cast i w t)) i w
+    unfolding performV accepts firstNo isController
+    vote-new i w t q =
+        let lo : 1 ≤ i = leb-true _ _ (search (ask-l, ask-r, and-l, and-r) depth 14) in let hi : i ≤ n = leb-true _ _ (search (ask-l, ask-r, and-l, and-r) depth 14) in
+        record { cast = told-after b i w t lo (omega arith) .0; will = told-after b i w t lo (omega arith) .1; ran = (search (ask-l, ask-r, and-l, and-r) depth 14); begun = begun-after b i w t }
+
+    vote-to-new : (i j : ℕ) → accepts n f b (Deliver i j Vote) ≡ true → NewVoteTo b (after (Deliver i j Vote)) i j
+    unfolding performV accepts firstNo arrives
+    vote-to-new i j q =
+        let sent : has ((b .state .sent i) .vote .to) j ≡ true = (search (ask-l, ask-r, and-l, and-r) depth 14) in
+        record { ran = (search (ask-l, ask-r, and-l, and-r) depth 14); route = inv .lines i .vote-to j sent .1; known = known-after b i j _ (inv .ctls j .votes-ok) (vote-ok (b .state .sent) f i (inv .lines i)) (inv .lines i .vote-to j sent .0) }
+
+    ack-to-new : (i j : ℕ) → accepts n f b (Deliver i j Ack) ≡ true → NewAckTo b (after (Deliver i j Ack)) i j
+    unfolding performV accepts firstNo isController arrives
+    ack-to-new i j q =
+        let sent : has ((b .state .sent i) .ack .to) j ≡ true = (search (ask-l, ask-r, and-l, and-r) depth 14) in
+        let lo : 1 ≤ i = leb-true _ _ (search (ask-l, ask-r, and-l, and-r) depth 14) in let hi : i ≤ n = leb-true _ _ (search (ask-l, ask-r, and-l, and-r) depth 14) in
+        record { acked = inv .lines i .ack-to j sent .0; held = held-after b i j _ lo (omega arith) }
+
+    timeout-new : (i : ℕ) → accepts n f b (Timeout i) ≡ true → NewTimeout b (after (Timeout i)) i
+    unfolding performV accepts firstNo isController timeoutRule
+    timeout-new i q = record {
+      ran = (search (ask-l, ask-r, and-l, and-r) depth 14);
+      at = record { lo = leb-true _ _ (search (ask-l, ask-r, and-l, and-r) depth 14); hi = leb-true _ _ (search (ask-l, ask-r, and-l, and-r) depth 14) };
+      at-phase = elim (or-e (eqb (phase (b .ctl i)) 1) (eqb (phase (b .ctl i)) 2) (search (ask-l, ask-r, and-l, and-r) depth 14)) [ inl e ↦ inl (eqb-true _ _ e) | inr e ↦ inr (eqb-true _ _ e) ];
+      after = elim (split (eqb (phase (b .ctl i)) 1)) [
+        | inl e ↦ rw e (omega (arith, reached-after b i _ 2 (first-reaches i (b .ctl i))))
+        | inr e ↦ rw e (omega (arith, reached-after b i _ 3 (second-reaches i (b .ctl i))))
+      ];
+    }
 
   pub perform-new : n ≤ limit → (b : View) (e : Event) → Inv n f b → accepts n f b e ≡ true → New e b (performV n f b e)
-  unfolding performV accepts firstNo isController route arrives timeoutRule
-  perform-new s b (Lock a c own) inv q = tt
-  perform-new s b (Order o) inv q = tt
-  perform-new s b (Cast i w t) inv q =
-      let lo : 1 ≤ i = leb-true _ _ (search (ask-l, ask-r, and-l, and-r) depth 14) in let hi : i ≤ n = leb-true _ _ (search (ask-l, ask-r, and-l, and-r) depth 14) in
-      record { cast = told-after b i w t lo (omega arith) .0; will = told-after b i w t lo (omega arith) .1; ran = (search (ask-l, ask-r, and-l, and-r) depth 14); begun = begun-after b i w t }
-  perform-new s b (Deliver i j Vote) inv q =
-      let sent : has ((b .state .sent i) .vote .to) j ≡ true = (search (ask-l, ask-r, and-l, and-r) depth 14) in
-      record { ran = (search (ask-l, ask-r, and-l, and-r) depth 14); route = inv .lines i .vote-to j sent .1; known = known-after b i j _ (inv .ctls j .votes-ok) (vote-ok (b .state .sent) f i (inv .lines i)) (inv .lines i .vote-to j sent .0) }
-  perform-new s b (Deliver i j Ack) inv q =
-      let sent : has ((b .state .sent i) .ack .to) j ≡ true = (search (ask-l, ask-r, and-l, and-r) depth 14) in
-      let lo : 1 ≤ i = leb-true _ _ (search (ask-l, ask-r, and-l, and-r) depth 14) in let hi : i ≤ n = leb-true _ _ (search (ask-l, ask-r, and-l, and-r) depth 14) in
-      record { acked = inv .lines i .ack-to j sent .0; held = held-after b i j _ lo (omega arith) }
-  perform-new s b (Deliver i j Help) inv q = tt
-  perform-new s b (Deliver i j Helped) inv q = tt
-  perform-new s b (Timeout i) inv q = record {
-    ran = (search (ask-l, ask-r, and-l, and-r) depth 14);
-    at = record { lo = leb-true _ _ (search (ask-l, ask-r, and-l, and-r) depth 14); hi = leb-true _ _ (search (ask-l, ask-r, and-l, and-r) depth 14) };
-    at-phase = elim (or-e (eqb (phase (b .ctl i)) 1) (eqb (phase (b .ctl i)) 2) (search (ask-l, ask-r, and-l, and-r) depth 14)) [ inl e ↦ inl (eqb-true _ _ e) | inr e ↦ inr (eqb-true _ _ e) ];
-    after = elim (split (eqb (phase (b .ctl i)) 1)) [
-      | inl e ↦ rw e (omega (arith, reached-after b i _ 2 (first-reaches i (b .ctl i))))
-      | inr e ↦ rw e (omega (arith, reached-after b i _ 3 (second-reaches i (b .ctl i))))
-    ];
+  perform-new s b e inv q = record {
+    vote = λ i w t z. subst (λ x. NewVote b (performV n f b x) i w) (sym z) (vote-new s b inv i w t (rw z at q));
+    vote-to = λ i j z. subst (λ x. NewVoteTo b (performV n f b x) i j) (sym z) (vote-to-new s b inv i j (rw z at q));
+    ack-to = λ i j z. subst (λ x. NewAckTo b (performV n f b x) i j) (sym z) (ack-to-new s b inv i j (rw z at q));
+    timeout = λ i z. subst (λ x. NewTimeout b (performV n f b x) i) (sym z) (timeout-new s b inv i (rw z at q));
   }
-  perform-new s b (Decide i w) inv q = tt
-  perform-new s b (Stop i) inv q = tt
-  perform-new s b (Save i) inv q = tt
-  perform-new s b (OfBallots e) inv q = tt
-  perform-new s b (Restore i) inv q = tt

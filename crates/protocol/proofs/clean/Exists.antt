@@ -1,4 +1,4 @@
--- The claim is not hollow: clean orders exist, and demand 3 gives their outcomes. No run is computed.
+-- The claim is not hollow: clean orders exist (Schedule, Run), and demand 3 gives their outcomes. No run is computed.
 use Prim.Native.Nat.{ℕ, zero, suc, _≤_, _<_}
 use mathlib.Core.Path.{_≡_, refl, sym, _∙_, ap, subst, subst₂}
 use mathlib.Core.Bool.{Bool, true, false}
@@ -27,7 +27,7 @@ use Rattle.protocol.proofs.view.Simulation.{view}
 use Rattle.protocol.proofs.clean.Log.{In, Second}
 use Rattle.protocol.proofs.clean.Log as steps
 use Rattle.protocol.proofs.clean.Steps.{log-second}
-use Rattle.protocol.proofs.claim.Moments.{run-append, run-one, in-order, in-log}
+use Rattle.protocol.proofs.lists.Moments.{run-append, run-one, in-order, in-log}
 use Rattle.protocol.proofs.clean.Back.{clean-order}
 use Rattle.protocol.proofs.clean.Schedule.{ending, ending-second, ending-clean, next-clean, ending-cast, ending-as}
 use Rattle.protocol.proofs.clean.Reached.{Reached, log-one, one-later, answers, performs}
@@ -67,12 +67,12 @@ module _ (n f : ℕ) (sized : sizesInRange n f ≡ true) (w : ℕ → Bool) (m :
     lock-f = reached .is-f;
     timeout = takes i lo hi;
     second = log-second n f es i (subst (Second n f i) (sym (reached .is-log)) (ending-second n f w m i (omega arith)));
-    clean = clean-order n f (es ++ (Timeout i ∷ [])) (subst (steps.Clean n f) (sym (log-one es (Timeout i) tt (takes i lo hi)))
+    clean = clean-order n f (es ++ (Timeout i ∷ [])) (subst (steps.Clean n f) (sym (log-one es (Timeout i) refl (takes i lo hi)))
         (subst (λ (l : List Event). steps.Clean n f (Timeout i ∷ l)) (sym (reached .is-log)) (next-clean n f w m i)));
   }
 
   votes-as : (k : ℕ) (x : Bool) (t : ℕ) → InOrder es (Cast k x t) → x ≡ w k
-  votes-as k x t u = ending-as n f w m k x t (subst (In (Cast k x t)) (reached .is-log) (in-log es (Cast k x t) tt u))
+  votes-as k x t u = ending-as n f w m k x t (subst (In (Cast k x t)) (reached .is-log) (in-log es (Cast k x t) refl u))
 
   votes-in : (k : ℕ) → 1 ≤ k → k ≤ n → InOrder es (Cast k (w k) 0)
   votes-in k lo hi = in-order es (Cast k (w k) 0) (subst (In (Cast k (w k) 0)) (sym (reached .is-log)) (ending-cast n f w m k lo hi))

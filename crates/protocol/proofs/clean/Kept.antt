@@ -1,4 +1,5 @@
--- What an accepted event other than order and stop does to a running controller: the frames that the clean order needs.
+-- What an accepted event other than order and stop does to a running controller: it runs on, knows and holds what it did, and its phase changes at its
+-- own vote and timeouts alone. By the cases of each rule (view/RuleCases).
 use Prim.Native.Nat.{ℕ, suc, _≤_}
 use mathlib.Core.Path.{_≡_, refl, sym}
 use mathlib.Core.Bool.{Bool, true, false, not, _&&_, cond, false≢true}
@@ -27,17 +28,17 @@ use Rattle.protocol.specs.Controllers.{isRunning, isStopped, runs, phase
 use Rattle.protocol.specs.Rules.{keepsCall, answersCall, passedOver, becomes, proposing, verdict, voteRule, countOwn, firstTimeout, ackJoin, proposeIfSufficient, frozen, ready, callsHelp, secondTimeout, helpVotes}
 use Rattle.protocol.specs.declared.Identity.{Identity}
 use Rattle.protocol.specs.declared.Saved.{Saved}
-use Rattle.protocol.specs.declared.Saved.the-variants.{Nothing, Newest}
-use Rattle.protocol.specs.Calls.{arrives, restore}
-use Rattle.protocol.specs.Events.{restoreFrom}
+use Rattle.protocol.specs.Calls.{arrives}
+use Rattle.protocol.specs.Events.{restoreFrom, concernsOne}
 use Rattle.protocol.specs.Benches.{sentAfter}
 use Rattle.protocol.specs.Questions.{firstNo}
-use Rattle.protocol.proofs.view.RuleCases.{timeout-cases, vote-cases, ack-cases, help-cases, helped-cases, sufficient-cases, second-cases}
+use Rattle.protocol.proofs.view.RuleCases.{timeout-cases, vote-cases, ack-cases, help-cases, helped-cases, sufficient-cases, second-cases, restore-cases}
 use Rattle.protocol.proofs.view.View.{ballotsV, View, accepts, ask-l, ask-r}
 use Rattle.protocol.proofs.view.Performed.{commitV, chosen, savedV, checkpointAt, identityV, performV}
 use Rattle.protocol.proofs.invariant.Words.{noting-runs, noting-phase}
 use Rattle.protocol.proofs.invariant.Invariant.{ackOn, ackedBy}
 use Rattle.protocol.proofs.invariant.Commit.{upd-all₂}
+use Rattle.protocol.proofs.view.Kinds.{isStop}
 
 pub stopped-idle : (k : Condition) → isStopped k ≡ true → isRunning k ≡ false
 stopped-idle (Running p) e = absurd (false≢true e)
@@ -139,9 +140,7 @@ module _ (n f : ℕ) where
   restore-live e j o c l q = record { live = record { running = sym q; votes = λ r. absurd (no-both (runs c) r q); acks = λ r. absurd (no-both (runs c) r q); phase = λ r. absurd (no-both (runs c) r q); acked = λ h. inl (h, refl) } }
 
   restored-live : (e : Event) (j : ℕ) (me : Identity) (s : Saved) (c : Controller) (l : Sent) → runs c ≡ false → KeptBy e j c l (restoreFrom me s c)
-  unfolding restoreFrom restore
-  restored-live e j me Nothing c l q = passed-over-kept e j c l
-  restored-live e j me (Newest x) c l q = by-cond (KeptBy e j c l) (isStopped (c .condition)) _ _ (λ t. restore-live e j _ c l q) (λ t. passed-over-kept e j c l)
+  restored-live e j me s c l q = restore-cases (KeptBy e j c l) me s c (λ x z y. restore-live e j _ c l q) (passed-over-kept e j c l)
 
   abbrev pub KeptAll : Event → View → View → Type 0
   KeptAll e b b′ = (k : ℕ) → Kept e k (b .ctl k) (b′ .ctl k) (b .state .sent k) (b′ .state .sent k)
@@ -160,28 +159,19 @@ module _ (n f : ℕ) where
 
   -- neither a lock, a new order nor a stop
   abbrev pub Goes : Event → Type 0
-  Goes (Lock a c own) = ⊥
-  Goes (Order o) = ⊥
-  Goes (Cast i w t) = Unit {0}
-  Goes (Deliver i j k) = Unit {0}
-  Goes (Timeout i) = Unit {0}
-  Goes (Decide i w) = Unit {0}
-  Goes (Stop i) = ⊥
-  Goes (Save i) = Unit {0}
-  Goes (OfBallots e) = Unit {0}
-  Goes (Restore i) = Unit {0}
+  Goes e = (concernsOne e && not (isStop e)) ≡ true
 
   pub perform-tame : n ≤ limit → (b : View) (e : Event) → Goes e → accepts n f b e ≡ true → KeptAll e b (performV n f b e)
   unfolding performV accepts firstNo isController
-  perform-tame s b (Lock a c own) g q = absurd g
-  perform-tame s b (Order o) g q = absurd g
+  perform-tame s b (Lock a c own) g q = absurd (false≢true g)
+  perform-tame s b (Order o) g q = absurd (false≢true g)
   perform-tame s b (Cast i w t) g q = commit-tame _ b i _ (vote-live s i w t _ _ (search (ask-l, ask-r, and-l, and-r) depth 14) (eqb-true _ _ (search (ask-l, ask-r, and-l, and-r) depth 14)))
   perform-tame s b (Deliver i j k) g q = commit-tame _ b j _ (arrives-live s _ k i j _ _ _ (leb-true _ _ (search (ask-l, ask-r, and-l, and-r) depth 14)) (leb-true _ _ (search (ask-l, ask-r, and-l, and-r) depth 14)))
   perform-tame s b (Timeout i) g q = commit-tame (Timeout i) b i _ (timeout-cases (KeptBy (Timeout i) i (b .ctl i) (b .state .sent i)) n f i (b .ctl i)
       (λ st. first-live s i _ _ (leb-true _ _ (search (ask-l, ask-r, and-l, and-r) depth 14)) (leb-true _ _ (search (ask-l, ask-r, and-l, and-r) depth 14)) (search (ask-l, ask-r, and-l, and-r) depth 14) st)
       (λ e. second-live i _ _ (search (ask-l, ask-r, and-l, and-r) depth 14) (eqb-true _ _ (or-second (eqb (phase (b .ctl i)) 1) _ e (search (ask-l, ask-r, and-l, and-r) depth 14)))))
   perform-tame s b (Decide i w) g q = decide-tame b i w
-  perform-tame s b (Stop i) g q = absurd g
+  perform-tame s b (Stop i) g q = absurd (false≢true g)
   perform-tame s b (Save i) g q = save-tame b i
   perform-tame s b (OfBallots e) g q = unfold ballotsV in (λ k. live-refl (OfBallots e) k (b .ctl k) (b .state .sent k))
   perform-tame s b (Restore i) g q = commit-tame _ b i _ (restored-live _ i (identityV n f b i) (b .saved i) (b .ctl i) (b .state .sent i) (stopped-idle ((b .ctl i) .condition) (search (ask-l, ask-r, and-l, and-r) depth 14)))

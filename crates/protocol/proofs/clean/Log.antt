@@ -1,4 +1,5 @@
--- The clean order over the log of its accepted events, newest first, step by step; and the decision of a second timeout in it.
+-- The clean order over the log of its accepted events, newest first, step by step; and the decision of a second timeout in it. The acknowledgements that
+-- it holds are complete and, by the invariant, tell the votes as they were cast, so their word is that of the votes.
 use Prim.Native.Nat.{ℕ, suc, _≤_, _<_}
 use mathlib.Core.Path.{_≡_, _∙_, ap}
 use mathlib.Core.Bool.{Bool, true, false, not, _&&_, _||_, cond}
@@ -21,6 +22,7 @@ use Rattle.protocol.specs.declared.Controller.{Controller}
 use Rattle.protocol.specs.declared.Sent.{Sent}
 use Rattle.protocol.specs.Controllers.{runs, phase, outcome, hasAck, ackOf, advance, freeze, conclude}
 use Rattle.protocol.specs.Rules.{verdict, backupsComplete, secondKnows, decides, frozen, ready, secondTimeout}
+use Rattle.protocol.specs.Events.{concernsOne}
 use Rattle.protocol.specs.NoContradiction.{acksUnion}
 use Rattle.protocol.proofs.view.View.{View, accepts}
 use Rattle.protocol.proofs.view.Performed.{stepV}
@@ -34,16 +36,7 @@ In e (x ∷ log) = (e ≡ x) ⊎ In e log
 
 -- an accepted event enters the log; an order begins it anew
 unfoldable pub entered : Event → List Event → List Event
-entered (Lock a c own) log = []
-entered (Order o) log = []
-entered (Cast i w t) log = Cast i w t ∷ log
-entered (Deliver i j k) log = Deliver i j k ∷ log
-entered (Timeout i) log = Timeout i ∷ log
-entered (Decide i w) log = Decide i w ∷ log
-entered (Stop i) log = Stop i ∷ log
-entered (Save i) log = Save i ∷ log
-entered (OfBallots e) log = OfBallots e ∷ log
-entered (Restore i) log = Restore i ∷ log
+entered e log = cond (concernsOne e) (e ∷ log) []
 
 abbrev pub NotTimeout : Event → Type 0
 NotTimeout (Lock a c own) = Unit {0}
@@ -82,17 +75,12 @@ module _ (n f : ℕ) where
   abbrev pub Second : ℕ → List Event → Type 0
   Second i log = (suc f < i) ⊎ In (Timeout i) log
 
-  abbrev pub CleanStep : Event → List Event → Type 0
-  CleanStep (Lock a c own) log = Unit {0}
-  CleanStep (Order o) log = Unit {0}
-  CleanStep (Cast i w t) log = Unit {0}
-  CleanStep (Deliver i j k) log = Unit {0}
-  CleanStep (Timeout i) log = VotesIn log × (Second i log → AcksIn log)
-  CleanStep (Decide i w) log = Unit {0}
-  CleanStep (Stop i) log = ⊥
-  CleanStep (Save i) log = Unit {0}
-  CleanStep (OfBallots e) log = Unit {0}
-  CleanStep (Restore i) log = Unit {0}
+  abbrev pub CleanTimeout : ℕ → List Event → Type 0
+  CleanTimeout i log = VotesIn log × (Second i log → AcksIn log)
+
+  pub record CleanStep (e : Event) (log : List Event) : Type 0 where
+    pub timeouts : (i : ℕ) → e ≡ Timeout i → CleanTimeout i log
+    pub stops : (i : ℕ) → e ≡ Stop i → ⊥
 
   abbrev pub Clean : List Event → Type 0
   Clean [] = Unit {0}

@@ -1,4 +1,4 @@
--- The loops that a clean order is made of (specs/CleanOrders): what is in their logs.
+-- The loops that a clean order is made of (specs/CleanOrders): what is in their logs. By induction, loop by loop.
 use Prim.Native.Nat.{ℕ, zero, suc, _≤_}
 use mathlib.Core.Path.{_≡_, sym, _∙_, ap}
 use mathlib.Core.Bool.{Bool, true}

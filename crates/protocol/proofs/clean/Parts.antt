@@ -1,4 +1,6 @@
--- A clean order goes through three parts: before any timeout, before any second timeout, after it.
+-- A clean order goes through three parts: before any timeout, before any second timeout, after it. Each event keeps what its part knows of the
+-- controllers (Kept, Added); as a part ends all its messages are in, since the order is clean, and the next begins. In the last a second timeout decides
+-- (Log).
 use Prim.Native.Nat.{ℕ, suc, _≤_, _<_}
 use mathlib.Core.Path.{_≡_, refl, sym, _∙_, subst}
 use mathlib.Core.Bool.{Bool, true, false, not, _&&_, false≢true}
@@ -8,7 +10,7 @@ use native.Mathlib.Decide.{decLe, ℕ-discrete}
 use lib.Dec.{leb, eqb}
 use mathlib.Core.Logic.{_⊎_, inl, inr}
 use borrow.Author.Tests.{leb-true, le-leb, eqb-true, ne-eqb}
-use Rattle.ground.specs.Tests.{refuted, no-both, split, and-r, and-i, or-l, or-r, or-e, eqb-same}
+use Rattle.ground.specs.Tests.{refuted, no-both, split, and-r, and-i, or-l, or-r, or-e, eqb-same, and-l}
 use Rattle.ground.specs.MaskLaws.{has-none}
 use Rattle.ground.specs.Update.{upd-same}
 use Rattle.votes.specs.VoteSets.{knows}
@@ -23,13 +25,13 @@ use Rattle.protocol.specs.Rules.{decides, secondTimeout}
 use Rattle.protocol.specs.Benches.{unsentAll}
 use Rattle.protocol.specs.Questions.{firstNo}
 use Rattle.protocol.specs.Steps.{renewed, orderOpened}
-use Rattle.protocol.proofs.view.View.{ballotsV, View, newOrderState, openedV, accepts, ask-l, ask-r}
-use Rattle.protocol.proofs.view.Performed.{commitV, chosen, savedV, timeoutRule, performV, stepV, runV}
+use Rattle.protocol.proofs.view.View.{View, newOrderState, openedV, accepts, ask-l, ask-r}
+use Rattle.protocol.proofs.view.Performed.{commitV, timeoutRule, performV, stepV, runV, perform-order}
 use Rattle.protocol.proofs.invariant.Invariant.{votedBy, willBy, ackOn, ackedBy, Grows, Inv}
 use Rattle.protocol.proofs.invariant.Arrivals.{stage-bounds}
 use Rattle.protocol.proofs.invariant.Decisions.{Blank, renew-blank}
 use Rattle.protocol.proofs.invariant.Orders.{step-next, perform-next, next-inv, run-inv}
-use Rattle.protocol.proofs.clean.Log.{NotTimeout, In, Voted, VotesIn, AcksIn, Second, CleanStep, Clean, entered, pushV, logV, is-direct, decides-move, decides-stay}
+use Rattle.protocol.proofs.clean.Log.{NotTimeout, In, Voted, VotesIn, AcksIn, Second, CleanTimeout, Clean, entered, pushV, logV, is-direct, decides-move, decides-stay}
 use Rattle.protocol.proofs.clean.Kept.{PhaseMove, stays, times-out, voted, KeptAll, Goes, perform-tame}
 use Rattle.protocol.proofs.clean.Added.{NewVote, NewVoteTo, NewAckTo, NewTimeout, New, perform-new}
 
@@ -89,16 +91,16 @@ module _ (n f : ℕ) where
     low₂ = λ j r. let r₀ : runs (b .ctl j) ≡ true = back j r in A-phase e j _ _ nb (t j .phase r₀) .0 (a .low₂ j r₀);
     far = λ j r h. let r₀ : runs (b .ctl j) ≡ true = back j r in A-phase e j _ _ nb (t j .phase r₀) .2 h (a .far j r₀ h);
     votes = λ k w x i. elim i [
-      | inl q ↦ let v : NewVote n f b b′ k w = subst (λ z. New n f z b b′) (sym q) nw in (t k .running ∙ v .ran, v .begun)
+      | inl q ↦ let v : NewVote n f b b′ k w = nw .vote k w _ (sym q) in (t k .running ∙ v .ran, v .begun)
       | inr m ↦ let p : (runs (b .ctl k) ≡ true) × (1 ≤ phase (b .ctl k)) = a .votes k w x m in (t k .running ∙ p .0, phase-up e k _ _ 1 (t k .phase (p .0)) (omega arith) (p .1))
     ];
     heard = λ i j x. elim x [
-      | inl q ↦ let v : NewVoteTo n f b b′ i j = subst (λ z. New n f z b b′) (sym q) nw in (t j .running ∙ v .ran, v .known (a .low₁ j (v .ran) (route-low i j (v .route))))
+      | inl q ↦ let v : NewVoteTo n f b b′ i j = nw .vote-to i j (sym q) in (t j .running ∙ v .ran, v .known (a .low₁ j (v .ran) (route-low i j (v .route))))
       | inr m ↦ let p : (runs (b .ctl j) ≡ true) × (knows ((b .ctl j) .votes) i ≡ true) = a .heard i j m in (t j .running ∙ p .0, t j .votes (p .0) i (p .1))
     ];
     blank = λ j. refuted _ (λ h. elim (t j .acked h) [ inl p ↦ no-both _ (p .0) (a .blank j) | inr p ↦ subst NotTimeout (p .0) nb ]);
     no-acks = λ i j x. elim x [
-      | inl q ↦ let v : NewAckTo n f b b′ i j = subst (λ z. New n f z b b′) (sym q) nw in no-both _ (v .acked) (a .blank i)
+      | inl q ↦ let v : NewAckTo n f b b′ i j = nw .ack-to i j (sym q) in no-both _ (v .acked) (a .blank i)
       | inr m ↦ a .no-acks i j m
     ];
     no-timeouts = λ i x. elim x [ inl q ↦ subst NotTimeout (sym q) nb | inr m ↦ a .no-timeouts i m ];
@@ -130,7 +132,7 @@ module _ (n f : ℕ) where
       acks = λ j k x y u v h. elim (t j .acked h) [ inl p ↦ rw (p .1) (a .acks j k x y u v (p .0)) | inr p ↦ rw (p .1) (a .full j k x y u v) ];
       ack₂ = λ k x y h. elim (t (suc f) .acked h) [ inl p ↦ rw (p .1) (a .ack₂ k x y (p .0)) | inr p ↦ rw (p .1) (a .full₂ k x y) ];
       timed-out = λ j x y h. timed-out-by j x y (t j .phase (a .runs j x (omega arith))) h;
-      after-timeout = λ j x y h. elim h [ inl q ↦ let v : NewTimeout n f b b′ j = subst (λ z. New n f z b b′) (sym q) nw in v .after | inr m ↦ phase-up e j _ _ 2 (t j .phase (a .runs j x y)) (omega arith) (a .after-timeout j x y m) ];
+      after-timeout = λ j x y h. elim h [ inl q ↦ let v : NewTimeout n f b b′ j = nw .timeout j (sym q) in v .after | inr m ↦ phase-up e j _ _ 2 (t j .phase (a .runs j x y)) (omega arith) (a .after-timeout j x y m) ];
     }
       where
         timed-out-by : (j : ℕ) → 1 ≤ j → j ≤ suc f → PhaseMove n f e j (phase (b .ctl j)) (phase (b′ .ctl j)) → 2 ≤ phase (b′ .ctl j) → In (Timeout j) (e ∷ log)
@@ -181,7 +183,7 @@ module _ (n f : ℕ) where
       base = base-step b b′ e log (p .base) t nw;
       low = λ j x y. up j x y (t j .phase (p .base .runs j x y));
       held = λ i j m x y. elim m [
-        | inl q ↦ let v : NewAckTo n f b b′ i j = subst (λ z. New n f z b b′) (sym q) nw in v .held (p .low j x y)
+        | inl q ↦ let v : NewAckTo n f b b′ i j = nw .ack-to i j (sym q) in v .held (p .low j x y)
         | inr k ↦ t j .acks (p .base .runs j x y) i (p .held i j k x y)
       ];
     }
@@ -206,7 +208,7 @@ module _ (n f : ℕ) where
 
     told-step : (b b′ : View) (e : Event) (log : List Event) → Told b log → Grows (b .state .sent) (b′ .state .sent) → New n f e b b′ → Told b′ (e ∷ log)
     told-step b b′ e log h g nw k w t m = elim m [
-      | inl q ↦ let v : NewVote n f b b′ k w = subst (λ z. New n f z b b′) (sym q) nw in (v .cast, v .will)
+      | inl q ↦ let v : NewVote n f b b′ k w = nw .vote k w _ (sym q) in (v .cast, v .will)
       | inr x ↦ let p : (votedBy k (b .state .sent k) ≡ true) × (willBy k (b .state .sent k) ≡ w) = h k w t x in (g k .voted (p .0), g k .will (p .0) ∙ p .1)
     ]
 
@@ -230,7 +232,7 @@ module _ (n f : ℕ) where
     second-of : (b : View) (log : List Event) (i : ℕ) → Base b log → 1 ≤ i → phase (b .ctl i) ≡ 2 → Second n f i log
     second-of b log i a x s = elim (decLe i (suc f)) [ yes h ↦ inr (a .timed-out i x h (omega arith)) | no h ↦ inl (omega arith) ]
 
-    tidy-timeout : (b b′ : View) (i : ℕ) (log : List Event) → Inv n f b → CleanStep n f (Timeout i) log → KeptAll n f (Timeout i) b b′ → New n f (Timeout i) b b′ → Tidy b log → Tidy b′ (Timeout i ∷ log)
+    tidy-timeout : (b b′ : View) (i : ℕ) (log : List Event) → Inv n f b → CleanTimeout n f i log → KeptAll n f (Timeout i) b b′ → New n f (Timeout i) b b′ → Tidy b log → Tidy b′ (Timeout i ∷ log)
     tidy-timeout b b′ i log inv c t nw y = go (to-late b log inv (c .0) y)
       where
         same : (j : ℕ) → phase (b .ctl i) ≡ 1 → Timeout i ≡ Timeout j → phase (b .ctl j) ≡ 1
@@ -238,9 +240,9 @@ module _ (n f : ℕ) where
 
         go : Late b log → Tidy b′ (Timeout i ∷ log)
         go (inr p) = inr (inr (C-step b b′ (Timeout i) log p t nw))
-        go (inl p) = elim (nw .at-phase) [
+        go (inl p) = elim (nw .timeout i refl .at-phase) [
           | inl s ↦ inr (inl (B-step b b′ (Timeout i) log p t nw (λ j q. same j s q)))
-          | inr s ↦ inr (inr (C-step b b′ (Timeout i) log (B-to-C b log p (c .1 (second-of b log i (p .base) (nw .at .lo) s))) t nw))
+          | inr s ↦ inr (inr (C-step b b′ (Timeout i) log (B-to-C b log p (c .1 (second-of b log i (p .base) (nw .timeout i refl .at .lo) s))) t nw))
         ]
 
     pub record Good (b : View) (log : List Event) : Type 0 where
@@ -266,24 +268,11 @@ module _ (n f : ℕ) where
     unfolding openedV newOrderState unsentAll orderOpened renewed
     opened-good b o = blank-good (openedV n f b o) (λ k. renew-blank (b .ctl k)) (λ k. has-none k)
 
-    pub perform-order : (b : View) (e : Event) → Goes n f e → (performV n f b e) .order ≡ b .order
-    unfolding performV commitV chosen savedV ballotsV
-    perform-order b (Lock a c own) g = absurd g
-    perform-order b (Order o) g = absurd g
-    perform-order b (Cast i w t) g = refl
-    perform-order b (Deliver i j k) g = refl
-    perform-order b (Timeout i) g = refl
-    perform-order b (Decide i w) g = refl
-    perform-order b (Stop i) g = absurd g
-    perform-order b (Save i) g = refl
-    perform-order b (OfBallots e) g = refl
-    perform-order b (Restore i) g = refl
-
     module _ (1≤f : 1 ≤ f) (small : n ≤ limit) where
       perform-grows : (b : View) (e : Event) → Inv n f b → Goes n f e → accepts n f b e ≡ true → Grows (b .state .sent) ((performV n f b e) .state .sent)
       perform-grows b e inv g q = elim (perform-next n f f<n 1≤f small b e inv q) [
         | inl s ↦ s .keeps .lines
-        | inr s ↦ let h : b .order < (performV n f b e) .order = s .order in let o : (performV n f b e) .order ≡ b .order = perform-order b e g in absurd (omega arith)
+        | inr s ↦ let h : b .order < (performV n f b e) .order = s .order in let o : (performV n f b e) .order ≡ b .order = perform-order n f b e (and-l _ _ g) in absurd (omega arith)
       ]
 
       untimed-good : (b : View) (e : Event) (log : List Event) → Inv n f b → Goes n f e → NotTimeout e → accepts n f b e ≡ true → Good b log → Good (performV n f b e) (e ∷ log)
@@ -292,24 +281,24 @@ module _ (n f : ℕ) where
         told = told-step b (performV n f b e) e log (h .told) (perform-grows b e inv g q) (perform-new n f small b e inv q);
       }
 
-      timeout-good : (b : View) (i : ℕ) (log : List Event) → Inv n f b → CleanStep n f (Timeout i) log → accepts n f b (Timeout i) ≡ true → Good b log → Good (performV n f b (Timeout i)) (Timeout i ∷ log)
+      timeout-good : (b : View) (i : ℕ) (log : List Event) → Inv n f b → CleanTimeout n f i log → accepts n f b (Timeout i) ≡ true → Good b log → Good (performV n f b (Timeout i)) (Timeout i ∷ log)
       timeout-good b i log inv c q h = record {
-        tidy = tidy-timeout b (performV n f b (Timeout i)) i log inv c (perform-tame n f small b (Timeout i) tt q) (perform-new n f small b (Timeout i) inv q) (h .tidy);
-        told = told-step b (performV n f b (Timeout i)) (Timeout i) log (h .told) (perform-grows b (Timeout i) inv tt q) (perform-new n f small b (Timeout i) inv q);
+        tidy = tidy-timeout b (performV n f b (Timeout i)) i log inv c (perform-tame n f small b (Timeout i) refl q) (perform-new n f small b (Timeout i) inv q) (h .tidy);
+        told = told-step b (performV n f b (Timeout i)) (Timeout i) log (h .told) (perform-grows b (Timeout i) inv refl q) (perform-new n f small b (Timeout i) inv q);
       }
 
       perform-good : (b : View) (e : Event) (log : List Event) → Inv n f b → accepts n f b e ≡ true → (Clean n f log → Good b log) → Clean n f (entered e log) → Good (performV n f b e) (entered e log)
       unfolding entered
       perform-good b (Lock a x own) log inv q h c = unfold accepts firstNo in absurd (false≢true (ask-l _ _ _ (ask-r _ _ _ q)))
       perform-good b (Order o) log inv q h c = unfold performV in opened-good b o
-      perform-good b (Cast i w t) log inv q h c = untimed-good b _ log inv tt tt q (h (c .0))
-      perform-good b (Deliver i j k) log inv q h c = untimed-good b _ log inv tt tt q (h (c .0))
-      perform-good b (Timeout i) log inv q h c = timeout-good b i log inv (c .1) q (h (c .0))
-      perform-good b (Decide i w) log inv q h c = untimed-good b _ log inv tt tt q (h (c .0))
-      perform-good b (Stop i) log inv q h c = absurd (c .1)
-      perform-good b (Save i) log inv q h c = untimed-good b _ log inv tt tt q (h (c .0))
-      perform-good b (OfBallots e) log inv q h c = untimed-good b _ log inv tt tt q (h (c .0))
-      perform-good b (Restore i) log inv q h c = untimed-good b _ log inv tt tt q (h (c .0))
+      perform-good b (Cast i w t) log inv q h c = untimed-good b _ log inv refl tt q (h (c .0))
+      perform-good b (Deliver i j k) log inv q h c = untimed-good b _ log inv refl tt q (h (c .0))
+      perform-good b (Timeout i) log inv q h c = timeout-good b i log inv (c .1 .timeouts i refl) q (h (c .0))
+      perform-good b (Decide i w) log inv q h c = untimed-good b _ log inv refl tt q (h (c .0))
+      perform-good b (Stop i) log inv q h c = absurd (c .1 .stops i refl)
+      perform-good b (Save i) log inv q h c = untimed-good b _ log inv refl tt q (h (c .0))
+      perform-good b (OfBallots e) log inv q h c = untimed-good b _ log inv refl tt q (h (c .0))
+      perform-good b (Restore i) log inv q h c = untimed-good b _ log inv refl tt q (h (c .0))
 
       pub step-good : (b : View) (e : Event) (log : List Event) → Inv n f b → (Clean n f log → Good b log) → Clean n f (pushV n f b e log) → Good (stepV n f b e) (pushV n f b e log)
       unfolding stepV pushV
@@ -321,9 +310,9 @@ module _ (n f : ℕ) where
       run-good (e ∷ es) b log inv h = run-good es (stepV n f b e) (pushV n f b e log) (next-inv n f f<n 1≤f small b _ (step-next n f f<n 1≤f small b e inv)) (step-good b e log inv h)
 
       -- an accepted second timeout in a clean order
-      module _ (b : View) (log : List Event) (i : ℕ) (inv : Inv n f b) (good : Good b log) (q : accepts n f b (Timeout i) ≡ true) (sec : Second n f i log) (cl : CleanStep n f (Timeout i) log) where
+      module _ (b : View) (log : List Event) (i : ℕ) (inv : Inv n f b) (good : Good b log) (q : accepts n f b (Timeout i) ≡ true) (sec : Second n f i log) (cl : CleanTimeout n f i log) where
         nw : NewTimeout n f b (performV n f b (Timeout i)) i
-        nw = perform-new n f small b (Timeout i) inv q
+        nw = perform-new n f small b (Timeout i) inv q .timeout i refl
 
         last : PhaseC b log
         last = to-last b log (cl .1 sec) (to-late b log inv (cl .0) (good .tidy))
@@ -379,9 +368,9 @@ module _ (n f : ℕ) where
       late-base b log (inl p) = p .base
       late-base b log (inr p) = p .base
 
-      pub final : (b : View) (log : List Event) (i : ℕ) → Inv n f b → Good b log → accepts n f b (Timeout i) ≡ true → CleanStep n f (Timeout i) log → phase (b .ctl i) ≡ 2 → Final b log i
+      pub final : (b : View) (log : List Event) (i : ℕ) → Inv n f b → Good b log → accepts n f b (Timeout i) ≡ true → CleanTimeout n f i log → phase (b .ctl i) ≡ 2 → Final b log i
       final b log i inv good q cl p =
-          let nw : NewTimeout n f b (performV n f b (Timeout i)) i = perform-new n f small b (Timeout i) inv q in
+          let nw : NewTimeout n f b (performV n f b (Timeout i)) i = perform-new n f small b (Timeout i) inv q .timeout i refl in
           let sec : Second n f i log = second-of b log i (late-base b log (to-late b log inv (cl .0) (good .tidy))) (nw .at .lo) p in
           record { votes = cl .0; acks = cl .1 sec; direct = direct b log i inv good q sec cl }
 
@@ -396,4 +385,4 @@ module _ (n f : ℕ) where
       clean-decides b₀ inv₀ good₀ es i q sec cl =
           let inv : Inv n f (runV n f b₀ es) = run-inv n f f<n 1≤f small es b₀ inv₀ in
           let good : Good (runV n f b₀ es) (logV n f b₀ [] es) = run-good es b₀ [] inv₀ (λ c. good₀) (cl .0) in
-          record { move = λ h. rw q (moves-all _ _ i inv good q sec (cl .1) h); stay = λ k t x y m. rw q (stays-one _ _ i inv good q sec (cl .1) k t x y m) }
+          record { move = λ h. rw q (moves-all _ _ i inv good q sec (cl .1 .timeouts i refl) h); stay = λ k t x y m. rw q (stays-one _ _ i inv good q sec (cl .1 .timeouts i refl) k t x y m) }

@@ -1,4 +1,5 @@
--- A moment of a clean order that the bench can be brought to, by its log and the controllers' phases; and from one to the next.
+-- A moment of a clean order that the bench can be brought to, by its log and the controllers' phases; and from one to the next: what Ready says of the
+-- controllers lets the next event be accepted, and holds after it.
 use Prim.Native.Nat.{ℕ, _≤_}
 use mathlib.Core.Path.{_≡_, refl, sym, _∙_, ap, subst}
 use mathlib.Core.Bool.{false, Bool, true, false≢true}
@@ -22,20 +23,21 @@ use Rattle.protocol.specs.Calls.{renew}
 use Rattle.protocol.specs.Benches.{fresh, freshStation, benchOf, newBench, station}
 use Rattle.protocol.specs.Questions.{isAccepted, unless, firstNo, reply}
 use Rattle.protocol.specs.Steps.{orderOpened, perform, step, run, renewed}
+use Rattle.protocol.specs.Events.{concernsOne}
 use Rattle.protocol.specs.Claim.{after, Accepted}
 use Rattle.protocol.specs.CleanOrders.{deliveries, fromLock}
 use Rattle.ground.specs.Limit.{limit}
-use Rattle.protocol.proofs.view.View.{View, openedV, accepts}
+use Rattle.protocol.proofs.view.View.{View, openedV, accepts, all-of-copies}
 use Rattle.protocol.proofs.view.Performed.{performV, stepV}
 use Rattle.protocol.proofs.clean.Log.{entered}
-use Rattle.protocol.proofs.claim.Moments.{accepted-is, push, logOf, logAt, Enters, entry-of, run-append, run-one, log-append}
+use Rattle.protocol.proofs.lists.Moments.{accepted-is, push, logOf, logAt, entry-of, run-append, run-one, log-append}
 use Rattle.protocol.proofs.view.Simulation.{view, Sound, Steps, step-steps, reply-sim, step-sim}
-use Rattle.protocol.proofs.claim.Start.{all-of-copies, lock-sound}
+use Rattle.protocol.proofs.lists.Start.{lock-sound}
 use Rattle.protocol.proofs.clean.Loops.{rows-all}
 use Rattle.protocol.proofs.clean.Ready.{due, begun, ReadyAll, ElseSame, vote-accepted, vote-going, deliver-accepted, deliver-going, timeout-accepted, first-going, second-going}
 
 -- an accepted event that enters the log
-pub log-one : (es : List Event) (e : Event) → Enters e → Accepted es e → logAt (es ++ (e ∷ [])) ≡ (e ∷ logAt es)
+pub log-one : (es : List Event) (e : Event) → concernsOne e ≡ true → Accepted es e → logAt (es ++ (e ∷ [])) ≡ (e ∷ logAt es)
 unfolding logOf push
 log-one es e u a = log-append es (e ∷ []) newBench [] ∙ rw (accepted-is _ a) (entry-of (after es) e u .adds (logAt es))
 
@@ -68,7 +70,7 @@ module _ (n f : ℕ) (sized : sizesInRange n f ≡ true) where
     unfolding stepV
     performs e q = step-sim b (r .sound) e ∙ ap (λ (x : ℕ). stepV x (b .shared .f) v e) (r .is-n) ∙ ap (λ (x : ℕ). stepV n x v e) (r .is-f) ∙ rw q
 
-    extend : (p′ : ℕ → ℕ) (e : Event) → Enters e → accepts n f v e ≡ true → ReadyAll n f (performV n f v e) p′ → Reached (e ∷ log) p′
+    extend : (p′ : ℕ → ℕ) (e : Event) → concernsOne e ≡ true → accepts n f v e ≡ true → ReadyAll n f (performV n f v e) p′ → Reached (e ∷ log) p′
     extend p′ e u q g =
         let w : after (fromLock n f (e ∷ log)) ≡ step b e = ap after (one-later log e) ∙ run-append (fromLock n f log) (e ∷ []) newBench ∙ run-one e b in
         let s : Steps b (r .sound) (step b e) = step-steps b (r .sound) e in
@@ -81,13 +83,13 @@ module _ (n f : ℕ) (sized : sizesInRange n f ≡ true) where
         }
 
     pub cast-next : (p′ : ℕ → ℕ) (k : ℕ) (w : Bool) → 1 ≤ k → k ≤ n → p k ≡ 0 → p′ k ≡ begun f k → ElseSame k p p′ → Reached (Cast k w 0 ∷ log) p′
-    cast-next p′ k w lo hi e e′ same = extend p′ (Cast k w 0) tt (vote-accepted n f v p (r .going) k w lo hi e) (vote-going n f v p (r .going) (range .small) p′ k w e′ same)
+    cast-next p′ k w lo hi e e′ same = extend p′ (Cast k w 0) refl (vote-accepted n f v p (r .going) k w lo hi e) (vote-going n f v p (r .going) (range .small) p′ k w e′ same)
 
     pub timeout-next : (p′ : ℕ → ℕ) (k : ℕ) → 1 ≤ k → k ≤ n → p k ≡ 1 → p′ k ≡ 2 → ElseSame k p p′ → Reached (Timeout k ∷ log) p′
-    timeout-next p′ k lo hi e e′ same = extend p′ (Timeout k) tt (timeout-accepted n f v p (r .going) k lo hi (rw e)) (first-going n f v p (r .going) (range .small) p′ k lo hi e e′ same)
+    timeout-next p′ k lo hi e e′ same = extend p′ (Timeout k) refl (timeout-accepted n f v p (r .going) k lo hi (rw e)) (first-going n f v p (r .going) (range .small) p′ k lo hi e e′ same)
 
     pub end-next : (p′ : ℕ → ℕ) (k : ℕ) → 1 ≤ k → k ≤ n → p k ≡ 2 → p′ k ≡ 3 → ElseSame k p p′ → Reached (Timeout k ∷ log) p′
-    end-next p′ k lo hi e e′ same = extend p′ (Timeout k) tt (timeout-accepted n f v p (r .going) k lo hi (rw e)) (second-going n f v p (r .going) p′ k lo hi e e′ same)
+    end-next p′ k lo hi e e′ same = extend p′ (Timeout k) refl (timeout-accepted n f v p (r .going) k lo hi (rw e)) (second-going n f v p (r .going) p′ k lo hi e e′ same)
 
     -- phases named otherwise
     pub renamed : (p′ : ℕ → ℕ) → ((k : ℕ) → 1 ≤ k → k ≤ n → p′ k ≡ p k) → Reached log p′
@@ -96,7 +98,7 @@ module _ (n f : ℕ) (sized : sizesInRange n f ≡ true) where
   -- all messages of a kind
   pub deliver-all : (kind : Kind) (log : List Event) (p : ℕ → ℕ) → ((i : ℕ) → 1 ≤ i → i ≤ n → due kind (p i) ≡ true) → Reached log p → Reached (deliveries n f kind n log) p
   deliver-all kind log p sent = rows-all n f (λ l. Reached l p) kind (λ i j a b c d e l r.
-      extend r p (Deliver i j kind) tt (deliver-accepted n f _ p (r .going) kind i j a b c d (sent i a b) e) (deliver-going n f _ p (r .going) kind i j c d (sent i a b))) n (omega arith) log
+      extend r p (Deliver i j kind) refl (deliver-accepted n f _ p (r .going) kind i j a b c d (sent i a b) e) (deliver-going n f _ p (r .going) kind i j c d (sent i a b))) n (omega arith) log
 
   -- a lock, and its first order
   module _ (own : Bool) where

@@ -32,7 +32,7 @@ use Rattle.protocol.specs.Benches.{ofKind, sentAfter}
 use Rattle.protocol.specs.Questions.{unless, firstNo}
 use Rattle.protocol.proofs.view.View.{View, accepts}
 use Rattle.protocol.proofs.view.Performed.{commitV, timeoutRule, performV}
-use Rattle.protocol.proofs.claim.Sends.{sent-more}
+use Rattle.protocol.proofs.counting.Sends.{sent-more}
 use Rattle.protocol.proofs.clean.Added.{second-reaches}
 
 -- which messages a controller has sent by its phase; its phase after its vote

@@ -1,4 +1,4 @@
--- The bench is brought through a whole clean order: every event of it is accepted.
+-- The bench is brought through a whole clean order: every event of it is accepted. From one moment to the next (Reached), along the loops of the order.
 use Prim.Native.Nat.{ℕ, zero, suc, _≤_, _<_}
 use mathlib.Core.Path.{_≡_, refl, sym, _∙_}
 use mathlib.Core.Bool.{Bool, true, false, cond}

@@ -2,8 +2,8 @@
 -- timeout, every acknowledgement is delivered. Then the timeout of any controller is a second one, and the log with it is clean; so it stays while
 -- 1 to m have theirs.
 use Prim.Native.Nat.{ℕ, zero, suc, _≤_}
-use mathlib.Core.Path.{_≡_, refl}
-use mathlib.Core.Bool.{Bool}
+use mathlib.Core.Path.{_≡_, refl, sym, _∙_, ap, subst}
+use mathlib.Core.Bool.{Bool, false≢true, false}
 use mathlib.Core.List.{List, [], _∷_}
 use native.Mathlib.Omega.{arith}
 use native.Mathlib.Decide.{decLe}
@@ -14,9 +14,10 @@ use Rattle.model.specs.declared.Kind.the-variants.{Vote, Ack}
 use Rattle.model.specs.declared.Event.{Event}
 use Rattle.model.specs.declared.Event.the-variants.{Cast, Deliver, Timeout}
 use Rattle.protocol.specs.CleanOrders.{casts, timeouts, deliveries, allVoted, allAcked}
-use Rattle.protocol.proofs.clean.Log.{In, VotesIn, AcksIn, Second, Clean}
-use Rattle.protocol.proofs.clean.Steps.{votes-more, acks-more}
+use Rattle.protocol.proofs.clean.Log.{NotTimeout, In, VotesIn, AcksIn, Second, CleanTimeout, CleanStep, Clean}
+use Rattle.protocol.proofs.clean.Steps.{inject, votes-more, acks-more}
 use Rattle.protocol.proofs.clean.Loops.{differ, cast-in, cast-as, cast-calm, timeouts-in, timeouts-keep, timeouts-back, timeouts-low, rows-all, rows-keep, rows-back, rows-in}
+use Rattle.protocol.proofs.view.Kinds.{isStop}
 
 module _ (n f : ℕ) where
   one-more : (log : List Event) (e : Event) → VotesIn n f log → VotesIn n f (e ∷ log)
@@ -42,19 +43,25 @@ module _ (n f : ℕ) where
     timeouts-votes zero = voted-votes
     timeouts-votes (suc m) = one-more _ _ (timeouts-votes m)
 
+    -- votes and deliveries leave the log clean; so does a timeout that is not a second one, once the votes are in
+    calm : (e : Event) (log : List Event) → NotTimeout e → isStop e ≡ false → CleanStep n f e log
+    calm e log t s = record { timeouts = λ i z. absurd (subst NotTimeout z t); stops = λ i z. false≢true (sym s ∙ ap isStop z) }
+
+    timed : (i : ℕ) (log : List Event) → CleanTimeout n f i log → CleanStep n f (Timeout i) log
+    timed i log c = record { timeouts = λ j z. subst (λ k. CleanTimeout n f k log) (inject i j z) c; stops = λ j z. false≢true (ap isStop z) }
+
     cast-clean : (m : ℕ) → Clean n f (casts w m)
     unfolding casts
     cast-clean zero = tt
-    cast-clean (suc m) = (cast-clean m, tt)
+    cast-clean (suc m) = (cast-clean m, calm _ _ tt refl)
 
-    -- deliveries leave the log clean; so does a timeout that is not a second one, once the votes are in
     rows-clean : (kind : Kind) (log : List Event) → Clean n f log → Clean n f (deliveries n f kind n log)
-    rows-clean kind = rows-all n f (Clean n f) kind (λ i j a b c d r l h. (h, tt)) n (omega arith)
+    rows-clean kind = rows-all n f (Clean n f) kind (λ i j a b c d r l h. (h, calm _ l tt refl)) n (omega arith)
 
     timeouts-clean : (m : ℕ) → m ≤ suc f → Clean n f (timeouts m (allVoted n f w))
     unfolding timeouts
     timeouts-clean zero h = unfold allVoted in rows-clean Vote (casts w n) (cast-clean n)
-    timeouts-clean (suc m) h = (timeouts-clean m (omega arith), (timeouts-votes m, λ s. absurd (first s)))
+    timeouts-clean (suc m) h = (timeouts-clean m (omega arith), timed (suc m) _ (timeouts-votes m, λ s. absurd (first s)))
       where
         first : Second n f (suc m) (timeouts m (allVoted n f w)) → ⊥
         first (inl x) = omega arith
@@ -93,10 +100,10 @@ module _ (n f : ℕ) where
     pub ending-clean : (m : ℕ) → Clean n f (ending m)
     unfolding timeouts
     ending-clean zero = unfold allAcked in rows-clean Ack _ (timeouts-clean (suc f) (omega arith))
-    ending-clean (suc m) = (ending-clean m, (ending-votes m, λ s. ending-acks m))
+    ending-clean (suc m) = (ending-clean m, timed (suc m) _ (ending-votes m, λ s. ending-acks m))
 
     pub next-clean : (m i : ℕ) → Clean n f (Timeout i ∷ ending m)
-    next-clean m i = (ending-clean m, (ending-votes m, λ s. ending-acks m))
+    next-clean m i = (ending-clean m, timed i _ (ending-votes m, λ s. ending-acks m))
 
     -- the votes in it are those of w
     pub ending-cast : (m k : ℕ) → 1 ≤ k → k ≤ n → In (Cast k (w k) 0) (ending m)

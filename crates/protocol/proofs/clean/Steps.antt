@@ -10,7 +10,7 @@ use Rattle.model.specs.declared.Event.the-variants.{Lock, Order, Cast, Deliver,
 use Rattle.protocol.specs.Claim.{IsSecondTimeout, CastBy}
 use Rattle.protocol.specs.Claim as claim
 use Rattle.protocol.proofs.clean.Log.{NotTimeout, In, Voted, VotesIn, AcksIn, Second, CleanStep, Clean}
-use Rattle.protocol.proofs.claim.Moments.{logAt, same-head, same-tail, nil-split, Placed, placed, in-order, Stands, stands, in-log}
+use Rattle.protocol.proofs.lists.Moments.{logAt, same-head, same-tail, nil-split, Placed, placed, in-order, Stands, stands, in-log}
 
 record IsTimeout (e : Event) : Type 0 where
   at : ℕ
@@ -28,7 +28,7 @@ which (Save i) = inl tt
 which (OfBallots e) = inl tt
 which (Restore i) = inl tt
 
-inject : (i k : ℕ) → Timeout i ≡ Timeout k → i ≡ k
+pub inject : (i k : ℕ) → Timeout i ≡ Timeout k → i ≡ k
 inject i k p = cc
 
 -- a log is newest first: in log ≡ later ++ (e ∷ earlier) the events of earlier came before e
@@ -147,16 +147,10 @@ module _ (n f : ℕ) where
   ]
 
   one-step : (e : Event) (log : List Event) → CleanOrder (e ∷ log) → CleanStep n f e log
-  one-step (Lock a x own) log c = tt
-  one-step (Order o) log c = tt
-  one-step (Cast i w t) log c = tt
-  one-step (Deliver i j k) log c = tt
-  one-step (Timeout i) log c = (timeout-votes i log c, timeout-acks i log c)
-  one-step (Decide i w) log c = tt
-  one-step (Stop i) log c = absurd (c .stops i (inl refl))
-  one-step (Save i) log c = tt
-  one-step (OfBallots e) log c = tt
-  one-step (Restore i) log c = tt
+  one-step e log c = record {
+    timeouts = λ i z. let d : CleanOrder (Timeout i ∷ log) = subst (λ x. CleanOrder (x ∷ log)) z c in (timeout-votes i log d, timeout-acks i log d);
+    stops = λ i z. c .stops i (inl (sym z));
+  }
 
   pub clean-by-steps : (log : List Event) → CleanOrder log → Clean n f log
   clean-by-steps [] c = tt
@@ -165,31 +159,28 @@ module _ (n f : ℕ) where
   -- the statement's records, of the log at a moment
   votes-log : (es : List Event) → claim.VotesIn n f es → VotesIn n f (logAt es)
   votes-log es v = record {
-    votes = λ k a b. let c : CastBy n f es k = v .cast k a b in record { willing = c .willing; target = c .target; entry = in-log es _ tt (c .vote) };
-    sent = λ i j a b c d r. in-log es _ tt (v .delivered i j a b c d r);
+    votes = λ k a b. let c : CastBy n f es k = v .cast k a b in record { willing = c .willing; target = c .target; entry = in-log es _ refl (c .vote) };
+    sent = λ i j a b c d r. in-log es _ refl (v .delivered i j a b c d r);
   }
 
   acks-log : (es : List Event) → claim.AcksIn n f es → AcksIn n f (logAt es)
-  acks-log es v = record { sent = λ i j a b c d r. in-log es _ tt (v .delivered i j a b c d r) }
+  acks-log es v = record { sent = λ i j a b c d r. in-log es _ refl (v .delivered i j a b c d r) }
 
-  second-log : (es : List Event) (i : ℕ) → IsSecondTimeout n f es i → Second n f i (logAt es)
-  second-log es i (inl h) = inl h
-  second-log es i (inr t) = inr (in-log es (Timeout i) tt t)
+  pub second-is : (es : List Event) (i : ℕ) → IsSecondTimeout n f es i → Second n f i (logAt es)
+  second-is es i (inl h) = inl h
+  second-is es i (inr t) = inr (in-log es (Timeout i) refl t)
 
   pub log-second : (es : List Event) (i : ℕ) → Second n f i (logAt es) → IsSecondTimeout n f es i
   log-second es i (inl h) = inl h
   log-second es i (inr m) = inr (in-order es (Timeout i) m)
 
-  pub second-is : (es : List Event) (i : ℕ) → IsSecondTimeout n f es i → Second n f i (logAt es)
-  second-is = second-log
-
   pub clean-log : (es : List Event) → claim.Clean n f es → CleanOrder (logAt es)
   clean-log es c = record {
     stops = λ i m. c .no-stop i (in-order es (Stop i) m);
     votes = λ i earlier later p nb. let t : Placed es (Timeout i) earlier = placed es (Timeout i) earlier later p in
-        subst (VotesIn n f) (t .was) (votes-log (t .event .before) (c .votes-first i (t .event) (λ j u. nb j (subst (In (Timeout j)) (t .was) (in-log (t .event .before) (Timeout j) tt u)))));
+        subst (VotesIn n f) (t .was) (votes-log (t .event .before) (c .votes-first i (t .event) (λ j u. nb j (subst (In (Timeout j)) (t .was) (in-log (t .event .before) (Timeout j) refl u)))));
     acks = λ i earlier later p s ns. let t : Placed es (Timeout i) earlier = placed es (Timeout i) earlier later p in
         subst (AcksIn n f) (t .was) (acks-log (t .event .before) (c .acks-first i (t .event) (log-second (t .event .before) i (subst (Second n f i) (sym (t .was)) s))
-        (λ j u v. let k : Stands (t .event .before) (Timeout j) (u .before) = stands (t .event .before) (Timeout j) tt u in
-        ns j (logAt (u .before)) (k .later) (sym (t .was) ∙ k .is) (second-log (u .before) j v))));
+        (λ j u v. let k : Stands (t .event .before) (Timeout j) (u .before) = stands (t .event .before) (Timeout j) refl u in
+        ns j (logAt (u .before)) (k .later) (sym (t .was) ∙ k .is) (second-is (u .before) j v))));
   }

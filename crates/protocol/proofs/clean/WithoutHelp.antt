@@ -1,8 +1,8 @@
 -- A clean order goes without help. Its second timeouts decide, so nobody calls for help; a call that was not sent is not delivered (question 17), so nobody answers. No word
 -- is put, so the arbiter gives none (question 18), and an outcome comes of a second timeout alone, before which every vote and every acknowledgement was delivered.
 use Prim.Native.Nat.{ℕ, _≤_, _<_}
-use mathlib.Core.Path.{_≡_, refl, sym, _∙_, ap, subst}
-use mathlib.Core.Bool.{Bool, true, false, not, _&&_, false≢true}
+use mathlib.Core.Path.{_≡_, refl, sym, _∙_, ap}
+use mathlib.Core.Bool.{Bool, true, false, not, _&&_, false≢true, cond}
 use mathlib.Core.List.{List, [], _∷_}
 use native.Mathlib.Omega.{arith}
 use lib.Dec.{eqb}
@@ -25,6 +25,7 @@ use Rattle.model.specs.declared.Event.{Event}
 use Rattle.model.specs.declared.Event.the-variants.{Lock, Order, Cast, Deliver, Timeout, Decide, Stop, Save, Restore, OfBallots}
 use Rattle.protocol.specs.declared.Ballots.{Ballots}
 use Rattle.protocol.specs.declared.Consensus.{Consensus}
+use Rattle.protocol.specs.declared.Condition.the-variants.{Standby}
 use Rattle.protocol.specs.declared.Controller.{Controller}
 use Rattle.protocol.specs.declared.Answer.{Answer}
 use Rattle.protocol.specs.declared.Saved.{Saved}
@@ -32,20 +33,20 @@ use Rattle.protocol.specs.declared.Saved.the-variants.{Newest}
 use Rattle.protocol.specs.declared.Sent.{Sent}
 use Rattle.protocol.specs.Controllers.{isStopped, phase, outcome, hasAck, hasCalled, cleared, advance, learn, aim, keepAck, freeze, conclude}
 use Rattle.protocol.specs.Rules.{passedOver, becomes, verdict, voteRule, countOwn, firstTimeout, ackJoin, decides, sufficient, proposeIfSufficient, helpVotes, frozen, ready, secondTimeout}
-use Rattle.protocol.specs.Calls.{arrives, restore}
+use Rattle.protocol.specs.Calls.{arrives}
 use Rattle.protocol.specs.Benches.{ofKind, unsentAll, sentAfter}
 use Rattle.protocol.specs.Questions.{firstNo, wasProposed}
 use Rattle.protocol.specs.Steps.{renewed, orderOpened}
 use Rattle.protocol.specs.SentOnce.{receiversOf}
 use Rattle.protocol.proofs.view.View.{ballotsV, View, savedOrder, savedOutcome, openedV, accepts, ask-l, ask-r}
-use Rattle.protocol.proofs.view.Performed.{commitV, savedV, checkpointAt, identityV, timeoutRule, performV, stepV, runV}
+use Rattle.protocol.proofs.view.Performed.{commitV, savedV, checkpointAt, timeoutRule, performV, stepV, runV}
 use Rattle.protocol.proofs.view.RuleCases.{vote-cases, ack-cases, restore-cases, sufficient-cases, timeout-cases}
 use Rattle.protocol.proofs.invariant.Invariant.{Inv}
 use Rattle.protocol.proofs.invariant.Words.{none-word}
 use Rattle.protocol.proofs.invariant.Decisions.{Blank, renew-blank}
 use Rattle.protocol.proofs.invariant.Orders.{step-next, next-inv}
-use Rattle.protocol.proofs.claim.Sends.{sent-more}
-use Rattle.protocol.proofs.clean.Log.{In, VotesIn, AcksIn, CleanStep, Clean, entered, pushV, logV}
+use Rattle.protocol.proofs.counting.Sends.{sent-more}
+use Rattle.protocol.proofs.clean.Log.{In, VotesIn, AcksIn, CleanTimeout, Clean, entered, pushV, logV}
 use Rattle.protocol.proofs.clean.Steps.{votes-more, acks-more}
 use Rattle.protocol.proofs.clean.Parts.{Good, step-good, Final, final}
 
@@ -85,21 +86,16 @@ module _ (n f : ℕ) where
 
   -- the message that is delivered, if one is, was sent
   abbrev WasSent : View → Event → Type 0
-  WasSent b (Lock a c own) = Unit {0}
-  WasSent b (Order o) = Unit {0}
-  WasSent b (Cast i w t) = Unit {0}
-  WasSent b (Deliver i j kind) = has ((ofKind kind (b .state .sent i)) .to) j ≡ true
-  WasSent b (Timeout i) = Unit {0}
-  WasSent b (Decide i w) = Unit {0}
-  WasSent b (Stop i) = Unit {0}
-  WasSent b (Save i) = Unit {0}
-  WasSent b (OfBallots e) = Unit {0}
-  WasSent b (Restore i) = Unit {0}
+  WasSent b e = (i j : ℕ) (kind : Kind) → e ≡ Deliver i j kind → has ((ofKind kind (b .state .sent i)) .to) j ≡ true
+
+  was-sent : (b : View) (e : Event) → accepts n f b e ≡ true → WasSent b e
+  unfolding accepts firstNo
+  was-sent b e q i j kind z = let a : accepts n f b (Deliver i j kind) ≡ true = rw z at q in search (ask-l, ask-r) depth 14
 
   commit-without-help : (b : View) (log : List Event) (e : Event) (i : ℕ) (a : Answer) → WasSent b e → WithoutHelp b log → WithoutHelpBy (e ∷ log) a → WithoutHelp (commitV b i a) (e ∷ log)
   unfolding commitV
   commit-without-help b log e i a s q p = record {
-    sent = λ x y kind m. grows x y kind (elim m [ inl z ↦ subst (WasSent b) (sym z) s | inr z ↦ q .sent x y kind z ]);
+    sent = λ x y kind m. grows x y kind (elim m [ inl z ↦ s x y kind (sym z) | inr z ↦ q .sent x y kind z ]);
     no-help = upd-all (λ k (l : Sent). (j : ℕ) → has (l .help .to) j ≡ false) (b .state .sent) i l′ (λ j. sent-more n f (b .state .sent i) (a .sends) Help j ∙ or-no _ _ (q .no-help i j) (p .no-help j)) (q .no-help);
     no-helped = upd-all (λ k (l : Sent). (j : ℕ) → has (l .helped .to) j ≡ false) (b .state .sent) i l′ (λ j. sent-more n f (b .state .sent i) (a .sends) Helped j ∙ or-no _ _ (q .no-helped i j) (p .no-helped j)) (q .no-helped);
     none-waits = upd-all (λ k (c : Controller). c .help .waiting ≡ false) (b .ctl) i (a .controller) (p .waits) (q .none-waits);
@@ -156,7 +152,7 @@ module _ (n f : ℕ) where
       direct : WithoutHelpBy log (ready (helpVotes n c) (conclude (frozen n c) (verdict n (ackJoin n c))))
       direct = unfold ready conclude frozen freeze advance in record { no-help = has-none; no-helped = k; no-word = refl; waits = refl; held = λ v h. g }
 
-  deliver-without-help : (b : View) (log : List Event) (i j : ℕ) (kind : Kind) → WasSent b (Deliver i j kind) → WithoutHelp b log → WithoutHelpBy (Deliver i j kind ∷ log) (arrives kind n f i ((ofKind kind (b .state .sent i)) .votes) (b .ctl j))
+  deliver-without-help : (b : View) (log : List Event) (i j : ℕ) (kind : Kind) → has ((ofKind kind (b .state .sent i)) .to) j ≡ true → WithoutHelp b log → WithoutHelpBy (Deliver i j kind ∷ log) (arrives kind n f i ((ofKind kind (b .state .sent i)) .votes) (b .ctl j))
   unfolding arrives learn keepAck
   deliver-without-help b log i j Vote s q = let h : WithoutHelpNow (Deliver i j Vote ∷ log) (b .ctl j) = now b log (Deliver i j Vote) j q in
       vote-cases (WithoutHelpBy _) _ (b .ctl j) (λ p. becomes-without-help _ _ (record { waits = h .waits; held = h .held })) (passed-without-help _ _ h)
@@ -167,16 +163,15 @@ module _ (n f : ℕ) where
   deliver-without-help b log i j Helped s q = absurd (no-both _ s (q .no-helped i j))
 
   -- a checkpoint brings back an outcome of this order, or none
-  restored-without-help : (b : View) (log : List Event) (i : ℕ) → WithoutHelp b log → (x : Checkpoint) → b .saved i ≡ Newest x → WithoutHelpBy (Restore i ∷ log) (restore (identityV n f b i) x (b .ctl i))
-  unfolding restore cleared
-  restored-without-help b log i q x s = by-cond (WithoutHelpBy _) (isStopped ((b .ctl i) .condition)) _ _
-      (λ e. becomes-without-help _ _ (record { waits = refl; held = λ v. by-cond (λ (o : Outcome). o ≡ wordOf v → Delivered (Restore i ∷ log)) (eqb (x .order) (b .order)) (x .outcome) None (λ t h. more _ log (q .saved i v (ap savedOrder s ∙ eqb-true _ _ t) (ap savedOutcome s ∙ h))) (λ t h. none-word v h) }))
-      (λ e. passed-without-help _ _ (now b log (Restore i) i q))
+  restored-without-help : (b : View) (log : List Event) (i : ℕ) → WithoutHelp b log → (x : Checkpoint) → b .saved i ≡ Newest x → isStopped ((b .ctl i) .condition) ≡ true → WithoutHelpBy (Restore i ∷ log) (becomes (cleared (Standby (cond (eqb (x .order) (b .order)) (x .outcome) None)) (b .ctl i)))
+  unfolding cleared
+  restored-without-help b log i q x s z =
+      becomes-without-help _ _ (record { waits = refl; held = λ v. by-cond (λ (o : Outcome). o ≡ wordOf v → Delivered (Restore i ∷ log)) (eqb (x .order) (b .order)) (x .outcome) None (λ t h. more _ log (q .saved i v (ap savedOrder s ∙ eqb-true _ _ t) (ap savedOutcome s ∙ h))) (λ t h. none-word v h) })
 
-  ballot-without-help : (b : View) (log : List Event) (e : BallotEvent) (s : Ballots) → WithoutHelp b log → WithoutHelp (ballotsV b s) (OfBallots e ∷ log)
+  ballot-without-help : (b : View) (log : List Event) (e : BallotEvent) (s : Ballots) → WasSent b (OfBallots e) → WithoutHelp b log → WithoutHelp (ballotsV b s) (OfBallots e ∷ log)
   unfolding ballotsV
-  ballot-without-help b log e s q = record {
-    sent = λ x y kind m. elim m [ inl z ↦ subst (WasSent b) (sym z) tt | inr z ↦ q .sent x y kind z ];
+  ballot-without-help b log e s a q = record {
+    sent = λ x y kind m. elim m [ inl z ↦ a x y kind (sym z) | inr z ↦ q .sent x y kind z ];
     no-help = q .no-help;
     no-helped = q .no-helped;
     none-waits = q .none-waits;
@@ -186,10 +181,10 @@ module _ (n f : ℕ) where
     saved = λ k v o h. more _ log (q .saved k v o h);
   }
 
-  saved-without-help : (b : View) (log : List Event) (i : ℕ) → WithoutHelp b log → WithoutHelp (savedV b i (checkpointAt n f b i)) (Save i ∷ log)
+  saved-without-help : (b : View) (log : List Event) (i : ℕ) → WasSent b (Save i) → WithoutHelp b log → WithoutHelp (savedV b i (checkpointAt n f b i)) (Save i ∷ log)
   unfolding savedV
-  saved-without-help b log i q = record {
-    sent = λ x y kind m. elim m [ inl z ↦ subst (WasSent b) (sym z) tt | inr z ↦ q .sent x y kind z ];
+  saved-without-help b log i a q = record {
+    sent = λ x y kind m. elim m [ inl z ↦ a x y kind (sym z) | inr z ↦ q .sent x y kind z ];
     no-help = q .no-help;
     no-helped = q .no-helped;
     none-waits = q .none-waits;
@@ -218,7 +213,7 @@ module _ (n f : ℕ) where
   opened-without-help b o inv h = blank-without-help (openedV n f b o) (λ k. renew-blank (b .ctl k)) (λ k. refl) refl refl (λ k v e x. let old : savedOrder (b .saved k) ≤ b .order = inv .saved-old k in omega arith)
 
   module _ (f<n : f < n) (1≤f : 1 ≤ f) (small : n ≤ limit) where
-    timeout-without-help : (b : View) (log : List Event) (i : ℕ) → Inv n f b → Good n f f<n b log → WithoutHelp b log → CleanStep n f (Timeout i) log → accepts n f b (Timeout i) ≡ true → WithoutHelpBy (Timeout i ∷ log) (timeoutRule n f i (b .ctl i))
+    timeout-without-help : (b : View) (log : List Event) (i : ℕ) → Inv n f b → Good n f f<n b log → WithoutHelp b log → CleanTimeout n f i log → accepts n f b (Timeout i) ≡ true → WithoutHelpBy (Timeout i ∷ log) (timeoutRule n f i (b .ctl i))
     unfolding accepts firstNo
     timeout-without-help b log i inv good q cl a = timeout-cases (WithoutHelpBy _) n f i (b .ctl i)
         (λ p. first-without-help _ i (b .ctl i) (now b log (Timeout i) i q))
@@ -233,14 +228,14 @@ module _ (n f : ℕ) where
     unfolding entered performV accepts firstNo
     perform-without-help b (Lock a x own) log inv q g h c = absurd (false≢true (ask-l _ _ _ (ask-r _ _ _ q)))
     perform-without-help b (Order o) log inv q g h c = opened-without-help b o inv (leb-true _ _ (search (ask-l, ask-r, and-l, and-r) depth 14))
-    perform-without-help b (Cast i w t) log inv q g h c = commit-without-help b log (Cast i w t) i _ tt (h (c .0)) (vote-without-help _ i w t (b .ctl i) (now b log (Cast i w t) i (h (c .0))))
-    perform-without-help b (Deliver i j k) log inv q g h c = let s : WasSent b (Deliver i j k) = (search (ask-l, ask-r, and-l, and-r) depth 14) in commit-without-help b log (Deliver i j k) j _ s (h (c .0)) (deliver-without-help b log i j k s (h (c .0)))
-    perform-without-help b (Timeout i) log inv q g h c = commit-without-help b log (Timeout i) i _ tt (h (c .0)) (timeout-without-help b log i inv (g (c .0)) (h (c .0)) (c .1) q)
+    perform-without-help b (Cast i w t) log inv q g h c = commit-without-help b log (Cast i w t) i _ (was-sent b (Cast i w t) q) (h (c .0)) (vote-without-help _ i w t (b .ctl i) (now b log (Cast i w t) i (h (c .0))))
+    perform-without-help b (Deliver i j k) log inv q g h c = let s : WasSent b (Deliver i j k) = was-sent b (Deliver i j k) q in commit-without-help b log (Deliver i j k) j _ s (h (c .0)) (deliver-without-help b log i j k (s i j k refl) (h (c .0)))
+    perform-without-help b (Timeout i) log inv q g h c = commit-without-help b log (Timeout i) i _ (was-sent b (Timeout i) q) (h (c .0)) (timeout-without-help b log i inv (g (c .0)) (h (c .0)) (c .1 .timeouts i refl) q)
     perform-without-help b (Decide i w) log inv q g h c = absurd (no-both (wasProposed (b .state .consensus) w) (search (ask-l, ask-r, and-l, and-r) depth 14) (not-proposed (b .state .consensus) w (h (c .0) .no-move) (h (c .0) .no-stay)))
-    perform-without-help b (Stop i) log inv q g h c = absurd (c .1)
-    perform-without-help b (Save i) log inv q g h c = saved-without-help b log i (h (c .0))
-    perform-without-help b (OfBallots e) log inv q g h c = ballot-without-help b log e _ (h (c .0))
-    perform-without-help b (Restore i) log inv q g h c = commit-without-help b log (Restore i) i _ tt (h (c .0)) (restore-cases (WithoutHelpBy _) _ _ (b .ctl i) (restored-without-help b log i (h (c .0))) (passed-without-help _ _ (now b log (Restore i) i (h (c .0)))))
+    perform-without-help b (Stop i) log inv q g h c = absurd (c .1 .stops i refl)
+    perform-without-help b (Save i) log inv q g h c = saved-without-help b log i (was-sent b (Save i) q) (h (c .0))
+    perform-without-help b (OfBallots e) log inv q g h c = ballot-without-help b log e _ (was-sent b (OfBallots e) q) (h (c .0))
+    perform-without-help b (Restore i) log inv q g h c = commit-without-help b log (Restore i) i _ (was-sent b (Restore i) q) (h (c .0)) (restore-cases (WithoutHelpBy _) _ _ (b .ctl i) (restored-without-help b log i (h (c .0))) (passed-without-help _ _ (now b log (Restore i) i (h (c .0)))))
 
     step-without-help : (b : View) (e : Event) (log : List Event) → Inv n f b → (Clean n f log → Good n f f<n b log) → (Clean n f log → WithoutHelp b log) → Clean n f (pushV n f b e log) → WithoutHelp (stepV n f b e) (pushV n f b e log)
     unfolding stepV pushV

@@ -1,6 +1,7 @@
--- What each rule leaves alone: the vote sent, an outcome once held, the position but for a new Move of a running gate.
+-- What each rule leaves alone: the vote sent, an outcome once held, the position but for a new Move of a running gate. By the cases of each rule
+-- (view/RuleCases).
 use Prim.Native.Nat.{ℕ}
-use mathlib.Core.Path.{_≡_, refl, sym, _∙_, ap}
+use mathlib.Core.Path.{_≡_, refl, sym, _∙_, ap, subst}
 use mathlib.Core.Bool.{Bool, true, false, not, _&&_, true≢false, false≢true}
 use lib.Dec.{eqb}
 use mathlib.Core.Logic.{_⊎_, inl, inr}
@@ -10,22 +11,22 @@ use Rattle.votes.specs.declared.VoteSet.{VoteSet}
 use Rattle.model.specs.Ranges.{isBackup}
 use Rattle.model.specs.Numbers.{wordOf, isNone, isMove}
 use Rattle.model.specs.declared.Kind.{Kind}
-use Rattle.model.specs.declared.Kind.the-variants.{Vote, Ack, Help, Helped}
 use Rattle.model.specs.declared.Outcome.{Outcome}
 use Rattle.model.specs.declared.Outcome.the-variants.{None, Stay, Move}
 use Rattle.protocol.specs.declared.Condition.{Condition}
 use Rattle.protocol.specs.declared.Condition.the-variants.{Running, Stopped, Standby}
+use Rattle.protocol.specs.declared.Gate.{Gate}
 use Rattle.protocol.specs.declared.Controller.{Controller}
 use Rattle.protocol.specs.declared.Answer.{Answer}
 use Rattle.protocol.specs.declared.Sent.{Sent}
-use Rattle.protocol.specs.Controllers.{isRunning, outcomeIn, runs, phase, outcome, hasAck, cleared, advance, learn, aim, keepAck, keepHelped, freeze, addCaller, await, propose, orElse, noting, conclude, isStopped}
-use Rattle.protocol.specs.Rules.{keepsCall, answersCall, passedOver, becomes, proposing, verdict, voteRule, countOwn, firstTimeout, ackJoin, proposeIfSufficient, frozen, ready, callsHelp, secondTimeout, helpVotes}
+use Rattle.protocol.specs.Controllers.{isRunning, outcomeIn, runs, phase, outcome, hasAck, cleared, advance, learn, aim, keepAck, keepHelped, freeze, addCaller, await, propose, orElse, noting, conclude}
+use Rattle.protocol.specs.Rules.{answersCall, passedOver, becomes, proposing, verdict, voteRule, countOwn, firstTimeout, ackJoin, proposeIfSufficient, frozen, ready, callsHelp, secondTimeout, helpVotes}
 use Rattle.protocol.specs.declared.Identity.{Identity}
 use Rattle.protocol.specs.declared.Saved.{Saved}
-use Rattle.protocol.specs.Calls.{arrives, restore}
+use Rattle.protocol.specs.Calls.{arrives}
 use Rattle.protocol.specs.Events.{restoreFrom}
 use Rattle.protocol.specs.Benches.{sentAfter}
-use Rattle.protocol.proofs.view.RuleCases.{vote-cases, ack-cases, help-cases, helped-cases, sufficient-cases, second-cases, restore-cases}
+use Rattle.protocol.proofs.view.RuleCases.{sufficient-cases, second-cases, restore-cases, arrives-cases}
 use Rattle.protocol.proofs.view.Performed.{timeoutRule}
 use Rattle.protocol.proofs.invariant.Words.{some-word}
 
@@ -100,16 +101,15 @@ unfolding cleared
 cleared-framed k c l e = becomes-framed c _ l (λ h r. absurd (true≢false (sym r ∙ e))) (inl refl)
 
 pub restore-framed : (me : Identity) (s : Saved) (c : Controller) (l : Sent) → Framed c l (restoreFrom me s c)
-unfolding restore
-restore-framed me s c l = restore-cases (Framed c l) me s c (λ x q. by-cond (Framed c l) (isStopped (c .condition)) _ _ (λ e. cleared-framed (Standby _) c l refl) (λ e. passed-over-framed c l)) (passed-over-framed c l)
+restore-framed me s c l = restore-cases (Framed c l) me s c (λ x q e. cleared-framed (Standby _) c l refl) (passed-over-framed c l)
 
 -- a restore leaves the position, also of one that does not run
 pub record Still (c : Controller) (a : Answer) : Type 0 where
   pub position : a .controller .gate .position ≡ c .gate .position
 
 pub restore-position : (me : Identity) (s : Saved) (c : Controller) → Still c (restoreFrom me s c)
-unfolding restore passedOver becomes cleared
-restore-position me s c = restore-cases (Still c) me s c (λ x q. by-cond (Still c) (isStopped (c .condition)) _ _ (λ e. record { position = refl }) (λ e. record { position = refl })) (record { position = refl })
+unfolding passedOver becomes cleared
+restore-position me s c = restore-cases (Still c) me s c (λ x q e. record { position = refl }) (record { position = refl })
 
 module _ (n f : ℕ) where
   settle-framed : (c : Controller) (l : Sent) (a : Answer) → Framed c l a → Framed c l (proposeIfSufficient n f a)
@@ -118,17 +118,8 @@ module _ (n f : ℕ) where
       (λ e. record { vote = h .vote; taken = h .taken; gate = elim (h .gate) [ inl p ↦ inl p | inr m ↦ inr (record { ran = m .ran; free = m .free; taken = m .taken }) ] }) (λ e. h)
 
   pub arrives-framed : (kind : Kind) (j : ℕ) (s : VoteSet) (c : Controller) (l : Sent) → Framed c l (arrives kind n f j s c)
-  unfolding arrives learn keepAck keepHelped
-  arrives-framed Vote j s c l = vote-cases (Framed c l) s c (λ e. becomes-framed c _ l (λ h. h) (inl refl)) (passed-over-framed c l)
-  arrives-framed Ack j s c l = ack-cases (Framed c l) n f j s c (λ e. settle-framed c l _ (becomes-framed c _ l (λ h. h) (inl refl))) (λ e. passed-over-framed c l)
-  arrives-framed Help j s c l = help-cases (Framed c l) j c (λ p. kept-framed) (λ p e. answered-framed) (λ e. passed-over-framed c l)
-    where
-      kept-framed : Framed c l (keepsCall j c)
-      kept-framed = unfold keepsCall becomes addCaller sentAfter in record { vote = refl; taken = λ h. h; gate = inl refl }
-
-      answered-framed : Framed c l (answersCall j c)
-      answered-framed = unfold answersCall addCaller sentAfter in record { vote = refl; taken = λ h. h; gate = inl refl }
-  arrives-framed Helped j s c l = helped-cases (Framed c l) n f j s c (λ p e. settle-framed c l _ (becomes-framed c _ l (λ h. h) (inl refl))) (λ e. passed-over-framed c l)
+  arrives-framed kind j s c l = arrives-cases (Framed c l) n f kind j s c (λ c′ q. becomes-framed c c′ l (subst TakenIn (sym (q .condition))) (inl (ap (λ (g : Gate). g .position) (q .gate)))) (settle-framed c l)
+      (λ z p q. unfold answersCall addCaller sentAfter in record { vote = refl; taken = λ h. h; gate = inl refl }) (passed-over-framed c l)
 
   first-framed : (i : ℕ) (c : Controller) (l : Sent) → runs c ≡ true → Framed c l (firstTimeout n f i c)
   unfolding firstTimeout advance sentAfter

@@ -1,4 +1,5 @@
--- No Move without every willing vote accepted before; a gate moves at most once in an order.
+-- No Move without every willing vote accepted before; a gate moves at most once in an order. Of one event: a willing vote is new by that vote alone, an
+-- outcome stays, and a gate moves only as its controller gets its outcome (Frames). Then along the list.
 use Prim.Native.Nat.{ℕ, _≤_, _<_}
 use mathlib.Core.Path.{_≡_, refl, sym, _∙_, ap}
 use mathlib.Core.Bool.{Bool, true, false≢true}

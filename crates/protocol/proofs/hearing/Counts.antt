@@ -1,4 +1,4 @@
--- Counts of those who pass a test, of those who do not, and of those who pass one of two.
+-- Counts of those who pass a test, of those who do not, and of those who pass one of two. By induction on how many are counted.
 use Prim.Native.Nat.{ℕ, zero, suc, _+_, _≤_, _<_}
 use mathlib.Core.Path.{_≡_, refl}
 use mathlib.Core.Bool.{Bool, true, false, not}

@@ -1,4 +1,5 @@
--- Every accepted event keeps what the running controllers have done with what came to them; so it holds at every moment of every list.
+-- Every accepted event keeps what the running controllers have done with what came to them (Listening): the answer of its controller gives what it owes
+-- (RuleSteps), and the others have the same and one event more in the log, which adds nothing to them.
 use Prim.Native.Nat.{ℕ, _≤_, _<_}
 use mathlib.Core.Path.{_≡_, refl, sym, _∙_, ap}
 use mathlib.Core.Bool.{Bool, true, false, not, _&&_, _||_, false≢true}
@@ -17,7 +18,6 @@ use Rattle.model.specs.Ranges.{isController, isBackup}
 use Rattle.model.specs.Numbers.{wordOf, isMove, isStay}
 use Rattle.model.specs.declared.Kind.the-variants.{Vote, Ack, Help, Helped}
 use Rattle.model.specs.declared.Outcome.{Outcome}
-use Rattle.model.specs.declared.Outcome.the-variants.{None}
 use Rattle.model.specs.declared.BallotEvent.{BallotEvent}
 use Rattle.model.specs.declared.Event.{Event}
 use Rattle.model.specs.declared.Event.the-variants.{Lock, Order, Cast, Deliver, Timeout, Decide, Stop, Save, Restore, OfBallots}
@@ -26,9 +26,9 @@ use Rattle.protocol.specs.declared.Condition.the-variants.{Stopped, Stan
 use Rattle.protocol.specs.declared.Controller.{Controller}
 use Rattle.protocol.specs.declared.Answer.{Answer}
 use Rattle.protocol.specs.declared.Consensus.{Consensus}
-use Rattle.protocol.specs.Controllers.{isRunning, isStopped, runs, phase, hasAck, hasCalled, inPhase, cleared, advance, learn, aim, keepAck, keepHelped, freeze, addCaller, await, propose, conclude}
+use Rattle.protocol.specs.Controllers.{isRunning, isStopped, runs, phase, hasAck, hasCalled, cleared, advance, learn, aim, keepAck, keepHelped, freeze, addCaller, await, propose, conclude}
 use Rattle.protocol.specs.Rules.{passedOver, becomes, proposing, verdict, voteRule, countOwn, firstTimeout, ackJoin, proposeIfSufficient, helpVotes, frozen, ready, callsHelp, secondTimeout, keepsCall, answersCall, voteArrives, ackArrives, helpedArrives, helpArrives}
-use Rattle.protocol.specs.Calls.{arrives, restore, renew}
+use Rattle.protocol.specs.Calls.{arrives, renew}
 use Rattle.protocol.specs.Steps.{renewed}
 use Rattle.protocol.specs.Benches.{unsentAll, sentAfter}
 use Rattle.protocol.specs.Events.{subject}
@@ -43,9 +43,10 @@ use Rattle.protocol.proofs.invariant.SecondTimeout.{beyond}
 use Rattle.protocol.proofs.invariant.Decisions.{Blank, renew-blank}
 use Rattle.protocol.proofs.clean.Kept.{stopped-idle}
 use Rattle.protocol.proofs.clean.Log.{entered}
-use Rattle.protocol.proofs.claim.Sends.{sent-more}
+use Rattle.protocol.proofs.counting.Sends.{sent-more}
 use Rattle.protocol.proofs.hearing.Listening.{came-more, Listening, Follows, listening-on, listening-other}
 use Rattle.protocol.proofs.hearing.RuleSteps.{vote-follows, vote-in-follows, ack-in-follows, helped-in-follows, help-in-follows, decide-follows, first-follows, second-follows}
+use Rattle.protocol.proofs.paxos.Order.{unput}
 
 -- what is put stays put
 put-before : (w : Bool) (k : Consensus) (m s : Bool) → wasProposed k w ≡ true → wasProposed (record { «move_proposed» = k .«move_proposed» || m; «stay_proposed» = k .«stay_proposed» || s; decision = k .decision }) w ≡ true
@@ -192,9 +193,6 @@ module _ (n f : ℕ) where
       asked = λ k i e. none-has i e;
       put = λ i w e. none-word w (sym (unput (v .ctl i)) ∙ e);
     }
-      where
-        unput : (c : Controller) → (renew c) .proposal ≡ None
-        unput c = unfold renew cleared in by-cond (λ (x : Controller). x .proposal ≡ None) (isStopped (c .condition)) (cleared Stopped c) (cleared (inPhase 0 None) c) (λ e. refl) (λ e. refl)
 
     -- one that did not run does not run after
     not-now : (e : Event) (j : ℕ) (a : Answer) → runs (a .controller) ≡ false → runs (a .controller) ≡ true
@@ -234,10 +232,9 @@ module _ (n f : ℕ) where
         follows r = unfold chosen in (ran (unfold becomes in r), λ x. decide-follows n f i (v .ctl i) (v .state .sent i) (x .stands) (x .short) w (unfold becomes in r))
 
     restored-heard : (i : ℕ) → isStopped ((v .ctl i) .condition) ≡ true → Heard (performV n f v (Restore i)) (Restore i ∷ log)
-    unfolding performV restore
+    unfolding performV
     restored-heard i z = restore-cases (λ a. Heard (commitV v i a) (Restore i ∷ log)) (identityV n f v i) (v .saved i) (v .ctl i)
-        (λ x q. by-cond (λ a. Heard (commitV v i a) (Restore i ∷ log)) (isStopped ((v .ctl i) .condition)) _ _
-        (λ y. cleared-heard (Restore i) i refl (Standby _) refl) (λ y. absurd (no-both _ z y)))
+        (λ x q y. cleared-heard (Restore i) i refl (Standby _) refl)
         (commit-heard v log (Restore i) i (passedOver (v .ctl i)) refl h (passed-proper v i) (not-now (Restore i) i (passedOver (v .ctl i)) (unfold passedOver in stopped-idle ((v .ctl i) .condition) z)))
 
     pub perform-heard : (e : Event) → accepts n f v e ≡ true → Heard (performV n f v e) (entered e log)

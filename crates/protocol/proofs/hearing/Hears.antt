@@ -28,8 +28,8 @@ use Rattle.protocol.specs.Termination.{RunsAt, WasGiven, Premise, few-do
 use Rattle.protocol.proofs.view.Simulation.{view}
 use Rattle.protocol.proofs.invariant.Invariant.{Own}
 use Rattle.protocol.proofs.clean.Log.{In}
-use Rattle.protocol.proofs.claim.Moments.{logAt, in-log}
-use Rattle.protocol.proofs.claim.Start.{start}
+use Rattle.protocol.proofs.lists.Moments.{logAt, in-log}
+use Rattle.protocol.proofs.lists.Start.{start}
 use Rattle.protocol.proofs.hearing.Counts.{count-cover, count-both}
 use Rattle.protocol.proofs.hearing.Listening.{Listening}
 use Rattle.protocol.proofs.hearing.Moments.{HeardAt, heard-at}
@@ -62,7 +62,7 @@ module _ (es : List Event) (h : HeardAt (after es) (logAt es)) (m : (p : Premise
   at-3 i r = let q : phase (controller b i) ≡ 3 = sym (stage-is ((controller b i) .condition) (r .running)) ∙ m at-stage-3 i r in omega arith
 
   came : (kind : Kind) (i j : ℕ) → WasSent b kind i j → RunsAt es j → In (Deliver i j kind) (logAt es)
-  came kind i j s r = in-log es (Deliver i j kind) tt (m delivered kind i j s r)
+  came kind i j s r = in-log es (Deliver i j kind) refl (m delivered kind i j s r)
 
   module _ (i : ℕ) (r : RunsAt es i) where
     abbrev c : Controller
@@ -100,7 +100,7 @@ module _ (es : List Event) (h : HeardAt (after es) (logAt es)) (m : (p : Premise
       | inr e ↦ e
       | inl e ↦ elim (split (isNone (c .proposal))) [
         | inl p ↦ absurd (waits-not (listens i r .stands .ended (at-3 i r) e p))
-        | inr p ↦ let g : WasGiven es i = m answered i r p in listens i r .came .decisions (g .move) (in-log es (Decide i (g .move)) tt (g .event))
+        | inr p ↦ let g : WasGiven es i = m answered i r p in listens i r .came .decisions (g .move) (in-log es (Decide i (g .move)) refl (g .event))
       ]
     ]
 

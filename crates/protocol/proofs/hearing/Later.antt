@@ -9,13 +9,12 @@ use lib.Dec.{eqb}
 use mathlib.Core.Logic.{inl, inr}
 use borrow.Author.Tests.{eqb-true}
 use Rattle.ground.specs.Limit.{limit}
-use Rattle.ground.specs.Tests.{split}
+use Rattle.ground.specs.Tests.{split, and-l}
 use Rattle.ground.specs.Mask.{has}
 use Rattle.ground.specs.Update.{upd-other, upd-all}
 use Rattle.model.specs.QuestionLaws.{is-accepted}
 use Rattle.model.specs.declared.Kind.{Kind}
 use Rattle.model.specs.declared.Event.{Event}
-use Rattle.model.specs.declared.Event.the-variants.{Lock, Order, Cast, Deliver, Timeout, Decide, Stop, Save, Restore, OfBallots}
 use Rattle.protocol.specs.declared.Condition.{Condition}
 use Rattle.protocol.specs.declared.Condition.the-variants.{Running, Stopped, Standby}
 use Rattle.protocol.specs.declared.Controller.{Controller}
@@ -24,21 +23,20 @@ use Rattle.protocol.specs.declared.Sent.{Sent}
 use Rattle.protocol.specs.declared.Bench.{Bench}
 use Rattle.protocol.specs.Controllers.{isRunning, isStopped, runs, phase}
 use Rattle.protocol.specs.Benches.{newBench, ofKind, sentAfter}
-use Rattle.protocol.specs.Events.{subject}
+use Rattle.protocol.specs.Events.{concernsOne, subject}
 use Rattle.protocol.specs.Steps.{step, orderOpened}
 use Rattle.protocol.specs.SentOnce.{receiversOf, sendOf}
 use Rattle.protocol.specs.Claim.{after, Accepted}
 use Rattle.protocol.proofs.view.View.{View, ballotsV, openedV, accepts}
-use Rattle.protocol.proofs.view.Performed.{commitV, chosen, savedV, performV, stepV}
+use Rattle.protocol.proofs.view.Performed.{commitV, chosen, savedV, performV, stepV, by-effect, perform-order}
 use Rattle.protocol.proofs.view.Simulation.{view, Sound, Steps, step-steps, reply-sim, step-sim}
 use Rattle.protocol.proofs.invariant.Invariant.{Inv}
 use Rattle.protocol.proofs.invariant.Orders.{perform-next, next-inv}
 use Rattle.protocol.proofs.clean.Log.{In}
 use Rattle.protocol.proofs.clean.Kept.{PhaseMove, stays, times-out, voted, KeptAll, Goes, perform-tame}
-use Rattle.protocol.proofs.clean.Parts.{perform-order}
 use Rattle.protocol.proofs.clean.Reached.{log-one}
-use Rattle.protocol.proofs.claim.Moments.{logAt, Enters, entry-of, append-assoc, run-append, run-one}
-use Rattle.protocol.proofs.claim.Sends.{sent-more}
+use Rattle.protocol.proofs.lists.Moments.{logAt, entry-of, append-assoc, run-append, run-one}
+use Rattle.protocol.proofs.counting.Sends.{sent-more}
 use Rattle.protocol.proofs.hearing.Events.{Heard, perform-heard}
 
 abbrev pub viewAt : List Event → View
@@ -53,43 +51,6 @@ phases-up : (n f : ℕ) (e : Event) (j s s′ : ℕ) → PhaseMove n f e j s s�
 phases-up n f e j s s′ (stays p) = omega arith
 phases-up n f e j s s′ (times-out q p) = omega arith
 phases-up n f e j s s′ (voted w t q z p) = omega arith
-
--- an event of a running controller
-abbrev pub Acts : Event → Type 0
-Acts (Lock a c own) = ⊥
-Acts (Order o) = ⊥
-Acts (Cast i w t) = Unit {0}
-Acts (Deliver i j k) = Unit {0}
-Acts (Timeout i) = Unit {0}
-Acts (Decide i w) = Unit {0}
-Acts (Stop i) = ⊥
-Acts (Save i) = ⊥
-Acts (OfBallots e) = Unit {0}
-Acts (Restore i) = ⊥
-
-acts-goes : (n f : ℕ) (e : Event) → Acts e → Goes n f e
-acts-goes n f (Lock a c own) t = absurd t
-acts-goes n f (Order o) t = absurd t
-acts-goes n f (Cast i w t) u = tt
-acts-goes n f (Deliver i j k) u = tt
-acts-goes n f (Timeout i) u = tt
-acts-goes n f (Decide i w) u = tt
-acts-goes n f (Stop i) t = absurd t
-acts-goes n f (Save i) t = absurd t
-acts-goes n f (OfBallots e) u = tt
-acts-goes n f (Restore i) t = absurd t
-
-acts-enters : (e : Event) → Acts e → Enters e
-acts-enters (Lock a c own) t = absurd t
-acts-enters (Order o) t = absurd t
-acts-enters (Cast i w t) u = tt
-acts-enters (Deliver i j k) u = tt
-acts-enters (Timeout i) u = tt
-acts-enters (Decide i w) u = tt
-acts-enters (Stop i) t = absurd t
-acts-enters (Save i) t = absurd t
-acts-enters (OfBallots e) u = tt
-acts-enters (Restore i) t = absurd t
 
 pub no-more : (es : List Event) → es ≡ es ++ []
 no-more [] = refl
@@ -106,17 +67,8 @@ module _ (n f o : ℕ) (f<n : f < n) (1≤f : 1 ≤ f) (small : n ≤ limit) whe
     pub heard : Heard n f (viewAt es) (logAt es)
 
   own-stays : (v : View) (e : Event) → (performV n f v e) .own ≡ v .own
-  unfolding performV commitV chosen savedV ballotsV openedV orderOpened
-  own-stays v (Lock a c own) = refl
-  own-stays v (Order o) = refl
-  own-stays v (Cast i w t) = refl
-  own-stays v (Deliver i j k) = refl
-  own-stays v (Timeout i) = refl
-  own-stays v (Decide i w) = refl
-  own-stays v (Stop i) = refl
-  own-stays v (Save i) = refl
-  own-stays v (Restore i) = refl
-  own-stays v (OfBallots e) = refl
+  unfolding commitV chosen savedV ballotsV openedV orderOpened
+  own-stays v e = by-effect n f v (λ e w. w .own ≡ v .own) (λ a c own. refl) (λ o. refl) (λ e c. refl) (λ i w. refl) (λ i. refl) (λ e. refl) e
 
   module _ (es : List Event) (m : Moment es) (e : Event) (q : accepts n f (viewAt es) e ≡ true) where
     pub taken : Accepted es e
@@ -129,10 +81,10 @@ module _ (n f o : ℕ) (f<n : f < n) (1≤f : 1 ≤ f) (small : n ≤ limit) whe
     unfolding stepV
     performs = ap view then ∙ step-sim (after es) (m .sound) e ∙ ap (λ (x : ℕ). stepV x ((after es) .shared .f) (viewAt es) e) (m .is-n) ∙ ap (λ (x : ℕ). stepV n x (viewAt es) e) (m .is-f) ∙ rw q
 
-    pub logs : Enters e → logAt (es ++ (e ∷ [])) ≡ (e ∷ logAt es)
+    pub logs : concernsOne e ≡ true → logAt (es ++ (e ∷ [])) ≡ (e ∷ logAt es)
     logs u = log-one es e u taken
 
-    pub moment-next : Enters e → (performV n f (viewAt es) e) .order ≡ (viewAt es) .order → Moment (es ++ (e ∷ []))
+    pub moment-next : concernsOne e ≡ true → (performV n f (viewAt es) e) .order ≡ (viewAt es) .order → Moment (es ++ (e ∷ []))
     moment-next u w =
         let s : Steps (after es) (m .sound) (step (after es) e) = step-steps (after es) (m .sound) e in
         record {
@@ -175,37 +127,29 @@ module _ (n f o : ℕ) (f<n : f < n) (1≤f : 1 ≤ f) (small : n ≤ limit) whe
   }
 
   -- a controller that an event does not concern
-  pub other : (v : View) (e : Event) → Acts e → (k : ℕ) → eqb k (subject e) ≡ false → (performV n f v e) .ctl k ≡ v .ctl k
-  unfolding performV commitV chosen ballotsV
-  other v (Lock a c own) t k d = absurd t
-  other v (Order x) t k d = absurd t
-  other v (Cast i w t) u k d = upd-other (v .ctl) i _ k d
-  other v (Deliver i j x) u k d = upd-other (v .ctl) j _ k d
-  other v (Timeout i) u k d = upd-other (v .ctl) i _ k d
-  other v (Decide i w) u k d = upd-other (v .ctl) i _ k d
-  other v (Stop i) t k d = absurd t
-  other v (Save i) t k d = absurd t
-  other v (OfBallots e) u k d = refl
-  other v (Restore i) t k d = absurd t
+  pub other : (v : View) (e : Event) → concernsOne e ≡ true → (k : ℕ) → eqb k (subject e) ≡ false → (performV n f v e) .ctl k ≡ v .ctl k
+  unfolding commitV chosen savedV ballotsV
+  other v e c k = by-effect n f v (λ e w. concernsOne e ≡ true → eqb k (subject e) ≡ false → w .ctl k ≡ v .ctl k) (λ a x own z. absurd (false≢true z)) (λ o z. absurd (false≢true z))
+      (λ e x z d. upd-other (v .ctl) (subject e) _ k d) (λ i w z d. upd-other (v .ctl) i _ k d) (λ i z d. refl) (λ e z d. refl) e c
 
   -- one accepted event of a running controller
-  pub later-one : (es : List Event) → Moment es → (e : Event) → Acts e → accepts n f (viewAt es) e ≡ true → runs ((viewAt es) .ctl (subject e)) ≡ true → Later es (es ++ (e ∷ []))
+  pub later-one : (es : List Event) → Moment es → (e : Event) → Goes n f e → accepts n f (viewAt es) e ≡ true → runs ((viewAt es) .ctl (subject e)) ≡ true → Later es (es ++ (e ∷ []))
   later-one es m e u q r = record {
-    moment = moment-next es m e q (acts-enters e u) (perform-order n f f<n (viewAt es) e (acts-goes n f e u));
+    moment = moment-next es m e q (and-l _ _ u) (perform-order n f (viewAt es) e (and-l _ _ u));
     more = e ∷ [];
     parts = refl;
     own = ap (λ (x : View). x .own) (performs es m e q) ∙ own-stays (viewAt es) e;
     running = λ k. rw (performs es m e q) (kept k .running);
     stopped = λ k. rw (performs es m e q) (elim (split (eqb k (subject e))) [
       | inl z ↦ let z′ : runs ((viewAt es) .ctl k) ≡ true = rw (eqb-true k (subject e) z) r in running-up (((performV n f (viewAt es) e) .ctl k) .condition) (kept k .running ∙ z′) ∙ sym (running-up (((viewAt es) .ctl k) .condition) z′)
-      | inr z ↦ ap (λ (c : Controller). isStopped (c .condition)) (other (viewAt es) e u k z)
+      | inr z ↦ ap (λ (c : Controller). isStopped (c .condition)) (other (viewAt es) e (and-l _ _ u) k z)
     ]);
     phases = λ k x. rw (performs es m e q) (phases-up n f e k _ _ (kept k .phase x));
-    log = λ x y. subst (In x) (sym (logs es m e q (acts-enters e u))) (inr y);
+    log = λ x y. subst (In x) (sym (logs es m e q (and-l _ _ u))) (inr y);
   }
     where
       kept : KeptAll n f e (viewAt es) (performV n f (viewAt es) e)
-      kept = perform-tame n f small (viewAt es) e (acts-goes n f e u) q
+      kept = perform-tame n f small (viewAt es) e u q
 
   -- to whom a kind was sent, after an answer that sends none of it
   pub commit-calm : (v : View) (j : ℕ) (a : Answer) (kind : Kind) → ((x : ℕ) → has (receiversOf (sendOf kind (a .sends))) x ≡ false) → (i x : ℕ)

@@ -40,7 +40,7 @@ use Rattle.protocol.proofs.view.Simulation.{view, Runs, run-sim}
 use Rattle.protocol.proofs.invariant.Decisions.{Blank}
 use Rattle.protocol.proofs.clean.Log.{In}
 use Rattle.protocol.proofs.clean.Kept.{stopped-idle}
-use Rattle.protocol.proofs.claim.Moments.{logAt, append-assoc, run-append, run-one}
+use Rattle.protocol.proofs.lists.Moments.{logAt, append-assoc, run-append, run-one}
 use Rattle.protocol.proofs.hearing.Counts.{count-first}
 use Rattle.protocol.proofs.hearing.RuleSteps.{counted}
 use Rattle.protocol.proofs.hearing.Hears.{hears}
@@ -88,7 +88,7 @@ module _ (n f : ℕ) (sized : sizesInRange n f ≡ true) where
     where
       stop-next : (es : List Event) → Halted m es → Halted (suc m) (es ++ (Stop (suc m) ∷ []))
       stop-next es t = record {
-        moment = moment-next n f 1 (range .high) (range .low) (range .small) es (t .moment) (Stop (suc m)) accepted tt (unfold performV commitV in refl);
+        moment = moment-next n f 1 (range .high) (range .low) (range .small) es (t .moment) (Stop (suc m)) accepted refl (unfold performV commitV in refl);
         own = ap (λ (v : View). v .own) then ∙ (unfold performV commitV in t .own);
         stopped = λ k lo hi. elim (ℕ-discrete k (suc m)) [
           | yes q ↦ subst (λ (x : ℕ). isStopped (((viewAt (es ++ (Stop (suc m) ∷ []))) .ctl x) .condition) ≡ true) (sym q) now
@@ -224,7 +224,7 @@ module _ (n f : ℕ) (sized : sizesInRange n f ≡ true) where
     cast-accepted = rw (le-leb 1 n (omega arith), le-leb n n (omega arith), open-now s₀ m₀, runs₀, empty₀ .phase)
 
     later₁ : To s₀ s₁
-    later₁ = later-one n f 1 (range .high) (range .low) (range .small) s₀ m₀ (Cast n true 0) tt cast-accepted runs₀
+    later₁ = later-one n f 1 (range .high) (range .low) (range .small) s₀ m₀ (Cast n true 0) refl cast-accepted runs₀
 
     record Voted (c : Controller) : Type 0 where
       from : c .acks .from ≡ 0
@@ -246,7 +246,7 @@ module _ (n f : ℕ) (sized : sizesInRange n f ≡ true) where
     timeout-accepted = rw (le-leb 1 n (omega arith), le-leb n n (omega arith), open-now s₁ (later₁ .moment), runs₁, voted .at)
 
     later₂ : To s₀ s₂
-    later₂ = later-trans n f 1 (range .high) (range .low) (range .small) s₀ s₁ s₂ later₁ (later-one n f 1 (range .high) (range .low) (range .small) s₁ (later₁ .moment) (Timeout n) tt timeout-accepted runs₁)
+    later₂ = later-trans n f 1 (range .high) (range .low) (range .small) s₀ s₁ s₂ later₁ (later-one n f 1 (range .high) (range .low) (range .small) s₁ (later₁ .moment) (Timeout n) refl timeout-accepted runs₁)
 
     waits : ((viewAt s₂) .ctl n) .help .waiting ≡ true
     waits = rw (performs n f 1 (range .high) (range .low) (range .small) s₁ (later₁ .moment) (Timeout n) timeout-accepted)
@@ -277,10 +277,10 @@ module _ (n f : ℕ) (sized : sizesInRange n f ≡ true) where
     call-accepted = deliver-accepted n f 1 (range .high) (range .low) (range .small) (omega arith) s₂ (later₂ .moment) Help n (suc f) called (runs₂ (suc f) (omega arith) (omega arith))
 
     later₃ : To s₂ s₃
-    later₃ = later-one n f 1 (range .high) (range .low) (range .small) s₂ (later₂ .moment) call tt call-accepted (runs₂ (suc f) (omega arith) (omega arith))
+    later₃ = later-one n f 1 (range .high) (range .low) (range .small) s₂ (later₂ .moment) call refl call-accepted (runs₂ (suc f) (omega arith) (omega arith))
 
     came₃ : In call (logAt s₃)
-    came₃ = subst (In call) (sym (logs n f 1 (range .high) (range .low) (range .small) s₂ (later₂ .moment) call call-accepted tt)) (inl refl)
+    came₃ = subst (In call) (sym (logs n f 1 (range .high) (range .low) (range .small) s₂ (later₂ .moment) call call-accepted refl)) (inl refl)
 
     raised : Brought n f 1 (range .high) (range .low) (range .small) (omega arith) s₃ (Raised n f 1 (range .high) (range .low) (range .small) (omega arith) (suc f) 3 s₃)
     raised = to-stage n f 1 (range .high) (range .low) (range .small) (omega arith) (suc f) (omega arith) (omega arith) 3 (omega arith) s₃ (later₃ .moment) (later₃ .running (suc f) ∙ runs₂ (suc f) (omega arith) (omega arith))
@@ -295,7 +295,7 @@ module _ (n f : ℕ) (sized : sizesInRange n f ≡ true) where
     runs₄ k lo hi = later₄ .running k ∙ runs₂ k lo hi
 
     same₄ : (viewAt s₄) .ctl n ≡ (viewAt s₂) .ctl n
-    same₄ = raised .holds .others n (ne-eqb n (suc f) not-second) ∙ unmoved n f 1 (range .high) (range .low) (range .small) (omega arith) s₂ (later₂ .moment) call tt call-accepted n (ne-eqb n (suc f) not-second)
+    same₄ = raised .holds .others n (ne-eqb n (suc f) not-second) ∙ unmoved n f 1 (range .high) (range .low) (range .small) (omega arith) s₂ (later₂ .moment) call refl call-accepted n (ne-eqb n (suc f) not-second)
 
     waits₄ : ((viewAt s₄) .ctl n) .help .waiting ≡ true
     waits₄ = ap (λ (c : Controller). c .help .waiting) same₄ ∙ waits
@@ -317,7 +317,7 @@ module _ (n f : ℕ) (sized : sizesInRange n f ≡ true) where
     s₅ = raised .to ++ (Deliver (suc f) n Helped ∷ [])
 
     later₅ : To s₄ s₅
-    later₅ = later-one n f 1 (range .high) (range .low) (range .small) s₄ (later₄ .moment) answer tt answer-accepted (runs₄ n (omega arith) (omega arith))
+    later₅ = later-one n f 1 (range .high) (range .low) (range .small) s₄ (later₄ .moment) answer refl answer-accepted (runs₄ n (omega arith) (omega arith))
 
     heard₅ : hasHelped ((viewAt s₅) .ctl n) (suc f) ≡ true
     heard₅ = rw (performs n f 1 (range .high) (range .low) (range .small) s₄ (later₄ .moment) answer answer-accepted)

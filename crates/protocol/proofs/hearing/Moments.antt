@@ -1,4 +1,5 @@
--- At every moment of every list the running controllers have done with what came to them what Events.antt says.
+-- At every moment of every list the running controllers have done with what came to them what Listening says: after a lock nothing came, and each event
+-- keeps it (Events).
 use Prim.Native.Nat.{ℕ}
 use mathlib.Core.Path.{_≡_, refl, sym, _∙_, ap, subst}
 use mathlib.Core.Bool.{Bool, true}
@@ -8,17 +9,12 @@ use mathlib.Core.Logic.{inl, inr}
 use Rattle.ground.specs.Tests.{no-both, split}
 use Rattle.ground.specs.Mask.{has}
 use Rattle.ground.specs.MaskLaws.{none-has}
-use Rattle.ground.specs.Limit.{limit}
-use lib.ListN.{replicate}
-use Rattle.votes.specs.VoteSets.{empty}
 use Rattle.model.specs.RangeLaws.{Ranges, ranges}
-use Rattle.model.specs.declared.Outcome.the-variants.{None}
 use Rattle.model.specs.declared.Event.{Event}
-use Rattle.protocol.specs.declared.Station.{Station}
 use Rattle.protocol.specs.declared.Bench.{Bench}
 use Rattle.protocol.specs.declared.Sent.{Sent}
 use Rattle.protocol.specs.Controllers.{phase}
-use Rattle.protocol.specs.Benches.{unsentAll, fresh, freshStation, benchOf, station, controller, sentBy}
+use Rattle.protocol.specs.Benches.{unsentAll, benchOf, controller, sentBy}
 use Rattle.protocol.specs.Steps.{step, run}
 use Rattle.protocol.specs.Claim.{after}
 use Rattle.protocol.proofs.view.View.{View, accepts}
@@ -26,9 +22,9 @@ use Rattle.protocol.proofs.view.Performed.{stepV}
 use Rattle.protocol.proofs.view.Simulation.{view, Sound, Steps, step-steps, reply-sim, step-sim}
 use Rattle.protocol.proofs.invariant.Words.{none-word}
 use Rattle.protocol.proofs.invariant.Decisions.{Blank}
-use Rattle.protocol.proofs.claim.Moments.{push, logOf, logAt}
-use Rattle.protocol.proofs.claim.Start.{Opened, all-of-copies, freshes}
-use Rattle.protocol.proofs.claim.Reach.{locked-sound}
+use Rattle.protocol.proofs.lists.Moments.{push, logOf, logAt}
+use Rattle.protocol.proofs.lists.Start.{unput, Opened, freshes}
+use Rattle.protocol.proofs.lists.Reach.{locked-sound}
 use Rattle.protocol.proofs.hearing.Events.{Heard, perform-heard}
 
 pub record HeardAt (b : Bench) (log : List Event) : Type 0 where
@@ -59,10 +55,6 @@ run-heard [] b log h = h
 run-heard (e ∷ es) b log h = run-heard es (step b e) (push b e log) (step-heard b e log h)
 
 -- right after the lock
-unput : (n f : ℕ) (own : Bool) (k : ℕ) → (controller (benchOf true n f own) k) .proposal ≡ None
-unfolding station benchOf
-unput n f own k = all-of-copies (λ (x : Station). x .controller .proposal ≡ None) (freshStation []) (freshStation (replicate limit empty)) (unfold freshStation fresh in refl) (unfold freshStation fresh in refl) limit k
-
 lock-heard : (n f : ℕ) (own : Bool) → Heard n f (view (benchOf true n f own)) []
 unfolding view
 lock-heard n f own = record {

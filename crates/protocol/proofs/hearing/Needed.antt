@@ -19,7 +19,7 @@ use Rattle.protocol.specs.Computing.{wholeRun}
 use Rattle.protocol.specs.Claim.{after}
 use Rattle.protocol.specs.Termination.{Premise, few-down, at-stage-3, delivered, answered, Lacking, Needed, AllNeeded, lackings}
 use Rattle.protocol.proofs.clean.Log.{entered}
-use Rattle.protocol.proofs.claim.Moments.{push, logOf, logAt}
+use Rattle.protocol.proofs.lists.Moments.{push, logOf, logAt}
 use Rattle.protocol.proofs.hearing.Tests.{anyIn, implies, passes, met-passes, passes-met}
 
 abbrev number : Premise → ℕ

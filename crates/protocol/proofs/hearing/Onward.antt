@@ -33,10 +33,10 @@ use Rattle.protocol.specs.declared.Answer.{Answer}
 use Rattle.protocol.specs.declared.Consensus.{Consensus}
 use Rattle.protocol.specs.declared.Bench.{Bench}
 use Rattle.protocol.specs.Controllers.{isStopped, runs, phase, conclude}
-use Rattle.protocol.specs.Rules.{passedOver, becomes, proposing, proposeIfSufficient, keepsCall, answersCall, secondTimeout}
+use Rattle.protocol.specs.Rules.{passedOver, becomes, proposing, proposeIfSufficient, answersCall, secondTimeout}
 use Rattle.protocol.specs.Calls.{arrives}
 use Rattle.protocol.specs.Benches.{newBench, benchOf, controller, ofKind}
-use Rattle.protocol.specs.Events.{subject}
+use Rattle.protocol.specs.Events.{subject, concernsOne}
 use Rattle.protocol.specs.Questions.{unless, firstNo, wasProposed, noOther}
 use Rattle.protocol.specs.SentOnce.{receiversOf, sendOf}
 use Rattle.protocol.specs.Steps.{run}
@@ -46,18 +46,18 @@ use Rattle.protocol.specs.Reach.{messageAt}
 use Rattle.protocol.specs.Termination.{RunsAt, HasPut, WasGiven, Premise, few-down, at-stage-3, delivered, answered, Meets, Onward}
 use Rattle.protocol.proofs.view.View.{accepts}
 use Rattle.protocol.proofs.view.Performed.{commitV, chosen, timeoutRule, performV}
-use Rattle.protocol.proofs.view.RuleCases.{vote-cases, ack-cases, helped-cases, help-cases, sufficient-cases}
+use Rattle.protocol.proofs.view.RuleCases.{sufficient-cases, arrives-cases}
 use Rattle.protocol.proofs.view.Simulation.{view}
 use Rattle.protocol.proofs.invariant.Orders.{not-both}
 use Rattle.protocol.proofs.clean.Log.{In}
 use Rattle.protocol.proofs.clean.Added.{NewVote, NewTimeout, perform-new, second-reaches, reached-after}
-use Rattle.protocol.proofs.claim.Moments.{logAt, run-append, in-order}
-use Rattle.protocol.proofs.claim.OrderNumbers.{number-same}
-use Rattle.protocol.proofs.claim.Start.{start}
-use Rattle.protocol.proofs.claim.Reached.{reach}
+use Rattle.protocol.proofs.lists.Moments.{logAt, run-append, in-order}
+use Rattle.protocol.proofs.lists.OrderNumbers.{number-same}
+use Rattle.protocol.proofs.lists.Start.{start}
+use Rattle.protocol.proofs.ranges.Reached.{reach}
 use Rattle.protocol.proofs.hearing.Moments.{HeardAt, heard-at}
 use Rattle.protocol.proofs.hearing.Hears.{stage-is}
-use Rattle.protocol.proofs.hearing.Later.{viewAt, Acts, Moment, performs, logs, Later, later-refl, later-trans, other, later-one, commit-calm}
+use Rattle.protocol.proofs.hearing.Later.{viewAt, Moment, performs, logs, Later, later-refl, later-trans, other, later-one, commit-calm}
 
 -- a delivery of the first kind sends nothing of the second: only a help call sends, and answers alone
 abbrev still : Kind → Kind → Bool
@@ -95,11 +95,7 @@ answers-silent Help h j c = record { none = λ x. has-none x }
 answers-silent Helped h j c = absurd (false≢true h)
 
 arrives-silent : (n f : ℕ) (kind k : Kind) → still kind k ≡ true → (i : ℕ) (s : VoteSet) (c : Controller) → Silent k (arrives kind n f i s c)
-unfolding arrives
-arrives-silent n f Vote k h i s c = vote-cases (Silent k) s c (λ q. becomes-silent k _) (passed-silent k c)
-arrives-silent n f Ack k h i s c = ack-cases (Silent k) n f i s c (λ q. settle-silent n f k _ (becomes-silent k _)) (λ q. passed-silent k c)
-arrives-silent n f Help k h i s c = help-cases (Silent k) i c (λ q. unfold keepsCall in becomes-silent k _) (λ p q. answers-silent k h i c) (λ q. passed-silent k c)
-arrives-silent n f Helped k h i s c = helped-cases (Silent k) n f i s c (λ p q. settle-silent n f k _ (becomes-silent k _)) (λ q. passed-silent k c)
+arrives-silent n f kind k h i s c = arrives-cases (Silent k) n f kind i s c (λ c′ q. becomes-silent k c′) (settle-silent n f k) (λ z p q. answers-silent k (ap (λ (x : Kind). still x k) (sym z) ∙ h) i c) (passed-silent k c)
 
 -- a word that the arbiter may give
 record Choice (k : Consensus) : Type 0 where
@@ -130,7 +126,7 @@ module _ (n f o : ℕ) (f<n : f < n) (1≤f : 1 ≤ f) (small : n ≤ limit) (op
     pub ballots : (viewAt x) .ballots ≡ (viewAt es) .ballots
 
   -- whom an event does not concern, it does not change
-  pub unmoved : (es : List Event) (m : At es) (e : Event) → Acts e → accepts n f (viewAt es) e ≡ true → (j : ℕ) → eqb j (subject e) ≡ false → (viewAt (es ++ (e ∷ []))) .ctl j ≡ (viewAt es) .ctl j
+  pub unmoved : (es : List Event) (m : At es) (e : Event) → concernsOne e ≡ true → accepts n f (viewAt es) e ≡ true → (j : ℕ) → eqb j (subject e) ≡ false → (viewAt (es ++ (e ∷ []))) .ctl j ≡ (viewAt es) .ctl j
   unmoved es m e u q j d = rw (performs n f o f<n 1≤f small es m e q) (other n f o f<n 1≤f small (viewAt es) e u j d)
 
   module _ (k : ℕ) (lo : 1 ≤ k) (hi : k ≤ n) where
@@ -145,15 +141,15 @@ module _ (n f o : ℕ) (f<n : f < n) (1≤f : 1 ≤ f) (small : n ≤ limit) (op
     raised : (es : List Event) → At es → runs ((viewAt es) .ctl k) ≡ true → (s : ℕ) → suc s ≤ 3 → phase ((viewAt es) .ctl k) ≡ s → Brought es (Raised k (suc s) es)
     raised es m r zero h p =
         let q : accepts n f (viewAt es) (Cast k true 0) ≡ true = cast-accepted es m r p in
-        let w : NewVote n f (viewAt es) (performV n f (viewAt es) (Cast k true 0)) k true = perform-new n f small (viewAt es) (Cast k true 0) (m .inv) q in
-        record { to = es ++ (Cast k true 0 ∷ []); later = later-one n f o f<n 1≤f small es m (Cast k true 0) tt q r; holds = record { stage = rw (performs n f o f<n 1≤f small es m (Cast k true 0) q) (w .begun); others = unmoved es m (Cast k true 0) tt q; ballots = rw (performs n f o f<n 1≤f small es m (Cast k true 0) q) (unfold performV commitV in refl) } }
+        let w : NewVote n f (viewAt es) (performV n f (viewAt es) (Cast k true 0)) k true = perform-new n f small (viewAt es) (Cast k true 0) (m .inv) q .vote k true 0 refl in
+        record { to = es ++ (Cast k true 0 ∷ []); later = later-one n f o f<n 1≤f small es m (Cast k true 0) refl q r; holds = record { stage = rw (performs n f o f<n 1≤f small es m (Cast k true 0) q) (w .begun); others = unmoved es m (Cast k true 0) refl q; ballots = rw (performs n f o f<n 1≤f small es m (Cast k true 0) q) (unfold performV commitV in refl) } }
     raised es m r (suc zero) h p =
         let q : accepts n f (viewAt es) (Timeout k) ≡ true = timeout-taken es m r (rw p) in
-        let w : NewTimeout n f (viewAt es) (performV n f (viewAt es) (Timeout k)) k = perform-new n f small (viewAt es) (Timeout k) (m .inv) q in
-        record { to = es ++ (Timeout k ∷ []); later = later-one n f o f<n 1≤f small es m (Timeout k) tt q r; holds = record { stage = rw (performs n f o f<n 1≤f small es m (Timeout k) q) (w .after); others = unmoved es m (Timeout k) tt q; ballots = rw (performs n f o f<n 1≤f small es m (Timeout k) q) (unfold performV commitV in refl) } }
+        let w : NewTimeout n f (viewAt es) (performV n f (viewAt es) (Timeout k)) k = perform-new n f small (viewAt es) (Timeout k) (m .inv) q .timeout k refl in
+        record { to = es ++ (Timeout k ∷ []); later = later-one n f o f<n 1≤f small es m (Timeout k) refl q r; holds = record { stage = rw (performs n f o f<n 1≤f small es m (Timeout k) q) (w .after); others = unmoved es m (Timeout k) refl q; ballots = rw (performs n f o f<n 1≤f small es m (Timeout k) q) (unfold performV commitV in refl) } }
     raised es m r (suc (suc zero)) h p =
         let q : accepts n f (viewAt es) (Timeout k) ≡ true = timeout-taken es m r (rw p) in
-        record { to = es ++ (Timeout k ∷ []); later = later-one n f o f<n 1≤f small es m (Timeout k) tt q r; holds = record { stage = rw (performs n f o f<n 1≤f small es m (Timeout k) q) times-out; others = unmoved es m (Timeout k) tt q; ballots = rw (performs n f o f<n 1≤f small es m (Timeout k) q) (unfold performV commitV in refl) } }
+        record { to = es ++ (Timeout k ∷ []); later = later-one n f o f<n 1≤f small es m (Timeout k) refl q r; holds = record { stage = rw (performs n f o f<n 1≤f small es m (Timeout k) q) times-out; others = unmoved es m (Timeout k) refl q; ballots = rw (performs n f o f<n 1≤f small es m (Timeout k) q) (unfold performV commitV in refl) } }
       where
         times-out : 3 ≤ phase ((performV n f (viewAt es) (Timeout k)) .ctl k)
         times-out = unfold performV timeoutRule in rw p (omega (arith, reached-after n f (viewAt es) k (secondTimeout n f k ((viewAt es) .ctl k)) 3 (second-reaches n f k ((viewAt es) .ctl k))))
@@ -256,9 +252,9 @@ module _ (n f o : ℕ) (f<n : f < n) (1≤f : 1 ≤ f) (small : n ≤ limit) (op
         | inr r ↦ onto-refl S es (Delivered kind i j) m (λ x y. absurd (no-both _ y r))
         | inl r ↦ let q : accepts n f (viewAt es) (Deliver i j kind) ≡ true = deliver-accepted es m kind i j e r in record {
           to = es ++ (Deliver i j kind ∷ []);
-          later = later-one n f o f<n 1≤f small es m (Deliver i j kind) tt q r;
+          later = later-one n f o f<n 1≤f small es m (Deliver i j kind) refl q r;
           calm = λ k s a b. rw (performs n f o f<n 1≤f small es m (Deliver i j kind) q) (unfold performV in commit-calm n f o f<n 1≤f small (viewAt es) j _ k (arrives-silent n f kind k (mild k s) i _ ((viewAt es) .ctl j) .none) a b);
-          holds = λ x y. subst (In (Deliver i j kind)) (sym (logs n f o f<n 1≤f small es m (Deliver i j kind) q tt)) (inl refl);
+          holds = λ x y. subst (In (Deliver i j kind)) (sym (logs n f o f<n 1≤f small es m (Deliver i j kind) q refl)) (inl refl);
         }
       ]
     ]
@@ -385,9 +381,9 @@ module _ (n f o : ℕ) (f<n : f < n) (1≤f : 1 ≤ f) (small : n ≤ limit) (op
     decided = record {
       onto = record {
         to = es ++ (e ∷ []);
-        later = later-one n f o f<n 1≤f small es m e tt decide-accepted r;
+        later = later-one n f o f<n 1≤f small es m e refl decide-accepted r;
         calm = λ kind s i j. rw (performs n f o f<n 1≤f small es m e decide-accepted) (calm kind i j);
-        holds = λ x y. record { move = w .move; entry = subst (In e) (sym (logs n f o f<n 1≤f small es m e decide-accepted tt)) (inl refl) };
+        holds = λ x y. record { move = w .move; entry = subst (In e) (sym (logs n f o f<n 1≤f small es m e decide-accepted refl)) (inl refl) };
       };
       proposals = λ i. rw (performs n f o f<n 1≤f small es m e decide-accepted) (same i);
     }

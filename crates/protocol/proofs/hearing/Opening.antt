@@ -1,4 +1,5 @@
--- Right after an order was opened, at a lock of either kind.
+-- Right after an order was opened, at a lock of either kind: the lock and the order, what holds at every moment (Moments), and that each controller runs
+-- and holds nothing.
 use Prim.Native.Nat.{ℕ, _≤_, _<_}
 use mathlib.Core.Path.{_≡_, refl, sym, _∙_, ap, subst}
 use mathlib.Core.Bool.{Bool, true}
@@ -21,8 +22,8 @@ use Rattle.protocol.proofs.view.Simulation.{view, step-steps}
 use Rattle.protocol.proofs.invariant.Invariant.{Inv}
 use Rattle.protocol.proofs.invariant.Decisions.{Blank, renew-blank}
 use Rattle.protocol.proofs.clean.Reached.{begins, shows, fresh-going}
-use Rattle.protocol.proofs.claim.Moments.{logAt}
-use Rattle.protocol.proofs.claim.Start.{start, lock-sound}
+use Rattle.protocol.proofs.lists.Moments.{logAt}
+use Rattle.protocol.proofs.lists.Start.{start, lock-sound}
 use Rattle.protocol.proofs.hearing.Events.{Heard}
 use Rattle.protocol.proofs.hearing.Moments.{HeardAt, heard-at}
 use Rattle.protocol.proofs.hearing.Later.{viewAt, Moment}

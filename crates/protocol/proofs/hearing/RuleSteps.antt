@@ -1,4 +1,4 @@
--- Each rule's answer owes what Listening.antt says of it, and gives it.
+-- Each rule's answer owes what Listening says of it, and gives it: by the cases of each rule (view/RuleCases).
 use Prim.Native.Nat.{ℕ, suc, _+_, _≤_, _<_}
 use mathlib.Core.Path.{_≡_, refl}
 use mathlib.Core.Bool.{Bool, true, false, not, _&&_, _||_, cond, false≢true}

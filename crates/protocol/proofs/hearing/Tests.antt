@@ -1,4 +1,4 @@
--- The premises as tests that compute, over the bench of a moment and its log; each test says the same as its premise.
+-- The premises as tests that compute, over the bench of a moment and its log; each test says the same as its premise, test by test.
 use Prim.Native.Nat.{ℕ, _≤_}
 use mathlib.Core.Path.{_≡_, refl, sym, _∙_, ap, subst}
 use mathlib.Core.Bool.{Bool, true, false, not, _&&_, _||_, false≢true}
@@ -28,8 +28,8 @@ use Rattle.protocol.specs.Claim.{after}
 use Rattle.protocol.specs.Reach.{messageAt}
 use Rattle.protocol.specs.Termination.{RunsAt, down, WasGiven, Premise, few-down, at-stage-3, delivered, answered, Meets}
 use Rattle.protocol.proofs.clean.Log.{In}
-use Rattle.protocol.proofs.claim.Moments.{logAt, in-order, in-log}
-use Rattle.protocol.proofs.claim.Reached.{reach}
+use Rattle.protocol.proofs.lists.Moments.{logAt, in-order, in-log}
+use Rattle.protocol.proofs.ranges.Reached.{reach}
 
 -- is an event this delivery; is it an answer of the arbiter to i
 abbrev isDelivery : ℕ → ℕ → Kind → Event → Bool
@@ -173,9 +173,9 @@ module _ (es : List Event) where
   met-passes few-down h = le-leb _ _ h
   met-passes at-stage-3 h = all-of n _ (λ i lo hi. implies-of _ _ (λ r. eq-eqb _ _ (h i (runs-at i lo hi r))))
   met-passes delivered h = all-of n _ (λ i lo hi. all-of n _ (λ j lo′ hi′. implies-of _ _ (λ r. kinds-of _ (λ kind. implies-of _ _ (λ s.
-      any-in (isDelivery i j kind) (Deliver i j kind) (logAt es) (rw (eqb-same i, eqb-same j, eqb-same (kindNumber kind))) (in-log es (Deliver i j kind) tt (h kind i j s (runs-at j lo′ hi′ r))))))))
+      any-in (isDelivery i j kind) (Deliver i j kind) (logAt es) (rw (eqb-same i, eqb-same j, eqb-same (kindNumber kind))) (in-log es (Deliver i j kind) refl (h kind i j s (runs-at j lo′ hi′ r))))))))
   met-passes answered h = all-of n _ (λ i lo hi. implies-of _ _ (λ r. implies-of _ _ (λ p. let g : WasGiven es i = h i (runs-at i lo hi r) (not-true _ p) in
-      any-in (isAnswer i) (Decide i (g .move)) (logAt es) (eqb-same i) (in-log es (Decide i (g .move)) tt (g .event)))))
+      any-in (isAnswer i) (Decide i (g .move)) (logAt es) (eqb-same i) (in-log es (Decide i (g .move)) refl (g .event)))))
 
   -- one that passes is met
   pub passes-met : (p : Premise) → passes p b (logAt es) ≡ true → Meets p es

@@ -1,13 +1,14 @@
--- The other events: each answer fits.
+-- The answers to the own vote, to each kind of message, at the first timeout, a stop and a restore fit: what is kept is a copy of what was sent
+-- (Keeping), what is sent tells the votes as they were cast (TrueVotes), and who is cleared has an outcome from a checkpoint of this order alone.
 use Prim.Native.Nat.{ℕ, zero, suc, _≤_, _<_}
 use mathlib.Core.Path.{_≡_, refl, sym, _∙_, ap, subst}
-use mathlib.Core.Bool.{Bool, true, false, not, _&&_, _||_, cond, true≢false, false≢true}
+use mathlib.Core.Bool.{Bool, true, false, not, _&&_, _||_, cond, false≢true}
 use native.Mathlib.Omega.{arith}
 use lib.Bits.{bitOr}
 use lib.Dec.{leb, eqb}
 use lib.ListN.{length}
 use mathlib.Core.Logic.{inl, inr}
-use borrow.Author.Tests.{not-true, leb-true, le-leb, eqb-true}
+use borrow.Author.Tests.{not-true, leb-true, le-leb, eqb-true, leb-false}
 use Rattle.ground.specs.Tests.{no-both, split, by-cond, and-l, and-r, or-e, or-l, or-r, eqb-same, same-test}
 use Rattle.ground.specs.Quantify.{countTo}
 use Rattle.ground.specs.Mask.{has, insert}
@@ -30,14 +31,11 @@ use Rattle.protocol.specs.declared.Condition.{Condition}
 use Rattle.protocol.specs.declared.Condition.the-variants.{Stopped, Standby}
 use Rattle.protocol.specs.declared.Controller.{Controller}
 use Rattle.protocol.specs.declared.Sent.{Sent}
-use Rattle.protocol.specs.Controllers.{isRunning, phaseIn, outcomeIn, runs, phase, hasAck, cleared, advance, learn, aim, keepAck, addCaller, isStopped}
+use Rattle.protocol.specs.Controllers.{isRunning, phaseIn, outcomeIn, runs, phase, hasAck, cleared, advance, learn, aim, keepAck, addCaller}
 use Rattle.protocol.specs.Rules.{keepsCall, answersCall, becomes, voteRule, voteArrives, countOwn, firstTimeout, ackArrives, helpedArrives, helpArrives}
 use Rattle.protocol.specs.Benches.{sentAfter}
-use Rattle.protocol.specs.declared.Saved.{Saved}
-use Rattle.protocol.specs.declared.Saved.the-variants.{Nothing, Newest}
-use Rattle.protocol.specs.Calls.{restore}
 use Rattle.protocol.specs.Events.{restoreFrom}
-use Rattle.protocol.proofs.view.RuleCases.{vote-cases, ack-cases, helped-cases, help-cases}
+use Rattle.protocol.proofs.view.RuleCases.{vote-cases, ack-cases, helped-cases, help-cases, restore-cases}
 use Rattle.protocol.proofs.view.View.{View, savedOrder, savedOutcome}
 use Rattle.protocol.proofs.view.Performed.{identityV}
 use Rattle.protocol.proofs.invariant.Words.{none-word}
@@ -68,6 +66,15 @@ recipients-route n f small i j = (
   λ e. collected (leb 1 j) (leb j n) (voteRoute f i j) (sym (has-collect n (voteRoute f i) j (omega arith)) ∙ e),
   λ e. collected (leb 1 j) (leb j n) (ackRoute f i j) (sym (has-collect n (ackRoute f i) j (omega arith)) ∙ e),
 )
+
+-- one more in a set, by the set of that one
+pub insert-more : (m j x : ℕ) → 1 ≤ j → j ≤ limit → (has m x || has (insert 0 j) x) ≡ has (insert m j) x
+insert-more m j x lo hi = same-test _ _
+    (λ e. elim (or-e (has m x) (has (insert 0 j) x) e) [ inl y ↦ insert-keeps m j x y | inr y ↦ insert-from m j x y ])
+    (λ e. elim (insert-only m j x e) [
+      | inl y ↦ or-r (has m x) (has (insert 0 j) x) (rw y (insert-own 0 j lo (omega arith)))
+      | inr y ↦ or-l (has m x) (has (insert 0 j) x) y
+    ])
 
 -- a controller that holds nothing and does not run
 own-cleared : (n f i : ℕ) (k : Condition) (c : Controller) (l : Sent) → isRunning k ≡ false → phaseIn k ≡ 0 → (1 ≤ i → i ≤ n → n ≤ length (c .acks .sets)) → Own n f i (cleared k c) l
@@ -122,13 +129,8 @@ module _ (n f : ℕ) (small : n ≤ limit) (b : View) (inv : Inv n f b) (i : ℕ
       → (v : Bool) → cond (eqb (x .order) (b .order)) (x .outcome) None ≡ wordOf v → OutcomeGrounds n f L (b .state .consensus .decision) v
   given x h v = by-cond (λ (o : Outcome). o ≡ wordOf v → OutcomeGrounds n f L (b .state .consensus .decision) v) (eqb (x .order) (b .order)) (x .outcome) None (λ e. h (eqb-true _ _ e) v) (λ e. none-word v)
 
-  from-saved : (s : Saved) → (savedOrder s ≡ b .order → (v : Bool) → savedOutcome s ≡ wordOf v → OutcomeGrounds n f L (b .state .consensus .decision) v) → Fits n f b i (restoreFrom (identityV n f b i) s c)
-  unfolding restoreFrom restore
-  from-saved Nothing h = passed-over-fits n f b inv i
-  from-saved (Newest x) h = by-cond (Fits n f b i) (isStopped (c .condition)) _ _ (λ q. restored-fits _ (given x h)) (λ q. passed-over-fits n f b inv i)
-
   pub restore-fits : Fits n f b i (restoreFrom (identityV n f b i) (b .saved i) c)
-  restore-fits = from-saved (b .saved i) (inv .saved-ok i)
+  restore-fits = restore-cases (Fits n f b i) _ (b .saved i) c (λ x z y. restored-fits _ (given x (λ e v h. inv .saved-ok i (ap savedOrder z ∙ e) v (ap savedOutcome z ∙ h)))) (passed-over-fits n f b inv i)
 
   -- a vote arrives
   pub vote-in-fits : (j : ℕ) → Fits n f b i (voteArrives ((L j) .vote .votes) c)
@@ -177,14 +179,8 @@ module _ (n f : ℕ) (small : n ≤ limit) (b : View) (inv : Inv n f b) (i : ℕ
       late : c .help .waiting ≡ true → 3 ≤ phase c
       late w = elim (split (leb (phase c) 2)) [
         | inl e ↦ absurd (no-both (c .help .waiting) w (inv .owns i .helping .idle (leb-true (phase c) 2 e)))
-        | inr e ↦ above (phase c) e
+        | inr e ↦ leb-false (phase c) 2 e
       ]
-        where
-          above : (m : ℕ) → leb m 2 ≡ false → 3 ≤ m
-          above zero e = absurd (true≢false e)
-          above (suc zero) e = absurd (true≢false e)
-          above (suc (suc zero)) e = absurd (true≢false e)
-          above (suc (suc (suc m))) e = omega arith
 
   -- a help call arrives: it was sent, by j of 1 to n
   ctl-called : (M : ℕ → Sent) (j : ℕ) → has ((M j) .help .to) i ≡ true → HeldSound n f M (b .state .consensus .decision) i c → HeldSound n f M (b .state .consensus .decision) i (addCaller c j)
@@ -232,15 +228,6 @@ module _ (n f : ℕ) (small : n ≤ limit) (b : View) (inv : Inv n f b) (i : ℕ
     past : phase c ≤ 2 → ⊥
     past x = omega arith
 
-    -- one caller more
-    one-more : (m x : ℕ) → (has m x || has (insert 0 j) x) ≡ has (insert m j) x
-    one-more m x = same-test _ _
-        (λ e. elim (or-e (has m x) (has (insert 0 j) x) e) [ inl y ↦ insert-keeps m j x y | inr y ↦ insert-from m j x y ])
-        (λ e. elim (insert-only m j x e) [
-          | inl y ↦ or-r (has m x) (has (insert 0 j) x) (rw y (insert-own 0 j lo (omega arith)))
-          | inr y ↦ or-l (has m x) (has (insert 0 j) x) y
-        ])
-
     answering-fits : Fits n f b i (answersCall j c)
     unfolding answersCall addCaller sentAfter
     answering-fits =
@@ -273,7 +260,7 @@ module _ (n f : ℕ) (small : n ≤ limit) (b : View) (inv : Inv n f b) (i : ℕ
             };
             helping = record {
               help-copy = λ e. refl;
-              answered = λ e x. has-or (l .helped .to) (insert 0 j) x ∙ rw (o .helping .answered (omega arith) x) (one-more (c .help .callers) x);
+              answered = λ e x. has-or (l .helped .to) (insert 0 j) x ∙ rw (o .helping .answered (omega arith) x) (insert-more (c .help .callers) j x lo (omega arith));
               waiter = o .helping .waiter;
               idle = o .helping .idle;
               early = o .helping .early;

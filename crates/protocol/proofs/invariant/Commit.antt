@@ -1,4 +1,5 @@
--- One controller's answer put back keeps the invariant, if the answer fits. Every event of an order goes through this.
+-- One controller's answer put back keeps the invariant, if the answer fits. What the answer owes holds at its own place, and elsewhere all stays, since
+-- what was sent only grows (Growth). Every event of an order goes through this.
 use Prim.Native.Nat.{ℕ}
 use mathlib.Core.Path.{_≡_, refl}
 use mathlib.Core.Bool.{Bool, true, false, _||_, cond, false≢true}
@@ -31,7 +32,7 @@ upd-all₂ P f g i a b here there k = elim (split (eqb k i)) [
   | inr e ↦ rw (upd-other f i a k e, upd-other g i b k e) (there k)
 ]
 
-cond-or : (v a b p q : Bool) → cond v a b ≡ true → cond v (a || p) (b || q) ≡ true
+pub cond-or : (v a b p q : Bool) → cond v a b ≡ true → cond v (a || p) (b || q) ≡ true
 cond-or true a b p q e = or-l a p e
 cond-or false a b p q e = or-l b q e
 

@@ -1,4 +1,5 @@
--- The arbiter's word, a save, a new order: they keep the invariant.
+-- The arbiter's word, a save, a new order and an event of ballots keep the invariant: a word given was put, so it has grounds, and no other is given; a
+-- checkpoint has the outcome that is held; a new order begins with nothing sent.
 use Prim.Native.Nat.{ℕ, _≤_, _<_}
 use mathlib.Core.Path.{_≡_, refl, sym, _∙_, ap}
 use mathlib.Core.Bool.{Bool, true, false, cond, true≢false, false≢true}

@@ -1,4 +1,5 @@
--- The heart of agreement, for any n and f: a direct decision of Move excludes a Stay put to the arbiter.
+-- The heart of agreement, for any n and f: a direct decision of Move excludes a Stay put to the arbiter. A backup's Stay was seen by the decision with
+-- the word Move; and one of all help vote sets knows the vote that is to be willing on none. Rests on the invariant alone.
 use Prim.Native.Nat.{ℕ, suc, _≤_, _<_}
 use mathlib.Core.Path.{_≡_, refl, sym, _∙_}
 use mathlib.Core.Bool.{Bool, true, false}

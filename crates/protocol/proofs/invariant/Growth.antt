@@ -1,4 +1,5 @@
--- What has grounds keeps them as the world grows.
+-- What has grounds keeps them as more is sent: what is once voted, acknowledged or frozen stays as it is (`Grows`), and grounds ask of nothing that it
+-- was not sent. Part by part of the invariant.
 use Prim.Native.Nat.{ℕ, suc}
 use mathlib.Core.Path.{_≡_, sym, _∙_}
 use mathlib.Core.Bool.{Bool, true, false}

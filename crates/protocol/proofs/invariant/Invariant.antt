@@ -1,4 +1,5 @@
--- The invariant of one order, and what of it only grows.
+-- The invariant of one order, in parts, each over what it looks at: what was sent, what each controller holds of it, and the grounds of every word put
+-- and every outcome. Definitions alone: that the rules keep them is shown in the files beside this.
 use Prim.Native.Nat.{ℕ, suc, _≤_, _<_}
 use mathlib.Core.Path.{_≡_}
 use mathlib.Core.Bool.{Bool, true, false, cond}

@@ -1,4 +1,5 @@
--- What keeping an acknowledgement or a help answer does to the invariant.
+-- Keeping an acknowledgement or a help answer keeps the controller's parts of the invariant: the count follows the senders, and what is kept is a copy
+-- of what was sent, or joined to what tells the votes as they were cast (TrueVotes).
 use Prim.Native.Nat.{ℕ, suc, _≤_, _<_}
 use mathlib.Core.Path.{_≡_, sym, _∙_, ap}
 use mathlib.Core.Bool.{true, false}

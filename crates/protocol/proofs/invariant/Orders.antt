@@ -1,4 +1,5 @@
--- Every accepted event goes on with the order and keeps its grounds, or opens a later one. So two outcomes of one order are equal.
+-- Every accepted event goes on with the order and keeps its grounds, or opens a later one: each rule's answer fits (Arrivals, SecondTimeout, Decisions)
+-- and is put back (Commit). So two outcomes of one order are equal (Exclusion).
 use Prim.Native.Nat.{ℕ, _≤_, _<_}
 use mathlib.Core.Path.{_≡_, refl, sym, _∙_}
 use mathlib.Core.Bool.{Bool, true, false, _||_, cond, false≢true}

@@ -1,4 +1,5 @@
--- The second timeout: its three ways out fit.
+-- The second timeout: its three ways out fit. Its help vote set is the union of what it holds, so it tells the votes as they were cast; a direct
+-- decision has all backups' acknowledgements for its grounds; a word put and a wait go by Waiting and Keeping.
 use Prim.Native.Nat.{ℕ, zero, suc, _≤_, _<_}
 use mathlib.Core.Path.{_≡_, refl, sym, _∙_, ap, subst}
 use mathlib.Core.Bool.{Bool, true, false, not, _&&_, _||_, false≢true}

@@ -1,4 +1,5 @@
--- Vote sets that tell the votes as they were cast: joins of such vote sets are such vote sets, and what their words say of the votes.
+-- Vote sets that tell the votes as they were cast: joins of such vote sets are such vote sets, and what their words say of the votes. By the laws of
+-- joins (crate `votes`), controller by controller.
 use Prim.Native.Nat.{ℕ, _≤_}
 use mathlib.Core.Path.{_≡_, sym, _∙_, ap, subst}
 use mathlib.Core.Bool.{true, false, not, _&&_}

@@ -1,4 +1,5 @@
--- The waiting rule: where the answer without it fits, the answer with it does.
+-- The waiting rule: where the answer without it fits, the answer with it does. The vote sets held tell the votes as they were cast (TrueVotes), so a
+-- Move put is every vote willing; a Stay put has a backup's acknowledgement, or all help answers.
 use Prim.Native.Nat.{ℕ, zero, suc, _+_, _≤_, _<_}
 use mathlib.Core.Path.{_≡_, refl, sym, _∙_, ap}
 use mathlib.Core.Bool.{Bool, true, false, not, _&&_, false≢true}

@@ -1,4 +1,4 @@
--- Small facts on outcomes and words.
+-- Small facts on outcomes and words, by their cases.
 use Prim.Native.Nat.{ℕ}
 use mathlib.Core.Path.{_≡_, refl}
 use mathlib.Core.Bool.{Bool, true, false, false≢true}

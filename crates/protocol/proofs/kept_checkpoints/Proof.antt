@@ -1,5 +1,5 @@
 -- `protocol::kept_checkpoints` meets its contract.
-use Rattle.protocol.proofs.claim.Checkpoints.{kept-checkpoints}
+use Rattle.protocol.proofs.Checkpoints.{kept-checkpoints}
 use Rattle.protocol.proofs.kept_checkpoints.Statement.{statement}
 use Rattle.protocol.proofs.kept_checkpoints.Tie as tie
 

@@ -1,5 +1,5 @@
 -- `protocol::no_contradiction` meets its contract.
-use Rattle.protocol.proofs.claim.Untouched.{no-contradiction}
+use Rattle.protocol.proofs.contradictions.Untouched.{no-contradiction}
 use Rattle.protocol.proofs.no_contradiction.Statement.{statement}
 use Rattle.protocol.proofs.no_contradiction.Tie as tie
 

@@ -1,16 +1,16 @@
--- From the invariant: no two words are chosen.
+-- From the invariant: no two words are chosen. A word put later has a majority's promises, and one of these took the chosen ballot (Meet), so a ballot
+-- not below it is reported; down the ballots reported the word is the same.
 use Prim.Native.Nat.{ℕ, zero, suc, _≤_, _<_}
-use mathlib.Core.Path.{_≡_, refl, sym, _∙_, ap}
-use mathlib.Core.Bool.{Bool, true, false, cond}
+use mathlib.Core.Path.{_≡_, sym, _∙_, ap}
+use mathlib.Core.Bool.{Bool, true, cond}
 use mathlib.Core.Logic.{_⊎_, inl, inr}
 use native.Mathlib.Omega.{arith}
 use native.Mathlib.Decide.{decLe, ℕ-discrete}
 use Rattle.ground.specs.Tests.{no-both}
 use Rattle.model.specs.Numbers.{wordOf, isNone}
-use Rattle.model.specs.declared.Outcome.{Outcome}
 use Rattle.protocol.proofs.paxos.Meet.{Shared, most, most-meet}
 use Rattle.protocol.proofs.paxos.View.{View}
-use Rattle.protocol.proofs.paxos.Invariant.{IsPut, PutSound, TopSound, Inv}
+use Rattle.protocol.proofs.paxos.Invariant.{IsPut, TopSound, Inv}
 
 module _ (n : ℕ) (v : View) (inv : Inv n v) where
   -- a ballot that a majority took has a word

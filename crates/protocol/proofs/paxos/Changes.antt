@@ -1,20 +1,20 @@
--- Each small change keeps the invariant.
+-- Each small change keeps the invariant: a promise given, a ballot taken, a promise counted, a word put. The heart: who takes a ballot has promised
+-- nothing above it, so what its promises report stays true.
 use Prim.Native.Nat.{ℕ, _≤_, _<_}
 use mathlib.Core.Path.{_≡_, refl, sym, _∙_, ap}
-use mathlib.Core.Bool.{Bool, true, false, cond, _||_, false≢true, true≢false}
+use mathlib.Core.Bool.{Bool, true, false, cond}
 use mathlib.Core.Logic.{_⊎_, inl, inr}
 use native.Mathlib.Omega.{arith}
 use native.Mathlib.Decide.{ℕ-discrete}
-use lib.Dec.{eqb, ltb}
-use borrow.Author.Tests.{eqb-true, ne-eqb, ltb-true, ltb-false}
-use Rattle.ground.specs.Tests.{split, no-both, by-cond, or-l, or-r}
+use lib.Dec.{ltb}
+use borrow.Author.Tests.{ne-eqb, ltb-true, ltb-false}
+use Rattle.ground.specs.Tests.{split, no-both, by-cond}
 use Rattle.ground.specs.Update.{upd, upd-same, upd-other, upd-all}
 use Rattle.model.specs.Numbers.{wordOf, isNone}
 use Rattle.model.specs.declared.Outcome.{Outcome}
-use Rattle.model.specs.declared.Outcome.the-variants.{None}
 use Rattle.protocol.specs.Ballots.{owner}
 use Rattle.protocol.proofs.paxos.Meet.{most}
-use Rattle.protocol.proofs.paxos.Updates.{upd2, upd2-all, new-or-old, still, kept, placed, other-row}
+use Rattle.protocol.proofs.paxos.Updates.{upd2, new-or-old, still, kept, placed, other-row}
 use Rattle.protocol.proofs.paxos.View.{View, promiseV, takeV, countV, putV}
 use Rattle.protocol.proofs.paxos.Invariant.{IsPut, MemberSound, PromiseSound, TopSound, PutSound, Opened, Inv}
 

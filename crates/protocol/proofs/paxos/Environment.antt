@@ -1,11 +1,12 @@
--- What the rest of the bench does to the ballots' invariant: controllers stop, and put words.
+-- What the rest of the bench does to the ballots' invariant: controllers stop, and put words. It speaks of those that run and of words that were put, so
+-- it stays, part by part.
 use Prim.Native.Nat.{ℕ}
 use mathlib.Core.Path.{_≡_}
 use mathlib.Core.Bool.{Bool, true, cond}
 use Rattle.model.specs.Numbers.{wordOf}
 use Rattle.model.specs.declared.Outcome.{Outcome}
 use Rattle.protocol.proofs.paxos.View.{View}
-use Rattle.protocol.proofs.paxos.Invariant.{IsPut, Opened, Inv}
+use Rattle.protocol.proofs.paxos.Invariant.{IsPut, Inv}
 
 abbrev pub around : View → (ℕ → Bool) → (ℕ → Outcome) → Bool → Bool → View
 around v runs own move stay = record {

@@ -1,10 +1,9 @@
--- What stays of a ballot through every rule: who accepted it, its word, the room for reports.
-use Prim.Native.Nat.{ℕ, _≤_}
-use mathlib.Core.Path.{_≡_, refl, sym, _∙_, ap}
-use mathlib.Core.Bool.{Bool, true, false, cond, not, _&&_}
+-- What stays of a ballot through every rule: who accepted it, its word, the room for reports. By the cases of each rule.
+use Prim.Native.Nat.{ℕ}
+use mathlib.Core.Path.{_≡_, refl, ap}
+use mathlib.Core.Bool.{true, not}
 use mathlib.Core.List.{List}
 use lib.ListN.{length}
-use lib.Dec.{eqb, leb}
 use Rattle.ground.specs.Tests.{no-both, by-cond, and-l}
 use Rattle.ground.specs.Lists.{put, length-put}
 use Rattle.ground.specs.Mask.{has, insert}
@@ -15,8 +14,7 @@ use Rattle.protocol.specs.declared.Acceptor.{Acceptor}
 use Rattle.protocol.specs.declared.Tally.{Tally}
 use Rattle.protocol.specs.declared.BallotAnswer.{BallotAnswer}
 use Rattle.protocol.specs.declared.BallotRow.{BallotRow}
-use Rattle.protocol.specs.Ballots.{majority}
-use Rattle.protocol.specs.BallotRules.{unanswered, answersPrepare, givePromise, prepareArrives, answersAccept, accept, acceptArrives, counts, counting, wordFor, withWord, putting, putWord, putIfMajority, promiseArrives, reporting, promising, giving, openBallot}
+use Rattle.protocol.specs.BallotRules.{unanswered, answersPrepare, givePromise, prepareArrives, answersAccept, accept, acceptArrives, counts, counting, putIfMajority, promiseArrives, promising, giving, openBallot}
 use Rattle.protocol.specs.BallotSteps.{rowAfter}
 use Rattle.protocol.proofs.paxos.Invariant.{IsPut}
 

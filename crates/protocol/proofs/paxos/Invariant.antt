@@ -1,4 +1,5 @@
--- The invariant of the ballots of one order.
+-- The invariant of the ballots of one order, without history, in parts, each over what it looks at. Definitions alone: that the rules keep them is shown
+-- in Changes and Kept.
 use Prim.Native.Nat.{ℕ, _≤_, _<_}
 use mathlib.Core.Path.{_≡_}
 use mathlib.Core.Bool.{Bool, true, false, cond}

@@ -1,7 +1,8 @@
--- What the rules of document 01 do to a controller, as far as ballots look at it: a word put stays while it runs, and the arbiter hears of each.
-use Prim.Native.Nat.{ℕ, _≤_}
+-- What the rules of document 01 do to a controller, as far as ballots look at it: a word put stays while it runs, and the arbiter hears of each. By the
+-- cases of each rule (view/RuleCases).
+use Prim.Native.Nat.{ℕ}
 use mathlib.Core.Path.{_≡_, refl, sym, _∙_, ap}
-use mathlib.Core.Bool.{Bool, true, false, not, _&&_, false≢true}
+use mathlib.Core.Bool.{Bool, true, false, not, _&&_}
 use mathlib.Core.Logic.{_⊎_, inl, inr}
 use Rattle.ground.specs.Tests.{no-both, by-cond}
 use Rattle.votes.specs.Joining.{unanimousIn}
@@ -10,16 +11,15 @@ use Rattle.votes.specs.declared.Joined.{Joined}
 use Rattle.model.specs.Ranges.{isBackup}
 use Rattle.model.specs.Numbers.{wordOf, isNone}
 use Rattle.model.specs.declared.Kind.{Kind}
-use Rattle.model.specs.declared.Kind.the-variants.{Vote, Ack, Help, Helped}
 use Rattle.model.specs.declared.Outcome.{Outcome}
 use Rattle.protocol.specs.declared.Condition.{Condition}
 use Rattle.protocol.specs.declared.Controller.{Controller}
 use Rattle.protocol.specs.declared.Answer.{Answer}
 use Rattle.protocol.specs.Controllers.{isRunning, runs, cleared, hasAck, advance, learn, aim, keepAck, keepHelped, freeze, addCaller, await, propose, conclude}
-use Rattle.protocol.specs.Rules.{passedOver, becomes, proposing, verdict, voteRule, countOwn, firstTimeout, ackJoin, proposeIfSufficient, answersJoin, helpVotes, frozen, ready, callsHelp, secondTimeout, keepsCall, answersCall}
+use Rattle.protocol.specs.Rules.{passedOver, becomes, proposing, verdict, voteRule, countOwn, firstTimeout, ackJoin, proposeIfSufficient, answersJoin, frozen, ready, callsHelp, secondTimeout, answersCall}
 use Rattle.protocol.specs.Calls.{arrives}
 use Rattle.protocol.proofs.view.Performed.{timeoutRule}
-use Rattle.protocol.proofs.view.RuleCases.{vote-cases, ack-cases, helped-cases, help-cases, sufficient-cases, second-cases, timeout-cases}
+use Rattle.protocol.proofs.view.RuleCases.{sufficient-cases, second-cases, timeout-cases, arrives-cases}
 use Rattle.protocol.proofs.invariant.Words.{none-word, some-word}
 use Rattle.protocol.proofs.paxos.Invariant.{IsPut}
 
@@ -69,11 +69,8 @@ module _ (n f : ℕ) (c : Controller) where
   timeout-steady i = timeout-cases (Steady c) n f i c (λ _. first-steady i) (λ _. second-steady i)
 
   pub arrives-steady : (kind : Kind) (i : ℕ) (s : VoteSet) → Steady c (arrives kind n f i s c)
-  unfolding arrives
-  arrives-steady Vote i s = vote-cases (Steady c) s c (λ q. becomes-steady c (learn c s) (unfold learn in refl)) (passed-steady c)
-  arrives-steady Ack i s = ack-cases (Steady c) n f i s c (λ q. settle-steady _ (becomes-steady c (keepAck c i s) (unfold keepAck in refl))) (λ q. passed-steady c)
-  arrives-steady Help i s = help-cases (Steady c) i c (λ q. unfold keepsCall in becomes-steady c (addCaller c i) (unfold addCaller in refl)) (λ p q. unfold answersCall addCaller in record { stays = λ _ e. e; put = λ w e. inl e }) (λ q. passed-steady c)
-  arrives-steady Helped i s = helped-cases (Steady c) n f i s c (λ p q. settle-steady _ (becomes-steady c (keepHelped c i s) (unfold keepHelped in refl))) (λ q. passed-steady c)
+  arrives-steady kind i s = arrives-cases (Steady c) n f kind i s c (λ c′ q. becomes-steady c c′ (q .proposal)) settle-steady
+      (λ z p q. unfold answersCall addCaller in record { stays = λ _ e. e; put = λ w e. inl e }) (passed-steady c)
 
   pub decide-steady : (o : Outcome) → Steady c (becomes (conclude c o))
   decide-steady o = becomes-steady c (conclude c o) (unfold conclude in refl)

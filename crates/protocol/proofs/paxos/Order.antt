@@ -1,18 +1,19 @@
--- The ballots of a bench's order: every accepted event keeps their invariant. So at c = 1 a word given passes document 01's question 18 too.
+-- The ballots of a bench's order: every accepted event keeps their invariant, one of ballots by its rule (Kept), any other by what it does to the
+-- controllers (Members, Environment). So at c = 1 a word given passes document 01's question 18 too (Agreement).
 use Prim.Native.Nat.{ℕ, zero, suc, _≤_, _<_, _*_}
 use mathlib.Core.Path.{_≡_, refl, sym, _∙_, ap, subst}
 use mathlib.Core.Bool.{Bool, true, false, cond, not, _&&_, _||_, false≢true}
 use mathlib.Core.List.{List, []}
-use mathlib.Core.Logic.{_⊎_, inl, inr}
+use mathlib.Core.Logic.{inl, inr}
 use native.Mathlib.Omega.{arith}
 use lib.ListN.{length, replicate, length-replicate, getD-replicate}
-use lib.Dec.{eqb, leb, ltb}
-use borrow.Author.Tests.{eqb-true, leb-true, ltb-true, lt-ltb}
+use lib.Dec.{eqb, leb}
+use borrow.Author.Tests.{eqb-true, leb-true, ltb-true, lt-ltb, not-true}
 use Rattle.ground.specs.Limit.{limit}
-use Rattle.ground.specs.Tests.{split, no-both, by-cond, and-l, and-r, or-l, or-r}
-use Rattle.ground.specs.Update.{upd, upd-same, upd-all, fun-ext}
+use Rattle.ground.specs.Tests.{split, by-cond, and-l, and-r, or-r}
+use Rattle.ground.specs.Update.{upd, upd-all, fun-ext}
 use Rattle.ground.specs.Lists.{nth, put, nth-put, length-put}
-use Rattle.ground.specs.Mask.{width, has}
+use Rattle.ground.specs.Mask.{has}
 use Rattle.ground.specs.MaskLaws.{none-has}
 use Rattle.ground.specs.Quantify.{countTo, Found, any-at}
 use Rattle.ground.specs.Sizes.{count-mono}
@@ -36,26 +37,26 @@ use Rattle.protocol.specs.declared.Condition.{Condition}
 use Rattle.protocol.specs.declared.Condition.the-variants.{Stopped, Standby}
 use Rattle.protocol.specs.Controllers.{isRunning, isStopped, runs, inPhase, cleared, conclude}
 use Rattle.protocol.specs.Rules.{passedOver, becomes}
-use Rattle.protocol.specs.Calls.{restore, renew}
+use Rattle.protocol.specs.Calls.{renew}
 use Rattle.protocol.specs.Questions.{firstNo, wasProposed, noOther}
 use Rattle.protocol.specs.Steps.{renewed, orderOpened}
 use Rattle.protocol.specs.Ballots.{ballotLimit, isBallot, owner, majority, newAcceptor, newRow, newBallots, acceptor, row, report, isWord, chosenIn, isChosen}
 use Rattle.protocol.specs.BallotRules.{prepareArrives, acceptArrives, promiseArrives, openBallot}
 use Rattle.protocol.specs.BallotSteps.{ballotSubject, wasSentIn, rowAfter, answered, reportedWord, carried, ballotsAfter}
-use Rattle.protocol.proofs.view.View.{View, ballotsV, openedV, accepts, ask-l, ask-r}
-use Rattle.protocol.proofs.view.Performed.{commitV, chosen, savedV, identityV, performV, stepV}
+use Rattle.protocol.proofs.view.View.{View, ballotsV, openedV, accepts, ask-l, ask-r, all-of-copies}
+use Rattle.protocol.proofs.view.Performed.{commitV, chosen, savedV, identityV, performV, stepV, upd-id}
 use Rattle.protocol.proofs.view.RuleCases.{restore-cases}
 use Rattle.protocol.proofs.invariant.Words.{word-is, none-word, some-word, noting-runs}
-use Rattle.protocol.proofs.paxos.Meet.{most}
 use Rattle.protocol.proofs.paxos.View as P
 use Rattle.protocol.proofs.paxos.Invariant.{IsPut, MemberSound, Inv}
 use Rattle.protocol.proofs.paxos.Agreement.{agree}
 use Rattle.protocol.proofs.paxos.Simulation.{viewOf, viewAt}
 use Rattle.protocol.proofs.paxos.Parts.{Member, Part, applied}
 use Rattle.protocol.proofs.paxos.Growth.{Grown, grown-refl, KeepsWord, row-grown, prepare-word, accept-word, promise-word, open-word}
-use Rattle.protocol.proofs.paxos.Kept.{Good, GoodAfter, prepare-keeps, accept-keeps, promise-arrives-keeps, open-keeps}
-use Rattle.protocol.proofs.paxos.Members.{Steady, cleared-steady, cleared-idle, becomes-steady, passed-steady, vote-steady, timeout-steady, arrives-steady, decide-steady}
+use Rattle.protocol.proofs.paxos.Kept.{Good, prepare-keeps, accept-keeps, promise-arrives-keeps, open-keeps}
+use Rattle.protocol.proofs.paxos.Members.{Steady, cleared-steady, cleared-idle, passed-steady, vote-steady, timeout-steady, arrives-steady, decide-steady}
 use Rattle.protocol.proofs.paxos.Environment.{around-inv}
+use Rattle.protocol.proofs.invariant.Commit.{cond-or}
 
 -- the bench as the ballots see it
 abbrev pub memberV : View → ℕ → Member
@@ -134,10 +135,6 @@ module _ (n : ℕ) (v : View) (ok : Balloted n v) where
 
 -- an event of document 01 ----------------------------------------------------------
 
-cond-or : (x a b p q : Bool) → cond x a b ≡ true → cond x (a || p) (b || q) ≡ true
-cond-or true a b p q e = or-l a p e
-cond-or false a b p q e = or-l b q e
-
 cond-now : (x a b : Bool) (o : Outcome) → o ≡ wordOf x → cond x (a || isMove o) (b || isStay o) ≡ true
 cond-now true a b o e = or-r a (isMove o) (ap isMove e)
 cond-now false a b o e = or-r b (isStay o) (ap isStay e)
@@ -174,24 +171,17 @@ pub record NewRow (r : BallotRow) : Type 0 where
   pub top : r .tally .top ≡ 0
   pub word : r .tally .word ≡ None
 
-nth-replicate : {A : Type 0} (P : A → Type 0) (d a : A) → P d → P a → (n k : ℕ) → P (nth d (replicate n a) k)
-unfolding nth
-nth-replicate P d a x y n zero = x
-nth-replicate P d a x y zero (suc k) = x
-nth-replicate P d a x y (suc n) (suc zero) = y
-nth-replicate P d a x y (suc n) (suc (suc k)) = nth-replicate P d a x y n (suc k)
-
 new-row : (l : List ℕ) → NewRow (newRow l)
 unfolding newRow
 new-row l = record { promised = refl; received = refl; taken = refl; top = refl; word = refl }
 
 pub rows-new : (b : ℕ) → NewRow (row newBallots b)
 unfolding row newBallots
-rows-new b = nth-replicate NewRow (newRow []) (newRow (replicate limit 0)) (new-row []) (new-row (replicate limit 0)) ballotLimit b
+rows-new b = all-of-copies NewRow (newRow []) (newRow (replicate limit 0)) (new-row []) (new-row (replicate limit 0)) ballotLimit b
 
 pub acceptors-new : (k : ℕ) → acceptor newBallots k ≡ newAcceptor
 unfolding acceptor newBallots
-acceptors-new k = nth-replicate (λ (t : Acceptor). t ≡ newAcceptor) newAcceptor newAcceptor refl refl limit k
+acceptors-new k = all-of-copies (λ (t : Acceptor). t ≡ newAcceptor) newAcceptor newAcceptor refl refl limit k
 
 new-room : (b : ℕ) → 1 ≤ b → b ≤ ballotLimit → length ((row newBallots b) .lasts) ≡ limit
 unfolding row newBallots nth newRow
@@ -229,7 +219,7 @@ new-inv n running own none = record {
   no-zero = ap isNone (rows-new 0 .word);
 }
 
-unput : (c : Controller) → (renew c) .proposal ≡ None
+pub unput : (c : Controller) → (renew c) .proposal ≡ None
 unfolding renew cleared
 unput c = by-cond (λ (x : Controller). x .proposal ≡ None) (isStopped (c .condition)) (cleared Stopped c) (cleared (inPhase 0 None) c) (λ e. refl) (λ e. refl)
 
@@ -247,14 +237,6 @@ new-balloted n v e p q d none = record {
 }
 
 -- an event of ballots --------------------------------------------------------------
-
-upd-id : {A : Type 0} (F : ℕ → A) (i : ℕ) → upd F i (F i) ≡ F
-unfolding upd
-upd-id F i = fun-ext (upd F i (F i)) F (λ k. elim (split (eqb k i)) [ inl e ↦ rw e (ap F (sym (eqb-true k i e))) | inr e ↦ rw e ])
-
-not-is : (t : Bool) → not t ≡ true → t ≡ false
-not-is true e = sym e
-not-is false e = refl
 
 module _ (n : ℕ) (small : n ≤ limit) (v : View) (ok : Balloted n v) (i b : ℕ) (low : 1 ≤ i) (high : i ≤ n) (b-low : 1 ≤ b) (b-high : b ≤ ballotLimit) where
   abbrev s : Ballots
@@ -356,7 +338,7 @@ unfolding carried wasSentIn
 carried-balloted n small v ok i j b il ih jl jh bl bh r Prepare e =
     asked-by n small v ok j b jl jh bl bh r (ap (has ((row (v .ballots) b) .«promised_by»)) (eqb-true _ _ (and-l (eqb (owner n b) i) _ e)) ∙ and-r (eqb (owner n b) i) _ e)
 carried-balloted n small v ok i j b il ih jl jh bl bh r Promise e = promised-by n small v ok j b jl jh bl bh r i il ih (eqb-true _ _ (and-l (eqb (owner n b) j) _ e)) (and-r (eqb (owner n b) j) _ e)
-carried-balloted n small v ok i j b il ih jl jh bl bh r Accept e = put-by n small v ok j b jl jh bl bh r (not-is (isNone ((row (v .ballots) b) .tally .word)) (and-r (eqb (owner n b) i) _ e))
+carried-balloted n small v ok i j b il ih jl jh bl bh r Accept e = put-by n small v ok j b jl jh bl bh r (not-true (isNone ((row (v .ballots) b) .tally .word)) (and-r (eqb (owner n b) i) _ e))
 carried-balloted n small v ok i j b il ih jl jh bl bh r Accepted e = same-ballots n v ok
 
 -- an accepted event of ballots leaves each ballot's word and its takers
@@ -385,11 +367,9 @@ cleared-balloted : (n : ℕ) (v : View) (i : ℕ) (k : Condition) → isRunning 
 cleared-balloted n v i k z ok = commit-balloted n v i _ ok (λ r. absurd (cleared-idle k (v .ctl i) z r)) (cleared-steady k (v .ctl i) z)
 
 restored-idle : (n f : ℕ) (v : View) (i : ℕ) → isStopped ((v .ctl i) .condition) ≡ true → Balloted n v → Balloted n (performV n f v (Restore i))
-unfolding performV restore
+unfolding performV
 restored-idle n f v i z ok = restore-cases (λ a. Balloted n (commitV v i a)) (identityV n f v i) (v .saved i) (v .ctl i)
-    (λ x q. by-cond (λ a. Balloted n (commitV v i a)) (isStopped ((v .ctl i) .condition)) _ _
-    (λ y. cleared-balloted n v i (Standby _) refl ok)
-    (λ y. absurd (no-both _ z y)))
+    (λ x q y. cleared-balloted n v i (Standby _) refl ok)
     (commit-balloted n v i (passedOver (v .ctl i)) ok (λ r. unfold passedOver in r) (passed-steady (v .ctl i)))
 
 decided-balloted : (n : ℕ) (v : View) (i : ℕ) (w : Bool) → Balloted n v → cond (v .own) (isChosen n (v .ballots) w) true ≡ true → Balloted n (commitV (chosen v w) i (becomes (conclude (v .ctl i) (wordOf w))))
@@ -412,7 +392,7 @@ perform-balloted n f small v (Save i) ok q = saved-balloted n f v i ok
 perform-balloted n f small v (Restore i) ok q = restored-idle n f v i (search (ask-l, ask-r, and-l, and-r) depth 14) ok
 perform-balloted n f small v (OfBallots (Open i b)) ok q =
     opened-by n small v ok i b (leb-true _ _ (search (ask-l, ask-r, and-l, and-r) depth 14)) (leb-true _ _ (search (ask-l, ask-r, and-l, and-r) depth 14)) (leb-true _ _ (search (ask-l, ask-r, and-l, and-r) depth 14)) (leb-true _ _ (search (ask-l, ask-r, and-l, and-r) depth 14))
-    (search (ask-l, ask-r, and-l, and-r) depth 14) (search (ask-l, ask-r, and-l, and-r) depth 14) (not-is _ (search (ask-l, ask-r, and-l, and-r) depth 14)) (sym (eqb-true _ _ (search (ask-l, ask-r, and-l, and-r) depth 14))) (not-is _ (search (ask-l, ask-r, and-l, and-r) depth 14))
+    (search (ask-l, ask-r, and-l, and-r) depth 14) (search (ask-l, ask-r, and-l, and-r) depth 14) (not-true _ (search (ask-l, ask-r, and-l, and-r) depth 14)) (sym (eqb-true _ _ (search (ask-l, ask-r, and-l, and-r) depth 14))) (not-true _ (search (ask-l, ask-r, and-l, and-r) depth 14))
 perform-balloted n f small v (OfBallots (Carry i j k b)) ok q =
     carried-balloted n small v ok i j b (leb-true _ _ (search (ask-l, ask-r, and-l, and-r) depth 14)) (leb-true _ _ (search (ask-l, ask-r, and-l, and-r) depth 14)) (leb-true _ _ (search (ask-l, ask-r, and-l, and-r) depth 14)) (leb-true _ _ (search (ask-l, ask-r, and-l, and-r) depth 14))
     (leb-true _ _ (search (ask-l, ask-r, and-l, and-r) depth 14)) (leb-true _ _ (search (ask-l, ask-r, and-l, and-r) depth 14)) (search (ask-l, ask-r, and-l, and-r) depth 14) k (search (ask-l, ask-r, and-l, and-r) depth 14)

@@ -1,13 +1,11 @@
 -- One controller and one ballot: what a rule of ballots looks at, and what its answer leaves of them on the bench.
 use Prim.Native.Nat.{ℕ}
 use mathlib.Core.Path.{_≡_, refl}
-use mathlib.Core.Bool.{Bool, false, cond, not, _&&_}
-use lib.Dec.{eqb, leb}
+use mathlib.Core.Bool.{Bool}
 use Rattle.ground.specs.Tests.{by-cond}
 use Rattle.model.specs.declared.Outcome.{Outcome}
 use Rattle.protocol.specs.declared.Acceptor.{Acceptor}
 use Rattle.protocol.specs.declared.Tally.{Tally}
-use Rattle.protocol.specs.declared.Report.{Report}
 use Rattle.protocol.specs.declared.BallotAnswer.{BallotAnswer}
 use Rattle.protocol.specs.declared.BallotRow.{BallotRow}
 use Rattle.protocol.specs.Ballots.{majority}

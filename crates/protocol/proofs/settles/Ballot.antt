@@ -1,4 +1,5 @@
 -- Ballot 1, event by event: 1 opens it; the asks come to all others, their promises to 1, and the word that 1 then puts to all others. Each takes it.
+-- Each event is accepted for what holds then, and does what Rules says.
 use Prim.Native.Nat.{ℕ, zero, suc, _≤_, _<_, _*_}
 use mathlib.Core.Path.{_≡_, refl, sym, _∙_, ap, subst}
 use mathlib.Core.Bool.{true, false, cond}
@@ -110,7 +111,7 @@ module _ (n f : ℕ) (sized : sizesInRange n f ≡ true) (f<n : f < n) (1≤f : 
   answers : (es : List Event) → Now es → (e : BallotEvent) (x : BallotAnswer) → 1 ≤ ballotSubject e → ballotSubject e ≤ n → runs ((viewAt es) .ctl (ballotSubject e)) ≡ true
       → ballotsAfter n (bs es) (((viewAt es) .ctl (ballotSubject e)) .proposal) e ≡ answered (bs es) (ballotSubject e) 1 x → accepts n f (viewAt es) (OfBallots e) ≡ true → Answered es e (ballotSubject e) x
   answers es m e x lo hi r does q = record {
-    later = later-one n f 1 f<n 1≤f small es m (OfBallots e) tt q r;
+    later = later-one n f 1 f<n 1≤f small es m (OfBallots e) refl q r;
     ctl = λ k. rw then (unfold performV ballotsV in refl);
     own = ap (λ (F : ℕ → Acceptor). F (ballotSubject e)) acceptors ∙ upd-same (acceptor (bs es)) (ballotSubject e) (x .acceptor);
     others = λ k d. ap (λ (F : ℕ → Acceptor). F k) acceptors ∙ upd-other (acceptor (bs es)) (ballotSubject e) (x .acceptor) k (ne-eqb k (ballotSubject e) d);

@@ -1,7 +1,7 @@
--- The word that all have taken is chosen, so it is given to each, and each holds it: `BallotsNotHollow`.
+-- The word that all have taken is chosen (paxos/Chosen), so it is given to each, and by demand 3 each holds it: `BallotsNotHollow`.
 use Prim.Native.Nat.{ℕ, zero, suc, _≤_, _<_}
 use mathlib.Core.Path.{_≡_, refl, sym, _∙_, ap, subst}
-use mathlib.Core.Bool.{Bool, true, false, true≢false, false≢true}
+use mathlib.Core.Bool.{Bool, true, false, false≢true}
 use mathlib.Core.List.{List, [], _∷_, _++_}
 use mathlib.Core.Logic.{inl, inr}
 use native.Mathlib.Omega.{arith}
@@ -15,7 +15,7 @@ use Rattle.model.specs.Numbers.{wordOf}
 use Rattle.model.specs.Ranges.{sizesInRange, isController}
 use Rattle.model.specs.RangeLaws.{Ranges, ranges}
 use Rattle.model.specs.declared.Outcome.{Outcome}
-use Rattle.model.specs.declared.Outcome.the-variants.{None, Stay, Move}
+use Rattle.model.specs.declared.Outcome.the-variants.{None}
 use Rattle.model.specs.declared.Event.{Event}
 use Rattle.model.specs.declared.Event.the-variants.{Decide}
 use Rattle.protocol.specs.declared.Condition.{Condition}
@@ -37,26 +37,15 @@ use Rattle.protocol.proofs.view.Simulation.{view}
 use Rattle.protocol.proofs.invariant.Orders.{not-both}
 use Rattle.protocol.proofs.invariant.Words.{some-word}
 use Rattle.protocol.proofs.clean.Log.{In}
-use Rattle.protocol.proofs.claim.Moments.{logAt, in-order}
-use Rattle.protocol.proofs.claim.Reached.{reach}
-use Rattle.protocol.proofs.claim.Chosen.{ballots-agree}
-use Rattle.protocol.proofs.claim.Theorem.{demand-3}
-use Rattle.protocol.proofs.paxos.Invariant.{IsPut}
+use Rattle.protocol.proofs.lists.Moments.{logAt, in-order}
+use Rattle.protocol.proofs.ranges.Reached.{reach}
+use Rattle.protocol.proofs.paxos.Chosen.{ballots-agree}
+use Rattle.protocol.proofs.claim.Theorem.{Word, word-of, demand-3}
 use Rattle.protocol.proofs.paxos.Order.{passes-18}
 use Rattle.protocol.proofs.hearing.Later.{viewAt, performs, logs, no-more, later-refl, later-trans, later-one}
 use Rattle.protocol.proofs.hearing.Onward.{open-at, unmoved}
-use Rattle.protocol.proofs.settles.Proposer.{At, To, Staged, StagedList, all-staged}
+use Rattle.protocol.proofs.settles.Proposer.{To, Staged, StagedList, all-staged}
 use Rattle.protocol.proofs.settles.Ballot.{all-majority, balloted, noted, Reach, Taken, take-all}
-
--- a word, as a Bool
-record Word (o : Outcome) : Type 0 where
-  move : Bool
-  is : o ≡ wordOf move
-
-word-of : (o : Outcome) → IsPut o → Word o
-word-of None p = absurd (true≢false p)
-word-of Stay p = record { move = false; is = refl }
-word-of Move p = record { move = true; is = refl }
 
 is-word : (w : Bool) → isWord (wordOf w) w ≡ true
 is-word true = refl
@@ -69,9 +58,6 @@ noted-first Stopped o r e = absurd (false≢true r)
 noted-first (Standby x) o r e = absurd (false≢true r)
 
 module _ (n f : ℕ) (sized : sizesInRange n f ≡ true) (f<n : f < n) (1≤f : 1 ≤ f) (small : n ≤ limit) where
-  abbrev Now : List Event → Type 0
-  Now es = At n f sized f<n 1≤f small es
-
   abbrev Then : List Event → List Event → Type 0
   Then es es′ = To n f sized f<n 1≤f small es es′
 
@@ -124,23 +110,23 @@ module _ (n f : ℕ) (sized : sizesInRange n f ≡ true) (f<n : f < n) (1≤f : 
       accepted = rw (le-leb 1 k lo, le-leb k n hi, open-at n f 1 f<n 1≤f small (omega arith) es (t .moment), running, not-both (((viewAt es) .ctl k) .condition) running, at-3, passes-18 n (viewAt es) (balloted n f sized f<n 1≤f small es (t .moment)) own w now, own, now)
 
       later : Then ballot es′
-      later = later-trans n f 1 f<n 1≤f small ballot es es′ t (later-one n f 1 f<n 1≤f small es (t .moment) e tt accepted running)
+      later = later-trans n f 1 f<n 1≤f small ballot es es′ t (later-one n f 1 f<n 1≤f small es (t .moment) e refl accepted running)
 
       ballots-stay : (viewAt es′) .ballots ≡ (viewAt ballot) .ballots
       ballots-stay = ap (λ (v : View). v .ballots) (performs n f 1 f<n 1≤f small es (t .moment) e accepted) ∙ (unfold performV commitV chosen in same)
 
       entered : In e (logAt es′)
-      entered = subst (In e) (sym (logs n f 1 f<n 1≤f small es (t .moment) e accepted tt)) (inl refl)
+      entered = subst (In e) (sym (logs n f 1 f<n 1≤f small es (t .moment) e accepted refl)) (inl refl)
 
       earlier : (x : Event) → In x (logAt es) → In x (logAt es′)
-      earlier x i = subst (In x) (sym (logs n f 1 f<n 1≤f small es (t .moment) e accepted tt)) (inr i)
+      earlier x i = subst (In x) (sym (logs n f 1 f<n 1≤f small es (t .moment) e accepted refl)) (inr i)
 
       taken : outcome ((viewAt es) .ctl k) ≡ None → outcome ((viewAt es′) .ctl k) ≡ wordOf w
       taken z = rw (performs n f 1 f<n 1≤f small es (t .moment) e accepted)
           (unfold performV commitV chosen becomes in rw (upd-same ((viewAt es) .ctl) k (conclude ((viewAt es) .ctl k) (wordOf w))) (unfold conclude in noted-first (((viewAt es) .ctl k) .condition) (wordOf w) running z))
 
       unchanged : (j : ℕ) → (j ≡ k → ⊥) → (viewAt es′) .ctl j ≡ (viewAt es) .ctl j
-      unchanged j d = unmoved n f 1 f<n 1≤f small (omega arith) es (t .moment) e tt accepted j (ne-eqb j k d)
+      unchanged j d = unmoved n f 1 f<n 1≤f small (omega arith) es (t .moment) e refl accepted j (ne-eqb j k d)
 
     record GaveList (m : ℕ) : Type 0 where
       events : List Event

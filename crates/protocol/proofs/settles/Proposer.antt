@@ -1,4 +1,5 @@
--- Controller 1 votes and has both its timeouts before anything else happens, so it puts a word; then all others come to stage 3.
+-- Controller 1 votes and has both its timeouts before anything else happens, so it holds its own acknowledgement alone and puts a word; then all others
+-- come to stage 3 (hearing/Onward).
 use Prim.Native.Nat.{ℕ, zero, suc, _≤_, _<_}
 use mathlib.Core.Path.{_≡_, refl, sym, _∙_, ap, subst}
 use mathlib.Core.Bool.{true, cond, not, _&&_}
@@ -120,7 +121,7 @@ module _ (n f : ℕ) (sized : sizesInRange n f ≡ true) (f<n : f < n) (1≤f : 
   q₁ = cast-accepted n f 1 f<n 1≤f small (omega arith) 1 (omega arith) (omega arith) s₀ m₀ runs₀ (opening-blank n f sized true 1 .phase)
 
   later₁ : To s₀ s₁
-  later₁ = later-one n f 1 f<n 1≤f small s₀ m₀ (Cast 1 true 0) tt q₁ runs₀
+  later₁ = later-one n f 1 f<n 1≤f small s₀ m₀ (Cast 1 true 0) refl q₁ runs₀
 
   voted : Voted ((viewAt s₁) .ctl 1)
   voted = rw (performs n f 1 f<n 1≤f small s₀ m₀ (Cast 1 true 0) q₁)
@@ -130,7 +131,7 @@ module _ (n f : ℕ) (sized : sizesInRange n f ≡ true) (f<n : f < n) (1≤f : 
   q₂ = timeout-taken n f 1 f<n 1≤f small (omega arith) 1 (omega arith) (omega arith) s₁ (later₁ .moment) (later₁ .running 1 ∙ runs₀) (rw (voted .at))
 
   later₂ : To s₁ s₂
-  later₂ = later-one n f 1 f<n 1≤f small s₁ (later₁ .moment) (Timeout 1) tt q₂ (later₁ .running 1 ∙ runs₀)
+  later₂ = later-one n f 1 f<n 1≤f small s₁ (later₁ .moment) (Timeout 1) refl q₂ (later₁ .running 1 ∙ runs₀)
 
   acked : Acked ((viewAt s₂) .ctl 1)
   acked = rw (performs n f 1 f<n 1≤f small s₁ (later₁ .moment) (Timeout 1) q₂)
@@ -143,7 +144,7 @@ module _ (n f : ℕ) (sized : sizesInRange n f ≡ true) (f<n : f < n) (1≤f : 
   q₃ = timeout-taken n f 1 f<n 1≤f small (omega arith) 1 (omega arith) (omega arith) s₂ (later₂ .moment) runs₂ (rw (acked .at))
 
   later₃ : To s₂ s₃
-  later₃ = later-one n f 1 f<n 1≤f small s₂ (later₂ .moment) (Timeout 1) tt q₃ runs₂
+  later₃ = later-one n f 1 f<n 1≤f small s₂ (later₂ .moment) (Timeout 1) refl q₃ runs₂
 
   proposed : Proposed ((viewAt s₃) .ctl 1)
   proposed = rw (performs n f 1 f<n 1≤f small s₂ (later₂ .moment) (Timeout 1) q₃)

@@ -1,4 +1,4 @@
--- What the rules do at ballot 1 where nothing above it was promised: each promises it, counts towards it and takes it.
+-- What the rules do at ballot 1 where nothing above it was promised: each promises it, counts towards it and takes it. By the tests of each rule.
 use Prim.Native.Nat.{ℕ, suc, _≤_}
 use mathlib.Core.Path.{_≡_, refl, sym, _∙_, ap, subst}
 use mathlib.Core.Bool.{Bool, true, false, cond, not, _&&_, true≢false, false≢true}

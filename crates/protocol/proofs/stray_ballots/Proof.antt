@@ -1,5 +1,5 @@
 -- `protocol::stray_ballots` meets its contract.
-use Rattle.protocol.proofs.paxos.Strayed.{ballot-strays}
+use Rattle.protocol.proofs.strays.Ballots.{ballot-strays}
 use Rattle.protocol.proofs.stray_ballots.Statement.{statement}
 use Rattle.protocol.proofs.stray_ballots.Tie as tie
 

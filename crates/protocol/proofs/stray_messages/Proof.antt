@@ -1,5 +1,5 @@
 -- `protocol::stray_messages` meets its contract.
-use Rattle.protocol.proofs.claim.Strayed.{strays}
+use Rattle.protocol.proofs.strays.Strayed.{strays}
 use Rattle.protocol.proofs.stray_messages.Statement.{statement}
 use Rattle.protocol.proofs.stray_messages.Tie as tie
 

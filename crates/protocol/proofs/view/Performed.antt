@@ -18,6 +18,7 @@ use Rattle.votes.specs.VoteSets.{single}
 use Rattle.message_record.specs.Messages.{suits}
 use Rattle.model.specs.declared.Event.{Event}
 use Rattle.model.specs.declared.Event.the-variants.{Lock, Order, Cast, Deliver, Timeout, Decide, Stop, Save, Restore, OfBallots}
+use Rattle.model.specs.declared.BallotEvent.{BallotEvent}
 use Rattle.model.specs.declared.BallotEvent.the-variants.{Open, Carry}
 use Rattle.protocol.specs.BallotSteps.{ballotSubject, ballotsAfter}
 use Rattle.protocol.specs.declared.Condition.the-variants.{Stopped}
@@ -25,6 +26,9 @@ use Rattle.protocol.specs.declared.Controller.{Controller}
 use Rattle.protocol.specs.declared.Answer.{Answer}
 use Rattle.protocol.specs.declared.Identity.{Identity}
 use Rattle.protocol.specs.declared.Saved.the-variants.{Newest}
+use Rattle.protocol.specs.declared.Station.{Station}
+use Rattle.protocol.specs.declared.Shared.{Shared}
+use Rattle.protocol.specs.declared.Bench.{Bench}
 use Rattle.protocol.specs.Controllers.{runs, standsBy, phase, outcome, cleared, dropContradicting, conclude}
 use Rattle.protocol.specs.Rules.{passedOver, becomes, voteRule, firstTimeout, secondTimeout}
 use Rattle.protocol.specs.Calls.{validIdentity, vote, addressed, arrives, contradictsHeld, tested, receive, timeout, awaitsDecision, decide, stop, checkpointOf, save}
@@ -32,8 +36,8 @@ use Rattle.protocol.specs.Counts.{countsAfter}
 use Rattle.protocol.specs.Benches.{identity, message, ofKind, sentAfter}
 use Rattle.protocol.specs.Events.{concernsOne, subject, source, restoreFrom, answerTo}
 use Rattle.protocol.specs.Questions.{firstNo}
-use Rattle.protocol.specs.Steps.{proposedTo, decidedAs, stationAfter, answering, keeping, effectOf}
-use Rattle.protocol.proofs.view.View.{View, ballotsV, stationV, putBackV, sharedV, openedV, accepts, playV, ask-l, ask-r}
+use Rattle.protocol.specs.Steps.{proposedTo, decidedAs, stationAfter, answering, keeping, effectOf, perform, performOne}
+use Rattle.protocol.proofs.view.View.{View, same-view, ballotsV, stationV, putBackV, sharedV, openedV, accepts, playOneV, ask-l, ask-r}
 
 -- one controller's answer put back
 unfoldable pub commitV : View → ℕ → Answer → View
@@ -77,6 +81,12 @@ pub upd-id : {A : Type 0} (F : ℕ → A) (i : ℕ) → upd F i (F i) ≡ F
 unfolding upd
 upd-id F i = fun-ext (upd F i (F i)) F (λ k. elim (split (eqb k i)) [ inl e ↦ rw (e, eqb-true k i e) | inr e ↦ rw e ])
 
+-- it concerns one controller, and does what that answers
+pub record Answered (e : Event) : Type 0 where
+  pub one : concernsOne e ≡ true
+  pub performs : (b : Bench) → perform b e ≡ performOne b e
+  pub effects : (m : Shared) (s : Station) (a : Answer) → effectOf m e s a ≡ answering m s a
+
 module _ (n f : ℕ) where
   abbrev pub identityV : View → ℕ → Identity
   identityV v i = identity (sharedV n f v) i
@@ -113,61 +123,44 @@ module _ (n f : ℕ) where
   performV v (OfBallots e) = ballotsV v (ballotsAfter n (v .ballots) ((v .ctl (ballotSubject e)) .proposal) e)
   performV v (Restore i) = commitV v i (restoreFrom (identityV v i) (v .saved i) (v .ctl i))
 
+  -- what an accepted event does, with one case for the kinds that a rule alone answers
+  pub by-effect : (v : View) (P : Event → View → Type 0) → ((a c : ℕ) (own : Bool) → P (Lock a c own) v) → ((o : ℕ) → P (Order o) (openedV n f v o))
+      → ((e : Event) → Answered e → P e (commitV v (subject e) (ruleAnswer v e)))
+      → ((i : ℕ) (w : Bool) → P (Decide i w) (commitV (chosen v w) i (ruleAnswer v (Decide i w)))) → ((i : ℕ) → P (Save i) (savedV v i (checkpointAt v i)))
+      → ((e : BallotEvent) → P (OfBallots e) (ballotsV v (ballotsAfter n (v .ballots) ((v .ctl (ballotSubject e)) .proposal) e))) → (e : Event) → P e (performV v e)
+  unfolding performV ruleAnswer perform effectOf
+  by-effect v P lock order answer decide save ballots (Lock a c own) = lock a c own
+  by-effect v P lock order answer decide save ballots (Order o) = order o
+  by-effect v P lock order answer decide save ballots (Cast i w t) = answer (Cast i w t) (record { one = refl; performs = λ b. refl; effects = λ m s a. refl })
+  by-effect v P lock order answer decide save ballots (Deliver i j k) = answer (Deliver i j k) (record { one = refl; performs = λ b. refl; effects = λ m s a. refl })
+  by-effect v P lock order answer decide save ballots (Timeout i) = answer (Timeout i) (record { one = refl; performs = λ b. refl; effects = λ m s a. refl })
+  by-effect v P lock order answer decide save ballots (Decide i w) = decide i w
+  by-effect v P lock order answer decide save ballots (Stop i) = answer (Stop i) (record { one = refl; performs = λ b. refl; effects = λ m s a. refl })
+  by-effect v P lock order answer decide save ballots (Save i) = save i
+  by-effect v P lock order answer decide save ballots (Restore i) = answer (Restore i) (record { one = refl; performs = λ b. refl; effects = λ m s a. refl })
+  by-effect v P lock order answer decide save ballots (OfBallots e) = ballots e
+
+  pub perform-order : (v : View) (e : Event) → concernsOne e ≡ true → (performV v e) .order ≡ v .order
+  unfolding commitV chosen savedV ballotsV
+  perform-order v = by-effect v (λ e w. concernsOne e ≡ true → w .order ≡ v .order) (λ a c own z. absurd (false≢true z)) (λ o z. absurd (false≢true z)) (λ e c z. refl) (λ i w z. refl) (λ i z. refl) (λ e z. refl)
+
   module _ (v : View) where
     -- an answer, put back
     answer-back : (i : ℕ) (a a′ : Answer) → a ≡ a′ → putBackV v i (answering (sharedV n f v) (stationV v i) a) ≡ commitV v i a′
     answer-back i a a′ e = back ∙ ap (commitV v i) e
       where
         back : putBackV v i (answering (sharedV n f v) (stationV v i) a) ≡ commitV v i a
-        back = unfold putBackV answering proposedTo stationAfter commitV in λ p. record {
-          own = v .own;
-          order = v .order;
-          state = record {
-            sent = upd (v .state .sent) i (sentAfter (v .state .sent i) (a .sends));
-            consensus = record {
-              «move_proposed» = v .state .consensus .«move_proposed» || isMove (a .proposal);
-              «stay_proposed» = v .state .consensus .«stay_proposed» || isStay (a .proposal);
-              decision = v .state .consensus .decision;
-            };
-          };
-          ctl = upd (v .ctl) i (a .controller);
-          saved = upd-id (v .saved) i p;
-          counts = countsAfter ((v .ctl i) .condition) (a .controller .condition) (v .counts);
-          ballots = v .ballots;
-        }
+        back = unfold putBackV answering proposedTo stationAfter commitV in same-view _ _ refl refl refl refl refl (upd-id (v .saved) i) refl refl
 
     decision-back : (i : ℕ) (w : Bool) (a a′ : Answer) → a ≡ a′ → putBackV v i (answering (decidedAs (sharedV n f v) w) (stationV v i) a) ≡ commitV (chosen v w) i a′
     decision-back i w a a′ e = back ∙ ap (commitV (chosen v w) i) e
       where
         back : putBackV v i (answering (decidedAs (sharedV n f v) w) (stationV v i) a) ≡ commitV (chosen v w) i a
-        back = unfold putBackV answering decidedAs proposedTo stationAfter commitV chosen in λ p. record {
-          own = v .own;
-          order = v .order;
-          state = record {
-            sent = upd (v .state .sent) i (sentAfter (v .state .sent i) (a .sends));
-            consensus = record {
-              «move_proposed» = v .state .consensus .«move_proposed» || isMove (a .proposal);
-              «stay_proposed» = v .state .consensus .«stay_proposed» || isStay (a .proposal);
-              decision = wordOf w;
-            };
-          };
-          ctl = upd (v .ctl) i (a .controller);
-          saved = upd-id (v .saved) i p;
-          counts = countsAfter ((v .ctl i) .condition) (a .controller .condition) (v .counts);
-          ballots = v .ballots;
-        }
+        back = unfold putBackV answering decidedAs proposedTo stationAfter commitV chosen in same-view _ _ refl refl refl refl refl (upd-id (v .saved) i) refl refl
 
-    saved-back : (i : ℕ) → (runs (v .ctl i) || standsBy (v .ctl i)) ≡ true → playV n f v (Save i) ≡ savedV v i (checkpointAt v i)
-    unfolding playV effectOf putBackV keeping savedV
-    saved-back i p = λ t. record {
-      own = v .own;
-      order = v .order;
-      state = record { sent = upd-id (v .state .sent) i t; consensus = v .state .consensus };
-      ctl = upd-id (v .ctl) i t;
-      saved = upd (v .saved) i (save-is t);
-      counts = v .counts;
-      ballots = v .ballots;
-    }
+    pub saved-back : (i : ℕ) → (runs (v .ctl i) || standsBy (v .ctl i)) ≡ true → playOneV n f v (Save i) ≡ savedV v i (checkpointAt v i)
+    unfolding effectOf putBackV keeping savedV
+    saved-back i p = same-view _ _ refl refl (upd-id (v .state .sent) i) refl (upd-id (v .ctl) i) (ap (upd (v .saved) i) save-is) refl refl
       where
         save-is : save (identityV v i) (v .ctl i) ≡ Newest (checkpointAt v i)
         save-is = unfold save checkpointOf in rw p
@@ -220,24 +213,16 @@ module _ (n f : ℕ) where
   answerV v e = answerTo (sharedV n f v) e (v .state .sent (source e)) (stationV v (subject e))
 
   -- what the test of vote sets looks at: no acknowledgement held contradicts the own vote; a delivered vote set suits its kind and contradicts none held
-  abbrev pub Clear : View → Event → Type 0
-  Clear v (Lock a c own) = Unit {0}
-  Clear v (Order o) = Unit {0}
-  Clear v (Cast i w t) = dropContradicting n (single i w) (v .ctl i) ≡ v .ctl i
-  Clear v (Deliver i j k) = (suits (message (sharedV n f v) k i j (v .state .sent i)) ≡ true) × (contradictsHeld n (v .ctl j) ((ofKind k (v .state .sent i)) .votes) ≡ false)
-  Clear v (Timeout i) = Unit {0}
-  Clear v (Decide i w) = Unit {0}
-  Clear v (Stop i) = Unit {0}
-  Clear v (Save i) = Unit {0}
-  Clear v (OfBallots e) = Unit {0}
-  Clear v (Restore i) = Unit {0}
+  pub record Clear (v : View) (e : Event) : Type 0 where
+    pub own : (i : ℕ) (w : Bool) (t : ℕ) → e ≡ Cast i w t → dropContradicting n (single i w) (v .ctl i) ≡ v .ctl i
+    pub delivered : (i j : ℕ) (k : Kind) → e ≡ Deliver i j k → (suits (message (sharedV n f v) k i j (v .state .sent i)) ≡ true) × (contradictsHeld n (v .ctl j) ((ofKind k (v .state .sent i)) .votes) ≡ false)
 
   pub answered-by-rule : sizesInRange n f ≡ true → (v : View) (e : Event) → Clear v e → accepts n f v e ≡ true → answerV v e ≡ ruleAnswer v e
   unfolding answerTo ruleAnswer accepts firstNo
   answered-by-rule z v (Lock a c own) k q = refl
   answered-by-rule z v (Order o) k q = refl
-  answered-by-rule z v (Cast i w t) k q = vote-is v z (search (ask-l, ask-r) depth 14) i w t _ (search (ask-l, ask-r) depth 14) (search (ask-l, ask-r) depth 14) (search (ask-l, ask-r) depth 14) k
-  answered-by-rule z v (Deliver i j kind) k q = receive-is v z (search (ask-l, ask-r) depth 14) kind i j _ (search (ask-l, ask-r, and-l, and-r) depth 14) (search (ask-l, ask-r, and-l, and-r) depth 14) (search (ask-l, ask-r) depth 14) (search (ask-l, ask-r) depth 14) (k .0) (k .1)
+  answered-by-rule z v (Cast i w t) k q = vote-is v z (search (ask-l, ask-r) depth 14) i w t _ (search (ask-l, ask-r) depth 14) (search (ask-l, ask-r) depth 14) (search (ask-l, ask-r) depth 14) (k .own i w t refl)
+  answered-by-rule z v (Deliver i j kind) k q = receive-is v z (search (ask-l, ask-r) depth 14) kind i j _ (search (ask-l, ask-r, and-l, and-r) depth 14) (search (ask-l, ask-r, and-l, and-r) depth 14) (search (ask-l, ask-r) depth 14) (search (ask-l, ask-r) depth 14) (k .delivered i j kind refl .0) (k .delivered i j kind refl .1)
   answered-by-rule z v (Timeout i) k q = timeout-is v z (search (ask-l, ask-r) depth 14) i _ (search (ask-l, ask-r) depth 14) (search (ask-l, ask-r) depth 14) (search (ask-l, ask-r) depth 14)
   answered-by-rule z v (Decide i w) k q = decide-is w _ (search (ask-l, ask-r) depth 14) (search (ask-l, ask-r) depth 14)
   answered-by-rule z v (Stop i) k q = stop-is _ (search (ask-l, ask-r) depth 14)
@@ -245,18 +230,14 @@ module _ (n f : ℕ) where
   answered-by-rule z v (OfBallots e) k q = refl
   answered-by-rule z v (Restore i) k q = refl
 
-  pub performed : sizesInRange n f ≡ true → (v : View) (e : Event) → Clear v e → accepts n f v e ≡ true → playV n f v e ≡ performV v e
-  unfolding playV effectOf performV ruleAnswer
-  performed z v (Lock a c own) k q = refl
-  performed z v (Order o) k q = refl
-  performed z v (Cast i w t) k q = answer-back v i _ _ (answered-by-rule z v (Cast i w t) k q)
-  performed z v (Deliver i j kind) k q = answer-back v j _ _ (answered-by-rule z v (Deliver i j kind) k q)
-  performed z v (Timeout i) k q = answer-back v i _ _ (answered-by-rule z v (Timeout i) k q)
-  performed z v (Decide i w) k q = decision-back v i w _ _ (answered-by-rule z v (Decide i w) k q)
-  performed z v (Stop i) k q = answer-back v i _ _ (answered-by-rule z v (Stop i) k q)
-  performed z v (Save i) k q = saved-back v i (unfold accepts firstNo in search (ask-l, ask-r) depth 14)
-  performed z v (OfBallots e) k q = refl
-  performed z v (Restore i) k q = answer-back v i _ _ (answered-by-rule z v (Restore i) k q)
+  -- what it does, put back
+  module _ (sized : sizesInRange n f ≡ true) (v : View) where
+    pub answered-back : (e : Event) → Answered e → Clear v e → accepts n f v e ≡ true → playOneV n f v e ≡ commitV v (subject e) (ruleAnswer v e)
+    answered-back e x k q = ap (putBackV v (subject e)) (x .effects (sharedV n f v) (stationV v (subject e)) (answerV v e)) ∙ answer-back v (subject e) _ _ (answered-by-rule sized v e k q)
+
+    pub decided-back : (i : ℕ) (w : Bool) → Clear v (Decide i w) → accepts n f v (Decide i w) ≡ true → playOneV n f v (Decide i w) ≡ commitV (chosen v w) i (ruleAnswer v (Decide i w))
+    unfolding effectOf
+    decided-back i w k q = decision-back v i w _ _ (answered-by-rule sized v (Decide i w) k q)
 
   -- a delivered message has a receiver among the controllers, and so on: the controller that an accepted event concerns is one of them
   pub place : (v : View) (e : Event) → concernsOne e ≡ true → accepts n f v e ≡ true → (1 ≤ subject e) × (subject e ≤ n)

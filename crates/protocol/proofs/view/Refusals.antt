@@ -6,8 +6,6 @@ use lib.Dec.{eqb}
 use Rattle.ground.specs.Tests.{by-cond}
 use Rattle.votes.specs.declared.VoteSet.{VoteSet}
 use Rattle.model.specs.declared.Kind.{Kind}
-use Rattle.model.specs.declared.Kind.the-variants.{Vote, Ack, Help, Helped}
-use Rattle.model.specs.declared.Checkpoint.{Checkpoint}
 use Rattle.model.specs.declared.Event.{Event}
 use Rattle.model.specs.declared.Event.the-variants.{Lock, Order, Cast, Deliver, Timeout, Decide, Stop, Save, Restore, OfBallots}
 use Rattle.protocol.specs.declared.Identity.{Identity}
@@ -17,12 +15,12 @@ use Rattle.protocol.specs.declared.Saved.{Saved}
 use Rattle.protocol.specs.declared.Sent.{Sent}
 use Rattle.protocol.specs.declared.Station.{Station}
 use Rattle.protocol.specs.declared.Shared.{Shared}
-use Rattle.protocol.specs.Controllers.{runs, standsBy, isStopped, phase}
-use Rattle.protocol.specs.Rules.{isContradicted, passedOver, becomes, proposing, voteRule, firstTimeout, proposeIfSufficient, ready, callsHelp, secondTimeout, keepsCall, answersCall}
-use Rattle.protocol.specs.Calls.{validIdentity, vote, arrives, timeout, awaitsDecision, decide, stop, restore}
+use Rattle.protocol.specs.Controllers.{runs, standsBy, phase}
+use Rattle.protocol.specs.Rules.{isContradicted, passedOver, becomes, proposing, voteRule, firstTimeout, proposeIfSufficient, ready, callsHelp, secondTimeout, answersCall}
+use Rattle.protocol.specs.Calls.{validIdentity, vote, arrives, timeout, awaitsDecision, decide, stop}
 use Rattle.protocol.specs.Events.{restoreFrom, answerTo}
 use Rattle.protocol.specs.Questions.{agreesAt}
-use Rattle.protocol.proofs.view.RuleCases.{vote-cases, help-cases, restore-cases, sufficient-cases, ack-cases, helped-cases, second-cases}
+use Rattle.protocol.proofs.view.RuleCases.{restore-cases, sufficient-cases, second-cases, arrives-cases}
 
 pub record Unrefused (a : Answer) : Type 0 where
   pub is : isContradicted (a .reception) ≡ false
@@ -41,11 +39,7 @@ counted-unrefused : (n f : ℕ) (a : Answer) → Unrefused a → Unrefused (prop
 counted-unrefused n f a u = sufficient-cases Unrefused n f a (λ q. unfold proposing in record { is = u .is }) (λ q. u)
 
 pub arrives-unrefused : (kind : Kind) (n f j : ℕ) (s : VoteSet) (c : Controller) → Unrefused (arrives kind n f j s c)
-unfolding arrives
-arrives-unrefused Vote n f j s c = vote-cases Unrefused s c (λ h. becomes-unrefused _) (passed-unrefused c)
-arrives-unrefused Ack n f j s c = ack-cases Unrefused n f j s c (λ h. counted-unrefused n f _ (becomes-unrefused _)) (λ h. passed-unrefused c)
-arrives-unrefused Help n f j s c = help-cases Unrefused j c (λ p. unfold keepsCall in becomes-unrefused _) (λ p q. unfold answersCall in record { is = refl }) (λ q. passed-unrefused c)
-arrives-unrefused Helped n f j s c = helped-cases Unrefused n f j s c (λ p h. counted-unrefused n f _ (becomes-unrefused _)) (λ q. passed-unrefused c)
+arrives-unrefused kind n f j s c = arrives-cases Unrefused n f kind j s c (λ c′ q. becomes-unrefused c′) (counted-unrefused n f) (λ z p q. unfold answersCall in record { is = refl }) (passed-unrefused c)
 
 second-unrefused : (n f i : ℕ) (c : Controller) → Unrefused (secondTimeout n f i c)
 second-unrefused n f i c = second-cases Unrefused n f i c (λ q. unfold ready in record { is = refl }) (λ q. unfold proposing ready in record { is = refl })
@@ -69,10 +63,7 @@ unfolding stop
 stop-unrefused c = by-cond Unrefused (runs c || standsBy c) _ _ (λ e. becomes-unrefused _) (λ e. passed-unrefused c)
 
 restore-unrefused : (me : Identity) (x : Saved) (c : Controller) → Unrefused (restoreFrom me x c)
-restore-unrefused me x c = restore-cases Unrefused me x c (λ p q. restored p) (passed-unrefused c)
-  where
-    restored : (p : Checkpoint) → Unrefused (restore me p c)
-    restored p = unfold restore in by-cond Unrefused (isStopped (c .condition)) _ _ (λ e. becomes-unrefused _) (λ e. passed-unrefused c)
+restore-unrefused me x c = restore-cases Unrefused me x c (λ p q e. becomes-unrefused _) (passed-unrefused c)
 
 abbrev pub delivers : Event → Bool
 delivers (Lock n f own) = false

@@ -1,20 +1,24 @@
 -- The cases of each rule, once: what holds of every answer that a rule may give, with the tests on the way to it, holds of the rule's answer.
 use Prim.Native.Nat.{ℕ, _≤_}
-use mathlib.Core.Path.{_≡_}
-use mathlib.Core.Bool.{true, false, not, _&&_, _||_}
+use mathlib.Core.Path.{_≡_, refl}
+use mathlib.Core.Bool.{true, false, cond, not, _&&_, _||_}
 use lib.Dec.{leb, eqb, ltb}
 use borrow.Author.Tests.{leb-true, leb-false, eqb-true, not-true}
 use Rattle.ground.specs.Tests.{by-cond, and-l, and-r}
 use Rattle.votes.specs.declared.VoteSet.{VoteSet}
+use Rattle.model.specs.declared.Kind.{Kind}
+use Rattle.model.specs.declared.Kind.the-variants.{Vote, Ack, Help, Helped}
+use Rattle.model.specs.declared.Outcome.the-variants.{None}
 use Rattle.model.specs.declared.Checkpoint.{Checkpoint}
+use Rattle.protocol.specs.declared.Condition.the-variants.{Standby}
 use Rattle.protocol.specs.declared.Controller.{Controller}
 use Rattle.protocol.specs.declared.Answer.{Answer}
 use Rattle.protocol.specs.declared.Identity.{Identity}
 use Rattle.protocol.specs.declared.Saved.{Saved}
 use Rattle.protocol.specs.declared.Saved.the-variants.{Nothing, Newest}
-use Rattle.protocol.specs.Controllers.{phase, hasAck, hasHelped, hasCalled, learn, keepAck, keepHelped, conclude}
+use Rattle.protocol.specs.Controllers.{isStopped, cleared, phase, hasAck, hasHelped, hasCalled, learn, keepAck, keepHelped, addCaller, conclude}
 use Rattle.protocol.specs.Rules.{passedOver, becomes, proposing, verdict, voteArrives, firstTimeout, ackJoin, decides, sufficient, answersJoin, proposeIfSufficient, helpVotes, frozen, ready, callsHelp, secondTimeout, ackArrives, helpedArrives, keepsCall, answersCall, helpArrives}
-use Rattle.protocol.specs.Calls.{restore}
+use Rattle.protocol.specs.Calls.{arrives, restore}
 use Rattle.protocol.specs.Events.{restoreFrom}
 use Rattle.protocol.proofs.view.Performed.{timeoutRule}
 
@@ -31,10 +35,11 @@ module _ (P : Answer → Type 0) where
       (λ q. by-cond P (leb (phase c) 2) _ _ (λ e. early (leb-true _ _ e)) (λ e. late (leb-false _ _ e) q))
 
   -- a checkpoint is used by a stopped controller alone
-  pub restore-cases : (me : Identity) (s : Saved) (c : Controller) → ((x : Checkpoint) → s ≡ Newest x → P (restore me x c)) → P (passedOver c) → P (restoreFrom me s c)
-  unfolding restoreFrom
+  pub restore-cases : (me : Identity) (s : Saved) (c : Controller) → ((x : Checkpoint) → s ≡ Newest x → isStopped (c .condition) ≡ true → P (becomes (cleared (Standby (cond (eqb (x .order) (me .order)) (x .outcome) None)) c)))
+      → P (passedOver c) → P (restoreFrom me s c)
+  unfolding restoreFrom restore
   restore-cases me Nothing c taken none = none
-  restore-cases me (Newest x) c taken none = taken x (λ i. Newest x)
+  restore-cases me (Newest x) c taken none = by-cond P (isStopped (c .condition)) _ _ (taken x (λ i. Newest x)) (λ e. none)
 
   module _ (n f : ℕ) where
     -- the counts suffice, and a word is put; or not
@@ -67,3 +72,27 @@ module _ (P : Answer → Type 0) where
     pub timeout-cases : (i : ℕ) (c : Controller) → (phase c ≡ 1 → P (firstTimeout n f i c)) → (eqb (phase c) 1 ≡ false → P (secondTimeout n f i c)) → P (timeoutRule n f i c)
     unfolding timeoutRule
     timeout-cases i c first later = by-cond P (eqb (phase c) 1) _ _ (λ e. first (eqb-true _ _ e)) later
+
+-- A message that is kept, as a vote, an acknowledgement, a help call or an answer, leaves the condition, the gate, the word put and the help vote set.
+pub record Same (c c′ : Controller) : Type 0 where
+  pub condition : c′ .condition ≡ c .condition
+  pub gate : c′ .gate ≡ c .gate
+  pub proposal : c′ .proposal ≡ c .proposal
+  pub frozen : c′ .help .votes ≡ c .help .votes
+
+pub ack-same : (c : Controller) (j : ℕ) (s : VoteSet) → Same c (keepAck c j s)
+unfolding keepAck
+ack-same c j s = record { condition = refl; gate = refl; proposal = refl; frozen = refl }
+
+pub caller-same : (c : Controller) (j : ℕ) → Same c (addCaller c j)
+unfolding addCaller
+caller-same c j = record { condition = refl; gate = refl; proposal = refl; frozen = refl }
+
+-- So, for what looks at no more: a message of any kind is kept, and a word may be put then; or it is a help call that is answered; or it is passed over.
+pub arrives-cases : (P : Answer → Type 0) (n f : ℕ) (kind : Kind) (j : ℕ) (s : VoteSet) (c : Controller) → ((c′ : Controller) → Same c c′ → P (becomes c′)) → ((a : Answer) → P a → P (proposeIfSufficient n f a))
+    → (kind ≡ Help → 3 ≤ phase c → hasCalled c j ≡ false → P (answersCall j c)) → P (passedOver c) → P (arrives kind n f j s c)
+unfolding arrives learn keepHelped
+arrives-cases P n f Vote j s c keeps puts answers passes = vote-cases P s c (λ q. keeps (learn c s) (record { condition = refl; gate = refl; proposal = refl; frozen = refl })) passes
+arrives-cases P n f Ack j s c keeps puts answers passes = ack-cases P n f j s c (λ q. puts _ (keeps (keepAck c j s) (ack-same c j s))) (λ q. passes)
+arrives-cases P n f Help j s c keeps puts answers passes = help-cases P j c (λ q. unfold keepsCall in keeps (addCaller c j) (caller-same c j)) (answers refl) (λ q. passes)
+arrives-cases P n f Helped j s c keeps puts answers passes = helped-cases P n f j s c (λ p q. puts _ (keeps (keepHelped c j s) (record { condition = refl; gate = refl; proposal = refl; frozen = refl }))) (λ q. passes)

@@ -8,20 +8,19 @@ use native.Mathlib.Omega.{arith}
 use lib.ListN.{length, length-map}
 use mathlib.Core.Logic.{inl, inr}
 use Rattle.ground.specs.Limit.{limit}
-use Rattle.ground.specs.Tests.{split, by-cond, and-l, and-r}
+use Rattle.ground.specs.Tests.{split, by-cond}
 use Rattle.ground.specs.Update.{upd, fun-ext}
-use Rattle.ground.specs.Lists.{nth, put, nth-put, length-put, map-at}
-use Rattle.model.specs.Ranges.{sizesInRange, isController}
-use Rattle.model.specs.RangeLaws.{Ranges, ranges, member}
+use Rattle.ground.specs.Lists.{nth, put, nth-put, map-at}
+use Rattle.model.specs.Ranges.{sizesInRange}
+use Rattle.model.specs.RangeLaws.{Ranges, ranges}
 use Rattle.model.specs.declared.Kind.{Kind}
 use Rattle.model.specs.declared.Event.{Event}
-use Rattle.model.specs.declared.Event.the-variants.{Lock, Order, Cast, Deliver, Timeout, Decide, Stop, Save, Restore, OfBallots}
+use Rattle.model.specs.declared.Event.the-variants.{Order, Deliver, Decide, Save}
 use Rattle.protocol.specs.declared.Answer.{Answer}
 use Rattle.protocol.specs.declared.Station.{Station}
 use Rattle.protocol.specs.declared.Effect.{Effect}
-use Rattle.protocol.specs.declared.Sent.{Sent}
 use Rattle.protocol.specs.declared.Bench.{Bench}
-use Rattle.protocol.specs.Ballots.{newBallots, isChosen}
+use Rattle.protocol.specs.Ballots.{isChosen}
 use Rattle.protocol.specs.Controllers.{cleared}
 use Rattle.protocol.specs.Rules.{isContradicted}
 use Rattle.protocol.specs.Calls.{renew}
@@ -30,14 +29,15 @@ use Rattle.protocol.specs.Events.{subject, source, answerTo}
 use Rattle.protocol.specs.Questions.{Reply, accepted, refused, isAccepted, firstNo, mayOpen, mayGive, wasProposed, noOther, agreesAt, questionsOf, factsOf, reply}
 use Rattle.protocol.specs.QuestionLaws.{asked-last}
 use Rattle.protocol.specs.NoContradiction.{untestedReply}
-use Rattle.protocol.specs.Steps.{renewed, orderOpened, proposedTo, decidedAs, answering, effectOf, effect, putBack, performOne, perform, step, run}
-use Rattle.protocol.proofs.view.View.{View, ballotsV, mayGiveV, putBackV, openedV, accepts, playOneV, playV, ask-l, ask-r, part}
-use Rattle.protocol.proofs.view.Performed.{Clear, answerV, ruleAnswer, answered-by-rule, performed, stepV, runV}
+use Rattle.protocol.specs.Steps.{renewed, orderOpened, effect, putBack, performOne, perform, step, run}
+use Rattle.protocol.proofs.view.View.{View, same-view, ballotsV, mayGiveV, putBackV, openedV, accepts, playOneV, ask-l, ask-r, part}
+use Rattle.protocol.proofs.view.Kinds.{by-sort, One, one, tests-delivery}
+use Rattle.protocol.proofs.view.Performed.{Clear, answerV, ruleAnswer, answered-by-rule, answered-back, decided-back, saved-back, performV, by-effect, place as inside, stepV, runV}
 use Rattle.protocol.proofs.view.Refusals.{arrives-unrefused}
 use Rattle.protocol.proofs.invariant.Invariant.{Inv}
 use Rattle.protocol.proofs.invariant.Orders.{step-next, next-inv}
-use Rattle.protocol.proofs.claim.Ranges.{Given, AllIn, step-in}
-use Rattle.protocol.proofs.claim.Clear.{clear}
+use Rattle.protocol.proofs.ranges.Ranges.{AllIn, step-in}
+use Rattle.protocol.proofs.contradictions.Clear.{clear}
 use Rattle.protocol.proofs.paxos.Order.{Balloted, passes-18, step-balloted}
 
 unfoldable pub view : Bench → View
@@ -59,15 +59,7 @@ field b i lo hi g s = ap (λ (F : ℕ → Station). λ k. g (F k)) (nth-put (fre
 
 view-put-back : (b : Bench) (i : ℕ) → 1 ≤ i → i ≤ length (b .stations) → (t : Effect) → view (putBack b i t) ≡ putBackV (view b) i t
 unfolding view putBackV station
-view-put-back b i lo hi t = λ p. record {
-  own = t .shared .own;
-  order = t .shared .order;
-  state = record { sent = field b i lo hi (λ s. s .sent) (t .station) p; consensus = t .shared .consensus };
-  ctl = field b i lo hi (λ s. s .controller) (t .station) p;
-  saved = field b i lo hi (λ s. s .saved) (t .station) p;
-  counts = t .shared .counts;
-  ballots = b .ballots;
-}
+view-put-back b i lo hi t = same-view _ _ refl refl (field b i lo hi (λ s. s .sent) (t .station)) refl (field b i lo hi (λ s. s .controller) (t .station)) (field b i lo hi (λ s. s .saved) (t .station)) refl refl
 
 renewed-fresh : renewed (freshStation []) ≡ freshStation []
 unfolding renewed freshStation fresh renew cleared
@@ -80,18 +72,6 @@ renewed-at g b = fun-ext _ _ (λ k. ap g (map-at renewed (freshStation []) renew
 -- what stays in range, whatever the events bring
 abbrev pub Any : ℕ → Type 0
 Any x = Unit {0}
-
-given-any : (e : Event) → Given Any Any tt e
-given-any (Lock a c own) = tt
-given-any (Order o) = tt
-given-any (Cast i w t) = tt
-given-any (Deliver i j k) = tt
-given-any (Timeout i) = tt
-given-any (Decide i w) = tt
-given-any (Stop i) = tt
-given-any (Save i) = tt
-given-any (OfBallots e) = tt
-given-any (Restore i) = tt
 
 -- a bench with its lock, which keeps the invariant
 pub record Sound (b : Bench) : Type 0 where
@@ -112,9 +92,6 @@ module _ (b : Bench) (ok : Sound b) where
 
   abbrev f : ℕ
   f = b .shared .f
-
-  place : (i : ℕ) → isController n i ≡ true → i ≤ length (b .stations)
-  place i e = let p : length (b .stations) ≡ limit = ok .size in let q : n ≤ limit = ranges n f (ok .sized) .small in let h : i ≤ n = member n i e .high in omega arith
 
   -- behind the questions the test finds nothing
   clear-at : (e : Event) → accepts n f (view b) e ≡ true → Clear n f (view b) e
@@ -146,56 +123,39 @@ module _ (b : Bench) (ok : Sound b) where
   unfolding ruleAnswer view
   agrees i j kind q = ap (λ (a : Answer). not (isContradicted (a .reception))) (rule-sim (Deliver i j kind) q) ∙ ap not (arrives-unrefused kind n f i _ _ .is)
 
-  pub reply-untested : (e : Event) → reply b e ≡ untestedReply b e
+  delivery-untested : (i j : ℕ) (kind : Kind) → reply b (Deliver i j kind) ≡ untestedReply b (Deliver i j kind)
   unfolding reply
-  reply-untested (Lock a c own) = refl
-  reply-untested (Order o) = refl
-  reply-untested (Cast i w t) = refl
-  reply-untested (Deliver i j kind) = elim (split (accepts n f (view b) (Deliver i j kind))) [
+  delivery-untested i j kind = elim (split (accepts n f (view b) (Deliver i j kind))) [
     | inl q ↦ ap (λ (t : Bool). firstNo (questionsOf (factsOf (b .shared) (b .ballots) (Deliver i j kind) (station b j) (sentBy b i) (mayOpen (b .shared)) (mayGive (b .shared) (b .ballots)) t) (Deliver i j kind))) (agrees i j kind q)
     | inr q ↦ asked-last (b .shared) (b .ballots) (mayGive (b .shared) (b .ballots)) i j kind (station b j) (sentBy b i) (mayOpen (b .shared)) (agreesAt (b .shared) (Deliver i j kind) (sentBy b i) (station b j)) ∙ refused-before _ _ (untested-sim (Deliver i j kind) ∙ q)
   ]
-  reply-untested (Timeout i) = refl
-  reply-untested (Decide i w) = refl
-  reply-untested (Stop i) = refl
-  reply-untested (Save i) = refl
-  reply-untested (OfBallots e) = refl
-  reply-untested (Restore i) = refl
+
+  pub reply-untested : (e : Event) → reply b e ≡ untestedReply b e
+  reply-untested e = elim (tests-delivery b e) [ inl d ↦ subst (λ x. reply b x ≡ untestedReply b x) (sym (d .is)) (delivery-untested (d .from) (d .to) (d .kind)) | inr h ↦ h ]
 
   pub reply-sim : (e : Event) → isAccepted (reply b e) ≡ accepts n f (view b) e
   reply-sim e = ap (λ (r : Reply). isAccepted r) (reply-untested e) ∙ untested-sim e
 
   view-open : (o : ℕ) → view (perform b (Order o)) ≡ openedV n f (view b) o
   unfolding view perform openedV station renewed orderOpened
-  view-open o = λ t. record {
-    own = b .shared .own;
-    order = o;
-    state = record { sent = renewed-at (λ s. s .sent) b t; consensus = (orderOpened (b .shared) o) .consensus };
-    ctl = renewed-at (λ s. s .controller) b t;
-    saved = renewed-at (λ s. s .saved) b t;
-    counts = (orderOpened (b .shared) o) .counts;
-    ballots = newBallots;
-  }
+  view-open o = same-view _ _ refl refl (renewed-at (λ s. s .sent) b) refl (renewed-at (λ s. s .controller) b) (renewed-at (λ s. s .saved) b) refl refl
 
   -- an event of one controller
-  view-one : (e : Event) → isController n (subject e) ≡ true → view (performOne b e) ≡ playOneV n f (view b) e
-  view-one e m = view-put-back b (subject e) (member n (subject e) m .low) (place (subject e) m) (effect (b .shared) e (sentBy b (source e)) (station b (subject e))) ∙ same
+  view-one : (e : Event) → perform b e ≡ performOne b e → (1 ≤ subject e) × (subject e ≤ n) → view (perform b e) ≡ playOneV n f (view b) e
+  view-one e z p = ap view z ∙ view-put-back b (subject e) (p .0) (room (p .1)) (effect (b .shared) e (sentBy b (source e)) (station b (subject e))) ∙ same
     where
+      room : subject e ≤ n → subject e ≤ length (b .stations)
+      room h = let p : length (b .stations) ≡ limit = ok .size in let q : n ≤ limit = ranges n f (ok .sized) .small in omega arith
+
       same : putBackV (view b) (subject e) (effect (b .shared) e (sentBy b (source e)) (station b (subject e))) ≡ playOneV n f (view b) e
       same = unfold view in rw (ok .locked)
 
-  perform-sim : (e : Event) → accepts n f (view b) e ≡ true → view (perform b e) ≡ playV n f (view b) e
-  unfolding playV
-  perform-sim (Lock a c own) q = unfold accepts firstNo in absurd (false≢true (ask-l _ _ _ (ask-r _ _ _ q)))
-  perform-sim (Order o) q = view-open o
-  perform-sim (Cast i w t) q = unfold perform in view-one (Cast i w t) (unfold accepts firstNo in search (ask-l, ask-r) depth 14)
-  perform-sim (Deliver i j k) q = unfold perform in view-one (Deliver i j k) (unfold accepts firstNo in search (ask-l, ask-r, and-l, and-r) depth 14)
-  perform-sim (Timeout i) q = unfold perform in view-one (Timeout i) (unfold accepts firstNo in search (ask-l, ask-r) depth 14)
-  perform-sim (Decide i w) q = unfold perform in view-one (Decide i w) (unfold accepts firstNo in search (ask-l, ask-r) depth 14)
-  perform-sim (Stop i) q = unfold perform in view-one (Stop i) (unfold accepts firstNo in search (ask-l, ask-r) depth 14)
-  perform-sim (Save i) q = unfold perform in view-one (Save i) (unfold accepts firstNo in search (ask-l, ask-r) depth 14)
-  perform-sim (OfBallots e) q = unfold perform view ballotsV playV station in refl
-  perform-sim (Restore i) q = unfold perform in view-one (Restore i) (unfold accepts firstNo in search (ask-l, ask-r) depth 14)
+  perform-sim : (e : Event) → accepts n f (view b) e ≡ true → view (perform b e) ≡ performV n f (view b) e
+  perform-sim e = by-effect n f (view b) (λ e v. accepts n f (view b) e ≡ true → view (perform b e) ≡ v) (λ a c own q. unfold accepts firstNo in absurd (false≢true (ask-l _ _ _ (ask-r _ _ _ q)))) (λ o q. view-open o)
+      (λ e x q. view-one e (x .performs b) (inside n f (view b) e (x .one) q) ∙ answered-back n f (ok .sized) (view b) e x (clear-at e q) q)
+      (λ i w q. view-one (Decide i w) (unfold perform in refl) (inside n f (view b) (Decide i w) refl q) ∙ decided-back n f (ok .sized) (view b) i w (clear-at (Decide i w) q) q)
+      (λ i q. view-one (Save i) (unfold perform in refl) (inside n f (view b) (Save i) refl q) ∙ saved-back n f (view b) i (unfold accepts firstNo in search (ask-l, ask-r) depth 14))
+      (λ e q. unfold perform view ballotsV station in refl) e
 
   -- what a step leaves
   pub record Steps (b′ : Bench) : Type 0 where
@@ -210,42 +170,10 @@ module _ (b : Bench) (ok : Sound b) where
     same-n : b′ .shared .n ≡ b .shared .n
     same-f : b′ .shared .f ≡ b .shared .f
 
-  -- an effect keeps the lock
-  record Locked (t : Effect) : Type 0 where
-    locked : t .shared .locked ≡ b .shared .locked
-    same-n : t .shared .n ≡ b .shared .n
-    same-f : t .shared .f ≡ b .shared .f
-
-  one-locked : (e : Event) (sent : Sent) (s : Station) → Locked (effect (b .shared) e sent s)
-  unfolding effectOf answering proposedTo decidedAs
-  one-locked (Lock a c own) sent s = record { locked = refl; same-n = refl; same-f = refl }
-  one-locked (Order o) sent s = record { locked = refl; same-n = refl; same-f = refl }
-  one-locked (Cast i w t) sent s = record { locked = refl; same-n = refl; same-f = refl }
-  one-locked (Deliver i j k) sent s = record { locked = refl; same-n = refl; same-f = refl }
-  one-locked (Timeout i) sent s = record { locked = refl; same-n = refl; same-f = refl }
-  one-locked (Decide i w) sent s = record { locked = refl; same-n = refl; same-f = refl }
-  one-locked (Stop i) sent s = record { locked = refl; same-n = refl; same-f = refl }
-  one-locked (Save i) sent s = record { locked = refl; same-n = refl; same-f = refl }
-  one-locked (OfBallots e) sent s = record { locked = refl; same-n = refl; same-f = refl }
-  one-locked (Restore i) sent s = record { locked = refl; same-n = refl; same-f = refl }
-
-  one-placed : (e : Event) → Placed (performOne b e)
-  one-placed e =
-      let t : Locked (effect (b .shared) e (sentBy b (source e)) (station b (subject e))) = one-locked e _ _ in
-      record { locked = t .locked ∙ ok .locked; size = length-put (b .stations) (subject e) _ ∙ ok .size; same-n = t .same-n; same-f = t .same-f }
-
   perform-placed : (e : Event) → accepts n f (view b) e ≡ true → Placed (perform b e)
-  unfolding perform
-  perform-placed (Lock a c own) q = unfold accepts firstNo in absurd (false≢true (ask-l _ _ _ (ask-r _ _ _ q)))
-  perform-placed (Order o) q = unfold orderOpened in record { locked = ok .locked; size = length-map (b .stations) renewed ∙ ok .size; same-n = refl; same-f = refl }
-  perform-placed (Cast i w t) q = one-placed (Cast i w t)
-  perform-placed (Deliver i j k) q = one-placed (Deliver i j k)
-  perform-placed (Timeout i) q = one-placed (Timeout i)
-  perform-placed (Decide i w) q = one-placed (Decide i w)
-  perform-placed (Stop i) q = one-placed (Stop i)
-  perform-placed (Save i) q = one-placed (Save i)
-  perform-placed (OfBallots e) q = record { locked = ok .locked; size = ok .size; same-n = refl; same-f = refl }
-  perform-placed (Restore i) q = one-placed (Restore i)
+  perform-placed = by-sort (λ e. accepts n f (view b) e ≡ true → Placed (perform b e)) (λ a c own q. unfold accepts firstNo in absurd (false≢true (ask-l _ _ _ (ask-r _ _ _ q))))
+      (λ o q. unfold perform orderOpened in record { locked = ok .locked; size = length-map (b .stations) renewed ∙ ok .size; same-n = refl; same-f = refl })
+      (λ e c q. let k : One b e = one b e c in record { locked = k .locked ∙ ok .locked; size = k .size ∙ ok .size; same-n = k .same-n; same-f = k .same-f })
 
   step-placed : (e : Event) → Placed (step b e)
   unfolding step
@@ -254,16 +182,20 @@ module _ (b : Bench) (ok : Sound b) where
   pub step-sim : (e : Event) → view (step b e) ≡ stepV n f (view b) e
   unfolding step stepV
   step-sim e = elim (split (accepts n f (view b) e)) [
-    | inl q ↦ rw (reply-sim e, q) (perform-sim e q ∙ performed n f (ok .sized) (view b) e (clear-at e q) q)
+    | inl q ↦ rw (reply-sim e, q) (perform-sim e q)
     | inr q ↦ rw (reply-sim e, q)
   ]
+
+  pub step-performs : (e : Event) → isAccepted (reply b e) ≡ true → view (step b e) ≡ performV n f (view b) e
+  unfolding step
+  step-performs e q = rw q (perform-sim e (sym (reply-sim e) ∙ q))
 
   pub step-steps : (e : Event) → Steps (step b e)
   step-steps e =
       let t : Placed (step b e) = step-placed e in
       let r : Ranges n f = ranges n f (ok .sized) in
       let i : Inv n f (stepV n f (view b) e) = next-inv n f (r .high) (r .low) (r .small) (view b) _ (step-next n f (r .high) (r .low) (r .small) (view b) e (ok .inv)) in
-      let a : AllIn Any Any tt n f (stepV n f (view b) e) = step-in Any Any tt n f (r .small) (view b) e (ok .inv) (λ q. given-any e) (ok .ranged) in
+      let a : AllIn Any Any tt n f (stepV n f (view b) e) = step-in Any Any tt n f (r .small) (view b) e (ok .inv) (λ q. record { target = λ i w t z. tt; number = λ o z. tt }) (ok .ranged) in
       record {
         sound = record {
           locked = t .locked;

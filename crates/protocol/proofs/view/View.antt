@@ -1,18 +1,19 @@
 -- The bench seen as functions of the controller's number, with n and f as they were locked. The questions and the effect of an event are the
 -- definitions' own; only where the stations lie differs. Simulation.antt shows that the bench of the declared types steps as its view does, and
 -- Performed.antt which rule an accepted event comes down to.
-use Prim.Native.Nat.{ℕ}
+use Prim.Native.Nat.{ℕ, zero, suc}
 use mathlib.Core.Path.{_≡_, refl, sym}
 use mathlib.Core.Logic.{inl, inr}
 use lib.Dec.{eqb}
 use Rattle.ground.specs.Tests.{split}
 use native.Mathlib.Omega.{arith}
 use mathlib.Core.Bool.{Bool, true, false, cond, _&&_}
+use lib.ListN.{replicate}
+use Rattle.ground.specs.Lists.{nth}
 use Rattle.ground.specs.Update.{upd, fun-ext}
 use Rattle.model.specs.declared.Outcome.{Outcome}
 use Rattle.model.specs.declared.Outcome.the-variants.{None}
 use Rattle.model.specs.declared.Event.{Event}
-use Rattle.model.specs.declared.Event.the-variants.{Lock, Order, Cast, Deliver, Timeout, Decide, Stop, Save, Restore, OfBallots}
 use Rattle.protocol.specs.declared.Controller.{Controller}
 use Rattle.protocol.specs.declared.Saved.{Saved}
 use Rattle.protocol.specs.declared.Saved.the-variants.{Nothing, Newest}
@@ -24,7 +25,6 @@ use Rattle.protocol.specs.declared.Shared.{Shared}
 use Rattle.protocol.specs.declared.Effect.{Effect}
 use Rattle.protocol.specs.declared.Ballots.{Ballots}
 use Rattle.protocol.specs.Ballots.{newBallots, isChosen}
-use Rattle.protocol.specs.BallotSteps.{ballotSubject, ballotsAfter}
 use Rattle.protocol.specs.Benches.{unsentAll, noConsensus}
 use Rattle.protocol.specs.Events.{subject, source}
 use Rattle.protocol.specs.Questions.{Reply, isAccepted, unless, firstNo, mayOpen, wasProposed, noOther, factsOf, questionsOf}
@@ -43,6 +43,18 @@ pub record View : Type 0 where
   pub saved : ℕ → Saved
   pub counts : Counts
   pub ballots : Ballots
+
+-- two are the same that are the same part by part: own, order, sent, consensus, controllers, checkpoints, counts, ballots
+pub same-view : (v w : View) → v .own ≡ w .own → v .order ≡ w .order → v .state .sent ≡ w .state .sent → v .state .consensus ≡ w .state .consensus → v .ctl ≡ w .ctl → v .saved ≡ w .saved → v .counts ≡ w .counts → v .ballots ≡ w .ballots → v ≡ w
+same-view v w own order sent consensus ctl saved counts ballots = λ p. record {
+  own = own p;
+  order = order p;
+  state = record { sent = sent p; consensus = consensus p };
+  ctl = ctl p;
+  saved = saved p;
+  counts = counts p;
+  ballots = ballots p;
+}
 
 unfoldable pub newOrderState : OrderState
 newOrderState = record { sent = λ k. unsentAll; consensus = noConsensus }
@@ -99,26 +111,22 @@ module _ (n f : ℕ) where
     ballots = newBallots;
   }
 
-  -- what an accepted event does
+  -- what an accepted event does at the station of its controller
   abbrev pub playOneV : View → Event → View
   playOneV v e = putBackV v (subject e) (effect (sharedV v) e (v .state .sent (source e)) (stationV v (subject e)))
-
-  unfoldable pub playV : View → Event → View
-  playV v (Lock a c own) = v
-  playV v (Order o) = openedV v o
-  playV v (Cast i willing target) = playOneV v (Cast i willing target)
-  playV v (Deliver i j kind) = playOneV v (Deliver i j kind)
-  playV v (Timeout i) = playOneV v (Timeout i)
-  playV v (Decide i move) = playOneV v (Decide i move)
-  playV v (Stop i) = playOneV v (Stop i)
-  playV v (Save i) = playOneV v (Save i)
-  playV v (OfBallots e) = ballotsV v (ballotsAfter n (v .ballots) ((v .ctl (ballotSubject e)) .proposal) e)
-  playV v (Restore i) = playOneV v (Restore i)
 
 -- a part of a function changed at one place
 pub part : {A B : Type 0} (g : A → B) (F : ℕ → A) (i : ℕ) (a : A) → (λ (k : ℕ). g (upd F i a k)) ≡ upd (λ k. g (F k)) i (g a)
 unfolding upd
 part g F i a = fun-ext (λ k. g (upd F i a k)) (upd (λ k. g (F k)) i (g a)) (λ k. elim (split (eqb k i)) [ inl e ↦ rw e | inr e ↦ rw e ])
+
+-- in a list of copies
+pub all-of-copies : {A : Type 0} (P : A → Type 0) (d a : A) → P d → P a → (m k : ℕ) → P (nth d (replicate m a) k)
+unfolding nth
+all-of-copies P d a x y m zero = x
+all-of-copies P d a x y zero (suc k) = x
+all-of-copies P d a x y (suc m) (suc zero) = y
+all-of-copies P d a x y (suc m) (suc (suc k)) = all-of-copies P d a x y m (suc k)
 
 -- an accepted event passed each test: one premise each, so that `search` finds them
 pub ask-l : (q : ℕ) (t : Bool) (rest : Reply) → isAccepted (unless q t rest) ≡ true → t ≡ true

@@ -1,0 +1,50 @@
+use borrow.Author.Tests.{not-true, not-false, lt-leb, le-leb}
+use Rattle.bench_state.proofs.Answers.{answers, past, here, none, said, denied}
+use borrow.Author.Needs.{needs}
+use Rattle.bench_state.proofs.questions.decide_question.Statement.{statement}
+use Rattle.bench_state.proofs.questions.decide_question.Tie as tie
+
+returns : tie.Need-returns
+returns c = λ move. answers (here (not-true _ (c .if1 .taken)))
+
+is-controller-requires : tie.Need-is-controller-requires
+is-controller-requires c κs = search needs
+
+returns-2 : tie.Need-returns-2
+returns-2 c = λ move. answers (past (not-false _ (c .before .before .if1 .left)) (here (denied (c .before .is-controller .ensures) (c .if2 .taken))))
+
+returns-3 : tie.Need-returns-3
+returns-3 c = λ move. answers (past (not-false _ (c .before .before .before .before .if1 .left)) (past (said (c .before .before .before .is-controller .ensures) (c .before .before .if2 .left)) (here (lt-leb _ _ (c .if3 .taken)))))
+
+is-present-requires : tie.Need-is-present-requires
+is-present-requires c κs = search needs
+
+returns-4 : tie.Need-returns-4
+returns-4 c = λ move. answers (past (not-false _ (c .before .before .before .before .before .before .if1 .left)) (past (said (c .before .before .before .before .before .is-controller .ensures) (c .before .before .before .before .if2 .left)) (past (le-leb _ _ (c .before .before .if3 .left)) (here (denied (c .before .is-present .ensures) (c .if4 .taken))))))
+
+awaits-decision-requires : tie.Need-awaits-decision-requires
+awaits-decision-requires c κs = search needs
+
+returns-5 : tie.Need-returns-5
+returns-5 c = λ move. answers (past (not-false _ (c .before .before .before .before .before .before .before .before .if1 .left)) (past (said (c .before .before .before .before .before .before .before .is-controller .ensures) (c .before .before .before .before .before .before .if2 .left)) (past (le-leb _ _ (c .before .before .before .before .if3 .left)) (past (said (c .before .before .before .is-present .ensures) (c .before .before .if4 .left)) (here (denied (c .before .awaits-decision .ensures) (c .if5 .taken)))))))
+
+returns-6 : tie.Need-returns-6
+returns-6 c = λ move. answers (past (not-false _ (c .before .before .before .before .before .before .before .before .before .if1 .left)) (past (said (c .before .before .before .before .before .before .before .before .is-controller .ensures) (c .before .before .before .before .before .before .before .if2 .left)) (past (le-leb _ _ (c .before .before .before .before .before .if3 .left)) (past (said (c .before .before .before .before .is-present .ensures) (c .before .before .before .if4 .left)) (past (said (c .before .before .awaits-decision .ensures) (c .before .if5 .left)) (here (not-true _ (c .if6 .taken))))))))
+
+returns-7 : tie.Need-returns-7
+returns-7 c = λ move. answers (past (not-false _ (c .before .before .before .before .before .before .before .before .before .if1 .left)) (past (said (c .before .before .before .before .before .before .before .before .is-controller .ensures) (c .before .before .before .before .before .before .before .if2 .left)) (past (le-leb _ _ (c .before .before .before .before .before .if3 .left)) (past (said (c .before .before .before .before .is-present .ensures) (c .before .before .before .if4 .left)) (past (said (c .before .before .awaits-decision .ensures) (c .before .if5 .left)) (past (not-false _ (c .if6 .left)) none))))))
+
+pub decide-question-spec : {M : Type 1} → statement M
+decide-question-spec =
+    tie.close
+    (tie.spec
+    returns
+    is-controller-requires
+    returns-2
+    returns-3
+    is-present-requires
+    returns-4
+    awaits-decision-requires
+    returns-5
+    returns-6
+    returns-7)

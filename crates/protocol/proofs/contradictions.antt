@@ -1,0 +1,3 @@
+-- No event of the bench meets vote sets that contradict each other.
+pub mod Clear
+pub mod Untouched
