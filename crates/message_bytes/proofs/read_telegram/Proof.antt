@@ -10,15 +10,6 @@ use borrow.Author.Needs.{needs}
 use Rattle.message_bytes.proofs.read_telegram.Statement.{statement}
 use Rattle.message_bytes.proofs.read_telegram.Tie as tie
 
-number2-requires : tie.Need-number2-requires
-number2-requires c κs = search needs
-
-form-on-requires : tie.Need-form-on-requires
-form-on-requires c κs = search needs
-
-frame-in-requires : tie.Need-frame-in-requires
-frame-in-requires c κs = search needs
-
 returns : tie.Need-returns
 returns c =
     let s = c .before .before .before .before .before .args .s .now in
@@ -33,9 +24,6 @@ fields-in-requires c κs =
     let on = form .ensures ∙ ap (formFor (length s)) (c .before .before .before .number2 .ensures) in
     enough (form .result) s (frame-length telegrams s (form .result) on (markOf (form .result .width)) refl _ (c .before .frame-in .ensures) (c .if1 .left))
 
-listed-requires : tie.Need-listed-requires
-listed-requires c κs = search needs
-
 returns-2 : tie.Need-returns-2
 returns-2 c =
     let s = c .before .before .before .before .before .before .before .before .args .s .now in
@@ -44,12 +32,6 @@ returns-2 c =
     let listed = c .before .listed in
     unlisted telegrams s (form .result) on (markOf (form .result .width)) refl _ (c .before .before .before .before .frame-in .ensures) (c .before .before .before .if1 .left)
     (ap (listedIn (form .result .body)) (sym (c .before .before .fields-in .ensures)) ∙ (sym (listed .ensures) ∙ not-true (listed .result) (c .if2 .taken)))
-
-telegram-of-requires : tie.Need-telegram-of-requires
-telegram-of-requires c κs = search needs
-
-question-in-requires : tie.Need-question-in-requires
-question-in-requires c κs = search needs
 
 returns-3 : tie.Need-returns-3
 returns-3 c =
@@ -77,14 +59,14 @@ pub read-telegram-spec : {M : Type 1} → statement M
 read-telegram-spec =
     tie.close
     (tie.spec
-    number2-requires
-    form-on-requires
-    frame-in-requires
+    (λ c κs. search needs)
+    (λ c κs. search needs)
+    (λ c κs. search needs)
     returns
     fields-in-requires
-    listed-requires
+    (λ c κs. search needs)
     returns-2
-    telegram-of-requires
-    question-in-requires
+    (λ c κs. search needs)
+    (λ c κs. search needs)
     returns-3
     returns-4)

@@ -3,30 +3,6 @@ use borrow.Author.Needs.{needs}
 use Rattle.ballot_rules.proofs.rows.was_sent_in.Statement.{statement}
 use Rattle.ballot_rules.proofs.rows.was_sent_in.Tie as tie
 
-enum-told : tie.Need-enum-told
-enum-told c = search needs
-
-is-owner-in-requires : tie.Need-is-owner-in-requires
-is-owner-in-requires c κs = search needs
-
-enum-told-2 : tie.Need-enum-told-2
-enum-told-2 c = search needs
-
-is-owner-in-requires-2 : tie.Need-is-owner-in-requires-2
-is-owner-in-requires-2 c κs = search needs
-
-enum-told-3 : tie.Need-enum-told-3
-enum-told-3 c = search needs
-
-was-put-requires : tie.Need-was-put-requires
-was-put-requires c κs = search needs
-
-enum-told-4 : tie.Need-enum-told-4
-enum-told-4 c = search needs
-
-is-owner-in-requires-3 : tie.Need-is-owner-in-requires-3
-is-owner-in-requires-3 c κs = search needs
-
 returns : tie.Need-returns
 unfolding wasSentIn
 returns c = simp (c .before .enum-told .given .1, c .is-owner-in .ensures)
@@ -47,14 +23,14 @@ pub was-sent-in-spec : {M : Type 1} → statement M
 was-sent-in-spec =
     tie.close
     (tie.spec
-    enum-told
-    is-owner-in-requires
-    enum-told-2
-    is-owner-in-requires-2
-    enum-told-3
-    was-put-requires
-    enum-told-4
-    is-owner-in-requires-3
+    (λ c. search needs)
+    (λ c κs. search needs)
+    (λ c. search needs)
+    (λ c κs. search needs)
+    (λ c. search needs)
+    (λ c κs. search needs)
+    (λ c. search needs)
+    (λ c κs. search needs)
     returns
     returns-2
     returns-3

@@ -7,29 +7,17 @@ use Rattle.bench_state.proofs.ballots.open_ballot_question.Tie as tie
 returns : tie.Need-returns
 returns c = answers (here (not-true _ (c .if1 .taken)))
 
-is-controller-requires : tie.Need-is-controller-requires
-is-controller-requires c κs = search needs
-
 returns-2 : tie.Need-returns-2
 returns-2 c = answers (past (not-false _ (c .before .before .if1 .left)) (here (denied (c .before .is-controller .ensures) (c .if2 .taken))))
 
 returns-3 : tie.Need-returns-3
 returns-3 c = answers (past (not-false _ (c .before .before .before .before .if1 .left)) (past (said (c .before .before .before .is-controller .ensures) (c .before .before .if2 .left)) (here (lt-leb _ _ (c .if3 .taken)))))
 
-is-running-requires : tie.Need-is-running-requires
-is-running-requires c κs = search needs
-
 returns-4 : tie.Need-returns-4
 returns-4 c = answers (past (not-false _ (c .before .before .before .before .before .before .if1 .left)) (past (said (c .before .before .before .before .before .is-controller .ensures) (c .before .before .before .before .if2 .left)) (past (le-leb _ _ (c .before .before .if3 .left)) (here (denied (c .before .is-running .ensures) (c .if4 .taken))))))
 
-may-open-ballot-requires : tie.Need-may-open-ballot-requires
-may-open-ballot-requires c κs = search needs
-
 returns-5 : tie.Need-returns-5
 returns-5 c = answers (past (not-false _ (c .before .before .before .before .before .before .before .before .if1 .left)) (past (said (c .before .before .before .before .before .before .before .is-controller .ensures) (c .before .before .before .before .before .before .if2 .left)) (past (le-leb _ _ (c .before .before .before .before .if3 .left)) (past (said (c .before .before .before .is-running .ensures) (c .before .before .if4 .left)) (here (denied (c .before .may-open-ballot .ensures) (c .if5 .taken)))))))
-
-may-settle-requires : tie.Need-may-settle-requires
-may-settle-requires c κs = search needs
 
 returns-6 : tie.Need-returns-6
 returns-6 c = answers (past (not-false _ (c .before .before .before .before .before .before .before .before .before .before .if1 .left)) (past (said (c .before .before .before .before .before .before .before .before .before .is-controller .ensures) (c .before .before .before .before .before .before .before .before .if2 .left)) (past (le-leb _ _ (c .before .before .before .before .before .before .if3 .left)) (past (said (c .before .before .before .before .before .is-running .ensures) (c .before .before .before .before .if4 .left)) (past (said (c .before .before .before .may-open-ballot .ensures) (c .before .before .if5 .left)) (here (denied (c .before .may-settle .ensures) (c .if6 .taken))))))))
@@ -42,13 +30,13 @@ open-ballot-question-spec =
     tie.close
     (tie.spec
     returns
-    is-controller-requires
+    (λ c κs. search needs)
     returns-2
     returns-3
-    is-running-requires
+    (λ c κs. search needs)
     returns-4
-    may-open-ballot-requires
+    (λ c κs. search needs)
     returns-5
-    may-settle-requires
+    (λ c κs. search needs)
     returns-6
     returns-7)

@@ -7,14 +7,8 @@ use Rattle.bench_state.proofs.table.cast_question.Tie as tie
 returns : tie.Need-returns
 returns c = λ willing. answers (here (not-true _ (c .if1 .taken)))
 
-is-controller-requires : tie.Need-is-controller-requires
-is-controller-requires c κs = search needs
-
 returns-2 : tie.Need-returns-2
 returns-2 c = λ willing. answers (past (not-false _ (c .before .before .if1 .left)) (here (denied (c .before .is-controller .ensures) (c .if2 .taken))))
-
-position-in-range-requires : tie.Need-position-in-range-requires
-position-in-range-requires c κs = search needs
 
 returns-3 : tie.Need-returns-3
 returns-3 c = λ willing. answers (past (not-false _ (c .before .before .before .before .if1 .left)) (past (said (c .before .before .before .is-controller .ensures) (c .before .before .if2 .left)) (here (denied (c .before .position-in-range .ensures) (c .if3 .taken)))))
@@ -22,14 +16,8 @@ returns-3 c = λ willing. answers (past (not-false _ (c .before .before .before 
 returns-4 : tie.Need-returns-4
 returns-4 c = λ willing. answers (past (not-false _ (c .before .before .before .before .before .before .if1 .left)) (past (said (c .before .before .before .before .before .is-controller .ensures) (c .before .before .before .before .if2 .left)) (past (said (c .before .before .before .position-in-range .ensures) (c .before .before .if3 .left)) (here (lt-leb _ _ (c .if4 .taken))))))
 
-is-running-requires : tie.Need-is-running-requires
-is-running-requires c κs = search needs
-
 returns-5 : tie.Need-returns-5
 returns-5 c = λ willing. answers (past (not-false _ (c .before .before .before .before .before .before .before .before .if1 .left)) (past (said (c .before .before .before .before .before .before .before .is-controller .ensures) (c .before .before .before .before .before .before .if2 .left)) (past (said (c .before .before .before .before .before .position-in-range .ensures) (c .before .before .before .before .if3 .left)) (past (le-leb _ _ (c .before .before .if4 .left)) (here (denied (c .before .is-running .ensures) (c .if5 .taken)))))))
-
-phase-in-requires : tie.Need-phase-in-requires
-phase-in-requires c κs = search needs
 
 returns-6 : tie.Need-returns-6
 returns-6 c = λ willing. answers (past (not-false _ (c .before .before .before .before .before .before .before .before .before .before .if1 .left)) (past (said (c .before .before .before .before .before .before .before .before .before .is-controller .ensures) (c .before .before .before .before .before .before .before .before .if2 .left)) (past (said (c .before .before .before .before .before .before .before .position-in-range .ensures) (c .before .before .before .before .before .before .if3 .left)) (past (le-leb _ _ (c .before .before .before .before .if4 .left)) (past (said (c .before .before .before .is-running .ensures) (c .before .before .if5 .left)) (here (rw (← c .before .phase-in .ensures) (ne-eqb _ _ (c .if6 .taken)))))))))
@@ -42,13 +30,13 @@ cast-question-spec =
     tie.close
     (tie.spec
     returns
-    is-controller-requires
+    (λ c κs. search needs)
     returns-2
-    position-in-range-requires
+    (λ c κs. search needs)
     returns-3
     returns-4
-    is-running-requires
+    (λ c κs. search needs)
     returns-5
-    phase-in-requires
+    (λ c κs. search needs)
     returns-6
     returns-7)

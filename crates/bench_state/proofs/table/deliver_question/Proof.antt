@@ -7,14 +7,8 @@ use Rattle.bench_state.proofs.table.deliver_question.Tie as tie
 returns : tie.Need-returns
 returns c = answers (here (not-true _ (c .if1 .taken)))
 
-different-controllers-requires : tie.Need-different-controllers-requires
-different-controllers-requires c κs = search needs
-
 returns-2 : tie.Need-returns-2
 returns-2 c = answers (past (not-false _ (c .before .before .if1 .left)) (here (denied (c .before .different-controllers .ensures) (c .if2 .taken))))
-
-route-requires : tie.Need-route-requires
-route-requires c κs = search needs
 
 returns-3 : tie.Need-returns-3
 returns-3 c = answers (past (not-false _ (c .before .before .before .before .if1 .left)) (past (said (c .before .before .before .different-controllers .ensures) (c .before .before .if2 .left)) (here (denied (c .before .route .ensures) (c .if3 .taken)))))
@@ -22,14 +16,8 @@ returns-3 c = answers (past (not-false _ (c .before .before .before .before .if1
 returns-4 : tie.Need-returns-4
 returns-4 c = answers (past (not-false _ (c .before .before .before .before .before .before .if1 .left)) (past (said (c .before .before .before .before .before .different-controllers .ensures) (c .before .before .before .before .if2 .left)) (past (said (c .before .before .before .route .ensures) (c .before .before .if3 .left)) (here (lt-leb _ _ (c .if4 .taken))))))
 
-is-running-requires : tie.Need-is-running-requires
-is-running-requires c κs = search needs
-
 returns-5 : tie.Need-returns-5
 returns-5 c = answers (past (not-false _ (c .before .before .before .before .before .before .before .before .if1 .left)) (past (said (c .before .before .before .before .before .before .before .different-controllers .ensures) (c .before .before .before .before .before .before .if2 .left)) (past (said (c .before .before .before .before .before .route .ensures) (c .before .before .before .before .if3 .left)) (past (le-leb _ _ (c .before .before .if4 .left)) (here (denied (c .before .is-running .ensures) (c .if5 .taken)))))))
-
-has-requires : tie.Need-has-requires
-has-requires c κs = search needs
 
 returns-6 : tie.Need-returns-6
 returns-6 c = answers (past (not-false _ (c .before .before .before .before .before .before .before .before .before .before .if1 .left)) (past (said (c .before .before .before .before .before .before .before .before .before .different-controllers .ensures) (c .before .before .before .before .before .before .before .before .if2 .left)) (past (said (c .before .before .before .before .before .before .before .route .ensures) (c .before .before .before .before .before .before .if3 .left)) (past (le-leb _ _ (c .before .before .before .before .if4 .left)) (past (said (c .before .before .before .is-running .ensures) (c .before .before .if5 .left)) (here (denied (c .before .has .ensures) (c .if6 .taken))))))))
@@ -45,14 +33,14 @@ deliver-question-spec =
     tie.close
     (tie.spec
     returns
-    different-controllers-requires
+    (λ c κs. search needs)
     returns-2
-    route-requires
+    (λ c κs. search needs)
     returns-3
     returns-4
-    is-running-requires
+    (λ c κs. search needs)
     returns-5
-    has-requires
+    (λ c κs. search needs)
     returns-6
     returns-7
     returns-8)

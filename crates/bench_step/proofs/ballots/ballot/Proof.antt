@@ -25,35 +25,8 @@ found c =
     let a = c .before .before in
     rw (c .answer-to .ensures, a .before .before .row-at .ensures .0, a .before .before .before .acceptor-at .ensures, a .before .before .before .before .before .before .before .ballot-of .ensures, a .before .before .before .before .before .before .before .before .proposal-of .ensures, a .before .before .before .before .before .before .before .before .before .station-at .ensures .0, a .before .before .before .before .before .before .before .before .before .before .subject-of .ensures)
 
-subject-of-requires : tie.Need-subject-of-requires
-subject-of-requires c κs = search needs
-
-station-at-requires : tie.Need-station-at-requires
-station-at-requires c κs = search needs
-
-proposal-of-requires : tie.Need-proposal-of-requires
-proposal-of-requires c κs = search needs
-
-ballot-of-requires : tie.Need-ballot-of-requires
-ballot-of-requires c κs = search needs
-
-acceptor-at-requires : tie.Need-acceptor-at-requires
-acceptor-at-requires c κs = search needs
-
-row-at-requires : tie.Need-row-at-requires
-row-at-requires c κs = search needs
-
-condition-of-requires : tie.Need-condition-of-requires
-condition-of-requires c κs = search needs
-
-ballot-question-requires : tie.Need-ballot-question-requires
-ballot-question-requires c κs = search needs
-
 returns : tie.Need-returns
 returns c = refuses _ _ _ (asked (c .before)) (c .if1 .taken)
-
-answer-to-requires : tie.Need-answer-to-requires
-answer-to-requires c κs = search needs
 
 answered-requires : tie.Need-answered-requires
 answered-requires c κs =
@@ -73,15 +46,15 @@ pub ballot-spec : {M : Type 1} → statement M
 ballot-spec =
     tie.close
     (tie.spec
-    subject-of-requires
-    station-at-requires
-    proposal-of-requires
-    ballot-of-requires
-    acceptor-at-requires
-    row-at-requires
-    condition-of-requires
-    ballot-question-requires
+    (λ c κs. search needs)
+    (λ c κs. search needs)
+    (λ c κs. search needs)
+    (λ c κs. search needs)
+    (λ c κs. search needs)
+    (λ c κs. search needs)
+    (λ c κs. search needs)
+    (λ c κs. search needs)
     returns
-    answer-to-requires
+    (λ c κs. search needs)
     answered-requires
     returns-2)

@@ -22,36 +22,6 @@ leaves : (c : tie.After-answering) → let s = c .before .before .before .before
 unfolding effectOf answerTo
 leaves c = rw (c .answering .ensures, c .before .before .before .before .receive .ensures, c .before .before .before .before .before .message-to .ensures, c .before .before .before .before .before .before .identity .ensures, c .before .before .before .before .before .before .before .outgoing .ensures, c .before .before .before .before .before .before .before .before .station-at2 .ensures .0, c .before .before .before .before .before .before .before .before .before .station-at .ensures .0)
 
-station-at-requires : tie.Need-station-at-requires
-station-at-requires c κs = search needs
-
-station-at-requires-2 : tie.Need-station-at-requires-2
-station-at-requires-2 c κs = search needs
-
-outgoing-requires : tie.Need-outgoing-requires
-outgoing-requires c κs = search needs
-
-identity-requires : tie.Need-identity-requires
-identity-requires c κs = search needs
-
-message-to-requires : tie.Need-message-to-requires
-message-to-requires c κs = search needs
-
-receive-requires : tie.Need-receive-requires
-receive-requires c κs = search needs
-
-is-contradicted-requires : tie.Need-is-contradicted-requires
-is-contradicted-requires c κs = search needs
-
-condition-of-requires : tie.Need-condition-of-requires
-condition-of-requires c κs = search needs
-
-deliver-question-requires : tie.Need-deliver-question-requires
-deliver-question-requires c κs = search needs
-
-answering-requires : tie.Need-answering-requires
-answering-requires c κs = search needs
-
 finish-requires : tie.Need-finish-requires
 finish-requires c κs = let s = c .before .before .before .before .before .before .before .before .before .before in one-first (s .args .b) (event s) (c .before .before .before .before .before .before .before .before .before .station-at .ensures .1) _ (asked (c .before)) refl
 
@@ -64,15 +34,15 @@ pub deliver-spec : {M : Type 1} → statement M
 deliver-spec =
     tie.close
     (tie.spec
-    station-at-requires
-    station-at-requires-2
-    outgoing-requires
-    identity-requires
-    message-to-requires
-    receive-requires
-    is-contradicted-requires
-    condition-of-requires
-    deliver-question-requires
-    answering-requires
+    (λ c κs. search needs)
+    (λ c κs. search needs)
+    (λ c κs. search needs)
+    (λ c κs. search needs)
+    (λ c κs. search needs)
+    (λ c κs. search needs)
+    (λ c κs. search needs)
+    (λ c κs. search needs)
+    (λ c κs. search needs)
+    (λ c κs. search needs)
     finish-requires
     returns)

@@ -31,24 +31,6 @@ leaves : (c : tie.After-decide-turn) → let s = c .before .before .before .befo
     → c .decide-turn .result ≡ effect (s .args .b .shared) (event s) (sentRead (s .args .b) (event s)) (stationRead (s .args .b) (s .args .id))
 leaves c y = let s = c .before .before .before .before .before .before .before .before in rw (c .decide-turn .ensures, c .before .before .before .before .before .before .before .station-at .ensures .0) (turn-decides _ _ _ _ (mayGive (s .args .b .shared) (s .args .b .ballots)) _ y)
 
-station-at-requires : tie.Need-station-at-requires
-station-at-requires c κs = search needs
-
-is-chosen-requires : tie.Need-is-chosen-requires
-is-chosen-requires c κs = search needs
-
-may-give-requires : tie.Need-may-give-requires
-may-give-requires c κs = search needs
-
-condition-of-requires : tie.Need-condition-of-requires
-condition-of-requires c κs = search needs
-
-decide-question-requires : tie.Need-decide-question-requires
-decide-question-requires c κs = search needs
-
-decide-turn-requires : tie.Need-decide-turn-requires
-decide-turn-requires c κs = search needs
-
 finish-requires : tie.Need-finish-requires
 finish-requires c κs = let s = c .before .before .before .before .before .before .before .before in one-first (s .args .b) (event s) (c .before .before .before .before .before .before .before .station-at .ensures .1) _ (asked (c .before)) refl
 
@@ -58,4 +40,4 @@ returns c =
     c .finish .ensures ∙ one-finished (s .args .b) (event s) (c .before .before .before .before .before .before .before .before .station-at .ensures .1) _ (asked (c .before .before)) refl _ (leaves (c .before))
 
 pub decide-spec : {M : Type 1} → statement M
-decide-spec = tie.close (tie.spec station-at-requires is-chosen-requires may-give-requires condition-of-requires decide-question-requires decide-turn-requires finish-requires returns)
+decide-spec = tie.close (tie.spec (λ c κs. search needs) (λ c κs. search needs) (λ c κs. search needs) (λ c κs. search needs) (λ c κs. search needs) (λ c κs. search needs) finish-requires returns)

@@ -2,7 +2,7 @@
 use Prim.Native.Nat.{_*_, _-_, _≤_}
 use mathlib.Core.Path.{_≡_, _∙_, ap}
 use native.Mathlib.Omega.{arith}
-use lib.ListN.{length, length-map}
+use lib.ListN.{length}
 use borrow.Author.Needs.{needs}
 use Rattle.ground.specs.Limit.{limit}
 use Rattle.protocol.specs.Benches.{station, freshStation, fresh, unsentAll}
@@ -19,38 +19,8 @@ Inv-loop m kind stations end total₀ i₀ total i = (i ≤ end) × ((total ≤ 
 abbrev μ-loop : tie.MeasureT-loop
 μ-loop m kind stations end total₀ i₀ total i = end - i
 
-cast-end : tie.Need-cast-end Inv-loop μ-loop
-cast-end c = search needs
-
 loop-holds : tie.Need-loop-holds Inv-loop μ-loop
 loop-holds c = (omega arith, (omega arith, no-sum _))
-
-place-of-requires : tie.Need-place-of-requires Inv-loop μ-loop
-place-of-requires c κs = search needs
-
-mul-s : tie.Need-mul-s Inv-loop μ-loop
-mul-s c = search needs
-
-array-copy-out-s : tie.Need-array-copy-out-s Inv-loop μ-loop
-array-copy-out-s c = search needs
-
-receivers-at-requires : tie.Need-receivers-at-requires Inv-loop μ-loop
-receivers-at-requires c κs = search needs
-
-size-requires : tie.Need-size-requires Inv-loop μ-loop
-size-requires c κs = search needs
-
-cast-total : tie.Need-cast-total Inv-loop μ-loop
-cast-total c = search needs
-
-add-total : tie.Need-add-total Inv-loop μ-loop
-add-total c = omega arith
-
-add-i : tie.Need-add-i Inv-loop μ-loop
-add-i c = omega arith
-
-loop-less : tie.Need-loop-less Inv-loop μ-loop
-loop-less c = omega arith
 
 loop-again : tie.Need-loop-again Inv-loop μ-loop
 unfolding sentCount station freshStation fresh unsentAll
@@ -75,16 +45,16 @@ message-count-spec =
     (tie.spec
     Inv-loop
     μ-loop
-    cast-end
+    (λ c. search needs)
     loop-holds
-    place-of-requires
-    mul-s
-    array-copy-out-s
-    receivers-at-requires
-    size-requires
-    cast-total
-    add-total
-    add-i
-    loop-less
+    (λ c κs. search needs)
+    (λ c. search needs)
+    (λ c. search needs)
+    (λ c κs. search needs)
+    (λ c κs. search needs)
+    (λ c. search needs)
+    (λ c. omega arith)
+    (λ c. omega arith)
+    (λ c. omega arith)
     loop-again
     returns)

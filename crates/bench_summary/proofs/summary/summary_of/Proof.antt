@@ -6,15 +6,9 @@ use borrow.Author.Needs.{needs}
 use Rattle.bench_summary.proofs.summary.summary_of.Statement.{statement}
 use Rattle.bench_summary.proofs.summary.summary_of.Tie as tie
 
-rows-of-requires : tie.Need-rows-of-requires
-rows-of-requires c κs = search needs
-
-message-counts-of-requires : tie.Need-message-counts-of-requires
-message-counts-of-requires c κs = search needs
-
 returns : tie.Need-returns
 unfolding summaryOf messageCount sentCount station
 returns c = λ s. simp (c .message-counts-of .ensures, c .before .rows-of .ensures)
 
 pub summary-of-spec : {M : Type 1} → statement M
-summary-of-spec = tie.close (tie.spec rows-of-requires message-counts-of-requires returns)
+summary-of-spec = tie.close (tie.spec (λ c κs. search needs) (λ c κs. search needs) returns)

@@ -1,32 +1,7 @@
 use Rattle.bench_turns.specs.BallotTurns.{carriedAnswer}
-use borrow.Author.Tests.{le-leb, lt-leb, lt-ltb, le-ltb, eq-eqb, ne-eqb}
 use borrow.Author.Needs.{needs}
 use Rattle.bench_turns.proofs.ballots.carried.Statement.{statement}
 use Rattle.bench_turns.proofs.ballots.carried.Tie as tie
-
-enum-told : tie.Need-enum-told
-enum-told c = search needs
-
-prepare-arrives-requires : tie.Need-prepare-arrives-requires
-prepare-arrives-requires c κs = search needs
-
-enum-told-2 : tie.Need-enum-told-2
-enum-told-2 c = search needs
-
-promise-arrives-requires : tie.Need-promise-arrives-requires
-promise-arrives-requires c κs = search needs
-
-enum-told-3 : tie.Need-enum-told-3
-enum-told-3 c = search needs
-
-accept-arrives-requires : tie.Need-accept-arrives-requires
-accept-arrives-requires c κs = search needs
-
-enum-told-4 : tie.Need-enum-told-4
-enum-told-4 c = search needs
-
-unanswered-requires : tie.Need-unanswered-requires
-unanswered-requires c κs = search needs
 
 returns : tie.Need-returns
 unfolding carriedAnswer
@@ -48,14 +23,14 @@ pub carried-spec : {M : Type 1} → statement M
 carried-spec =
     tie.close
     (tie.spec
-    enum-told
-    prepare-arrives-requires
-    enum-told-2
-    promise-arrives-requires
-    enum-told-3
-    accept-arrives-requires
-    enum-told-4
-    unanswered-requires
+    (λ c. search needs)
+    (λ c κs. search needs)
+    (λ c. search needs)
+    (λ c κs. search needs)
+    (λ c. search needs)
+    (λ c κs. search needs)
+    (λ c. search needs)
+    (λ c κs. search needs)
     returns
     returns-2
     returns-3

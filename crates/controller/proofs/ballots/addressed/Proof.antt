@@ -26,9 +26,6 @@ returns-4 : tie.Need-returns-4
 unfolding ballotAddressed
 returns-4 c = simp (eq-eqb _ _ (c .before .before .before .before .before .before .before .before .before .if1 .left), eq-eqb _ _ (c .before .before .before .before .before .before .if2 .left), eq-eqb _ _ (c .before .before .before .if3 .left), ne-eqb _ _ (c .if4 .taken))
 
-different-controllers-requires : tie.Need-different-controllers-requires
-different-controllers-requires c κs = search needs
-
 returns-5 : tie.Need-returns-5
 unfolding ballotAddressed
 returns-5 c = fifth _ _ _ _ _ _ (eq-eqb _ _ (c .before .before .before .before .before .before .before .before .before .before .if1 .left)) (eq-eqb _ _ (c .before .before .before .before .before .before .before .if2 .left)) (eq-eqb _ _ (c .before .before .before .before .if3 .left)) (eq-eqb _ _ (c .before .if4 .left)) (c .different-controllers .ensures)
@@ -36,4 +33,4 @@ returns-5 c = fifth _ _ _ _ _ _ (eq-eqb _ _ (c .before .before .before .before .
 pub addressed-spec : {M : Type 1} → statement M
 addressed-spec =
     tie.close
-    (tie.spec returns returns-2 returns-3 returns-4 different-controllers-requires returns-5)
+    (tie.spec returns returns-2 returns-3 returns-4 (λ c κs. search needs) returns-5)

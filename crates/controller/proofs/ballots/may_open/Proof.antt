@@ -4,22 +4,13 @@ use borrow.Author.Needs.{needs}
 use Rattle.controller.proofs.ballots.may_open.Statement.{statement}
 use Rattle.controller.proofs.ballots.may_open.Tie as tie
 
-is-ballot-requires : tie.Need-is-ballot-requires
-is-ballot-requires c κs = search needs
-
 returns : tie.Need-returns
 unfolding mayOpenAlone
 returns c = simp (← c .before .is-ballot .ensures, not-true (c .before .is-ballot .result) (c .if1 .taken))
 
-owner-requires : tie.Need-owner-requires
-owner-requires c κs = search needs
-
 returns-2 : tie.Need-returns-2
 unfolding mayOpenAlone
 returns-2 c = simp (← c .before .before .before .before .is-ballot .ensures, not-false (c .before .before .before .before .is-ballot .result) (c .before .before .before .if1 .left), ← c .before .before .owner .ensures, ne-eqb _ _ (c .if2 .taken))
-
-has-requires : tie.Need-has-requires
-has-requires c κs = search needs
 
 returns-3 : tie.Need-returns-3
 unfolding mayOpenAlone
@@ -32,4 +23,4 @@ returns-4 c = simp (← c .before .before .before .before .before .before .befor
 pub may-open-spec : {M : Type 1} → statement M
 may-open-spec =
     tie.close
-    (tie.spec is-ballot-requires returns owner-requires returns-2 has-requires returns-3 returns-4)
+    (tie.spec (λ c κs. search needs) returns (λ c κs. search needs) returns-2 (λ c κs. search needs) returns-3 returns-4)

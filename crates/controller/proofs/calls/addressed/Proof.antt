@@ -20,15 +20,9 @@ returns-4 : tie.Need-returns-4
 unfolding addressed
 returns-4 c = simp (eq-eqb _ _ (c .before .before .before .before .before .before .before .before .before .if1 .left), eq-eqb _ _ (c .before .before .before .before .before .before .if2 .left), eq-eqb _ _ (c .before .before .before .if3 .left), ne-eqb _ _ (c .if4 .taken))
 
-is-controller-requires : tie.Need-is-controller-requires
-is-controller-requires c κs = search needs
-
 returns-5 : tie.Need-returns-5
 unfolding addressed
 returns-5 c = simp (eq-eqb _ _ (c .before .before .before .before .before .before .before .before .before .before .before .if1 .left), eq-eqb _ _ (c .before .before .before .before .before .before .before .before .if2 .left), eq-eqb _ _ (c .before .before .before .before .before .if3 .left), eq-eqb _ _ (c .before .before .if4 .left), ← c .before .is-controller .ensures, not-true (c .before .is-controller .result) (c .if5 .taken))
-
-route-requires : tie.Need-route-requires
-route-requires c κs = search needs
 
 returns-6 : tie.Need-returns-6
 unfolding addressed
@@ -42,7 +36,7 @@ addressed-spec =
     returns-2
     returns-3
     returns-4
-    is-controller-requires
+    (λ c κs. search needs)
     returns-5
-    route-requires
+    (λ c κs. search needs)
     returns-6)

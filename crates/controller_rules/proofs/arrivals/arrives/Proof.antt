@@ -4,30 +4,6 @@ use borrow.Author.Needs.{needs}
 use Rattle.controller_rules.proofs.arrivals.arrives.Statement.{statement}
 use Rattle.controller_rules.proofs.arrivals.arrives.Tie as tie
 
-enum-told : tie.Need-enum-told
-enum-told c = search needs
-
-vote-arrives-requires : tie.Need-vote-arrives-requires
-vote-arrives-requires c κs = search needs
-
-enum-told-2 : tie.Need-enum-told-2
-enum-told-2 c = search needs
-
-ack-arrives-requires : tie.Need-ack-arrives-requires
-ack-arrives-requires c κs = search needs
-
-enum-told-3 : tie.Need-enum-told-3
-enum-told-3 c = search needs
-
-help-arrives-requires : tie.Need-help-arrives-requires
-help-arrives-requires c κs = search needs
-
-enum-told-4 : tie.Need-enum-told-4
-enum-told-4 c = search needs
-
-helped-arrives-requires : tie.Need-helped-arrives-requires
-helped-arrives-requires c κs = search needs
-
 returns : tie.Need-returns
 unfolding arrives
 returns c = simp (c .before .enum-told .given .1, c .vote-arrives .ensures)
@@ -48,14 +24,14 @@ pub arrives-spec : {M : Type 1} → statement M
 arrives-spec =
     tie.close
     (tie.spec
-    enum-told
-    vote-arrives-requires
-    enum-told-2
-    ack-arrives-requires
-    enum-told-3
-    help-arrives-requires
-    enum-told-4
-    helped-arrives-requires
+    (λ c. search needs)
+    (λ c κs. search needs)
+    (λ c. search needs)
+    (λ c κs. search needs)
+    (λ c. search needs)
+    (λ c κs. search needs)
+    (λ c. search needs)
+    (λ c κs. search needs)
     returns
     returns-2
     returns-3

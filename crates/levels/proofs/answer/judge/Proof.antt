@@ -6,21 +6,9 @@ use Rattle.levels.proofs.HeightLaws.{listed-true, above-outside, below-
 use Rattle.levels.proofs.answer.judge.Statement.{statement}
 use Rattle.levels.proofs.answer.judge.Tie as tie
 
-raised-range-requires : tie.Need-raised-range-requires
-raised-range-requires c κs = search needs
-
-raised-range-requires-2 : tie.Need-raised-range-requires-2
-raised-range-requires-2 c κs = search needs
-
-both-listed-requires : tie.Need-both-listed-requires
-both-listed-requires c κs = search needs
-
 returns : tie.Need-returns
 returns c =
     right-answer _ _ _ (above-outside _ _ _ _ (c .before .before .before .raised-range .ensures) (c .before .before .raised-range2 .ensures) (sym (c .before .both-listed .ensures) ∙ not-true _ (c .if1 .taken)))
-
-both-listed-requires-2 : tie.Need-both-listed-requires-2
-both-listed-requires-2 c κs = search needs
 
 returns-2 : tie.Need-returns-2
 returns-2 c =
@@ -45,11 +33,11 @@ pub judge-spec : {M : Type 1} → statement M
 judge-spec =
     tie.close
     (tie.spec
-    raised-range-requires
-    raised-range-requires-2
-    both-listed-requires
+    (λ c κs. search needs)
+    (λ c κs. search needs)
+    (λ c κs. search needs)
     returns
-    both-listed-requires-2
+    (λ c κs. search needs)
     returns-2
     returns-3
     returns-4

@@ -3,36 +3,6 @@ use borrow.Author.Needs.{needs}
 use Rattle.message_bytes.proofs.writing.short_ballot_bytes.Statement.{statement}
 use Rattle.message_bytes.proofs.writing.short_ballot_bytes.Tie as tie
 
-low-byte-requires : tie.Need-low-byte-requires
-low-byte-requires c κs = search needs
-
-low-byte-requires-2 : tie.Need-low-byte-requires-2
-low-byte-requires-2 c κs = search needs
-
-low-byte-requires-3 : tie.Need-low-byte-requires-3
-low-byte-requires-3 c κs = search needs
-
-low-byte-requires-4 : tie.Need-low-byte-requires-4
-low-byte-requires-4 c κs = search needs
-
-low-byte-requires-5 : tie.Need-low-byte-requires-5
-low-byte-requires-5 c κs = search needs
-
-low-byte-requires-6 : tie.Need-low-byte-requires-6
-low-byte-requires-6 c κs = search needs
-
-low-byte-requires-7 : tie.Need-low-byte-requires-7
-low-byte-requires-7 c κs = search needs
-
-low-byte-requires-8 : tie.Need-low-byte-requires-8
-low-byte-requires-8 c κs = search needs
-
-low-byte-requires-9 : tie.Need-low-byte-requires-9
-low-byte-requires-9 c κs = search needs
-
-low-byte-requires-10 : tie.Need-low-byte-requires-10
-low-byte-requires-10 c κs = search needs
-
 returns : tie.Need-returns
 returns c =
     let x = c .before .before .before .before .before .before .before .before .before .before .before .before .before .before .before .args .x in
@@ -61,14 +31,14 @@ pub short-ballot-bytes-spec : {M : Type 1} → statement M
 short-ballot-bytes-spec =
     tie.close
     (tie.spec
-    low-byte-requires
-    low-byte-requires-2
-    low-byte-requires-3
-    low-byte-requires-4
-    low-byte-requires-5
-    low-byte-requires-6
-    low-byte-requires-7
-    low-byte-requires-8
-    low-byte-requires-9
-    low-byte-requires-10
+    (λ c κs. search needs)
+    (λ c κs. search needs)
+    (λ c κs. search needs)
+    (λ c κs. search needs)
+    (λ c κs. search needs)
+    (λ c κs. search needs)
+    (λ c κs. search needs)
+    (λ c κs. search needs)
+    (λ c κs. search needs)
+    (λ c κs. search needs)
     returns)

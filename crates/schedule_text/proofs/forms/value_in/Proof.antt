@@ -1,80 +1,7 @@
 use Rattle.schedule_text.specs.Forms.{valueIn}
-use borrow.Author.Tests.{le-leb, lt-leb, lt-ltb, le-ltb, eq-eqb, ne-eqb}
 use borrow.Author.Needs.{needs}
 use Rattle.schedule_text.proofs.forms.value_in.Statement.{statement}
 use Rattle.schedule_text.proofs.forms.value_in.Tie as tie
-
-enum-told : tie.Need-enum-told
-enum-told c = search needs
-
-slice-aggregate-name-in : tie.Need-slice-aggregate-name-in
-slice-aggregate-name-in c = search needs
-
-name-in-requires : tie.Need-name-in-requires
-name-in-requires c κs = search needs
-
-enum-told-2 : tie.Need-enum-told-2
-enum-told-2 c = search needs
-
-number-in-requires : tie.Need-number-in-requires
-number-in-requires c κs = search needs
-
-enum-told-3 : tie.Need-enum-told-3
-enum-told-3 c = search needs
-
-number-in-requires-2 : tie.Need-number-in-requires-2
-number-in-requires-2 c κs = search needs
-
-enum-told-4 : tie.Need-enum-told-4
-enum-told-4 c = search needs
-
-number-in-requires-3 : tie.Need-number-in-requires-3
-number-in-requires-3 c κs = search needs
-
-enum-told-5 : tie.Need-enum-told-5
-enum-told-5 c = search needs
-
-signed-in-requires : tie.Need-signed-in-requires
-signed-in-requires c κs = search needs
-
-enum-told-6 : tie.Need-enum-told-6
-enum-told-6 c = search needs
-
-slice-aggregate-name-in-2 : tie.Need-slice-aggregate-name-in-2
-slice-aggregate-name-in-2 c = search needs
-
-name-in-requires-2 : tie.Need-name-in-requires-2
-name-in-requires-2 c κs = search needs
-
-enum-told-7 : tie.Need-enum-told-7
-enum-told-7 c = search needs
-
-slice-aggregate-name-in-3 : tie.Need-slice-aggregate-name-in-3
-slice-aggregate-name-in-3 c = search needs
-
-name-in-requires-3 : tie.Need-name-in-requires-3
-name-in-requires-3 c κs = search needs
-
-enum-told-8 : tie.Need-enum-told-8
-enum-told-8 c = search needs
-
-slice-aggregate-name-in-4 : tie.Need-slice-aggregate-name-in-4
-slice-aggregate-name-in-4 c = search needs
-
-name-in-requires-4 : tie.Need-name-in-requires-4
-name-in-requires-4 c κs = search needs
-
-enum-told-9 : tie.Need-enum-told-9
-enum-told-9 c = search needs
-
-slice-aggregate-name-in-5 : tie.Need-slice-aggregate-name-in-5
-slice-aggregate-name-in-5 c = search needs
-
-name-in-requires-5 : tie.Need-name-in-requires-5
-name-in-requires-5 c κs = search needs
-
-enum-told-10 : tie.Need-enum-told-10
-enum-told-10 c = search needs
 
 returns : tie.Need-returns
 unfolding valueIn
@@ -120,30 +47,30 @@ pub value-in-spec : {M : Type 1} → statement M
 value-in-spec =
     tie.close
     (tie.spec
-    enum-told
-    slice-aggregate-name-in
-    name-in-requires
-    enum-told-2
-    number-in-requires
-    enum-told-3
-    number-in-requires-2
-    enum-told-4
-    number-in-requires-3
-    enum-told-5
-    signed-in-requires
-    enum-told-6
-    slice-aggregate-name-in-2
-    name-in-requires-2
-    enum-told-7
-    slice-aggregate-name-in-3
-    name-in-requires-3
-    enum-told-8
-    slice-aggregate-name-in-4
-    name-in-requires-4
-    enum-told-9
-    slice-aggregate-name-in-5
-    name-in-requires-5
-    enum-told-10
+    (λ c. search needs)
+    (λ c. search needs)
+    (λ c κs. search needs)
+    (λ c. search needs)
+    (λ c κs. search needs)
+    (λ c. search needs)
+    (λ c κs. search needs)
+    (λ c. search needs)
+    (λ c κs. search needs)
+    (λ c. search needs)
+    (λ c κs. search needs)
+    (λ c. search needs)
+    (λ c. search needs)
+    (λ c κs. search needs)
+    (λ c. search needs)
+    (λ c. search needs)
+    (λ c κs. search needs)
+    (λ c. search needs)
+    (λ c. search needs)
+    (λ c κs. search needs)
+    (λ c. search needs)
+    (λ c. search needs)
+    (λ c κs. search needs)
+    (λ c. search needs)
     returns
     returns-2
     returns-3

@@ -12,26 +12,11 @@ use borrow.Author.Needs.{needs}
 use Rattle.schedule_text.proofs.reading.line_at.Statement.{statement}
 use Rattle.schedule_text.proofs.reading.line_at.Tie as tie
 
-end-of-run-requires : tie.Need-end-of-run-requires
-end-of-run-requires c κs = search needs
-
-sub-line : tie.Need-sub-line
-sub-line c = search needs
-
-part-line-start : tie.Need-part-line-start
-part-line-start c = search needs
-
 part-line-end : tie.Need-part-line-end
 part-line-end c = c .end-of-run .ensures .high (c .before .before .pre)
 
-end-of-run-requires-2 : tie.Need-end-of-run-requires-2
-end-of-run-requires-2 c κs = search needs
-
 slice-aggregate-read-line : tie.Need-slice-aggregate-read-line
 slice-aggregate-read-line c = sym (length-take-le _ _ (c .before .end-of-run2 .ensures .high (omega arith)))
-
-read-line-requires : tie.Need-read-line-requires
-read-line-requires c κs = search needs
 
 returns : tie.Need-returns
 returns c =
@@ -50,11 +35,11 @@ pub line-at-spec : {M : Type 1} → statement M
 line-at-spec =
     tie.close
     (tie.spec
-    end-of-run-requires
-    sub-line
-    part-line-start
+    (λ c κs. search needs)
+    (λ c. search needs)
+    (λ c. search needs)
     part-line-end
-    end-of-run-requires-2
+    (λ c κs. search needs)
     slice-aggregate-read-line
-    read-line-requires
+    (λ c κs. search needs)
     returns)

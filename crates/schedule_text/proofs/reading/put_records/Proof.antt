@@ -24,12 +24,6 @@ abbrev μ-loop : tie.MeasureT-loop
 loop-holds : tie.Need-loop-holds Inv-loop μ-loop
 loop-holds c = (omega arith, omega arith, ([], put-nothing _ 0 (omega arith) (omega arith), text-begun _))
 
-line-at-requires : tie.Need-line-at-requires Inv-loop μ-loop
-line-at-requires c κs = search needs
-
-enum-known-read : tie.Need-enum-known-read Inv-loop μ-loop
-enum-known-read c = search needs
-
 same-length : tie.Need-same-length Inv-loop μ-loop
 same-length c = put-length (c .before .before .before .before .before .loop .inv .2 .1)
 
@@ -39,14 +33,8 @@ returns c =
     let t = c .before .before .before .before .before .before .before .before .args .text .now in
     turns-refused _ (l .line) (c .before .read .given .0 .0) _ _ (sym (line-refused t (l .at) (c .before .before .before .before .loop-test .taken) (c .before .before .before .line-at .ensures) (l .line) (l .inv .2 .0) (c .before .read .given .0 .0) (c .before .read .given .1)) ∙ l .inv .2 .2)
 
-put-read-requires : tie.Need-put-read-requires Inv-loop μ-loop
-put-read-requires c κs = search needs
-
 add-at : tie.Need-add-at Inv-loop μ-loop
 add-at c = omega (arith, c .before .before .before .before .before .before .line-at .ensures .high)
-
-add-line : tie.Need-add-line Inv-loop μ-loop
-add-line c = omega arith
 
 loop-less : tie.Need-loop-less Inv-loop μ-loop
 loop-less c = omega (arith, c .before .before .before .before .before .before .line-at .ensures .low, c .before .before .before .before .before .before .line-at .ensures .high)
@@ -77,13 +65,13 @@ put-records-spec =
     Inv-loop
     μ-loop
     loop-holds
-    line-at-requires
-    enum-known-read
+    (λ c κs. search needs)
+    (λ c. search needs)
     same-length
     returns
-    put-read-requires
+    (λ c κs. search needs)
     add-at
-    add-line
+    (λ c. omega arith)
     loop-less
     loop-again
     same-length-2

@@ -25,18 +25,6 @@ loop-holds : tie.Need-loop-holds Inv-loop μ-loop
 unfolding readLine
 loop-holds c = (omega arith, omega arith, refl)
 
-row-of-requires : tie.Need-row-of-requires Inv-loop μ-loop
-row-of-requires c κs = search needs
-
-slot-in-requires : tie.Need-slot-in-requires Inv-loop μ-loop
-slot-in-requires c κs = search needs
-
-next-word-requires : tie.Need-next-word-requires Inv-loop μ-loop
-next-word-requires c κs = search needs
-
-ended-requires : tie.Need-ended-requires Inv-loop μ-loop
-ended-requires c κs = search needs
-
 returns : tie.Need-returns Inv-loop μ-loop
 returns c =
     let m = c .before .before .before .before .before .loop in
@@ -44,23 +32,8 @@ returns c =
     let s = (c .before .before .before .slot-in .ensures ∙ ap (λ (r : Row). slotIn r (m .i)) (c .before .before .before .before .row-of .ensures)) in
     c .ended .ensures ∙ ended-here (m .i) (m .x) s (no-next l (m .at) (c .before .before .next-word .ensures) (c .before .if1 .taken)) ∙ m .inv .2
 
-sub-value-in : tie.Need-sub-value-in Inv-loop μ-loop
-sub-value-in c = search needs
-
-part-value-in-start : tie.Need-part-value-in-start Inv-loop μ-loop
-part-value-in-start c = search needs
-
 part-value-in-end : tie.Need-part-value-in-end Inv-loop μ-loop
 part-value-in-end c = c .before .next-word .ensures .high (c .before .before .before .before .loop .inv .0)
-
-value-in-requires : tie.Need-value-in-requires Inv-loop μ-loop
-value-in-requires c κs = search needs
-
-enum-known-found : tie.Need-enum-known-found Inv-loop μ-loop
-enum-known-found c = search needs
-
-enum-told : tie.Need-enum-told Inv-loop μ-loop
-enum-told c = search needs
 
 returns-2 : tie.Need-returns-2 Inv-loop μ-loop
 returns-2 c =
@@ -71,9 +44,6 @@ returns-2 c =
 
 with-field-requires : tie.Need-with-field-requires Inv-loop μ-loop
 with-field-requires c κs = fits-field _ _ _ (sym (c .before .found .given .1) ∙ c .before .before .before .value-in .ensures)
-
-add-i : tie.Need-add-i Inv-loop μ-loop
-add-i c = omega arith
 
 loop-less : tie.Need-loop-less Inv-loop μ-loop
 loop-less c = omega (arith, c .before .before .before .before .before .before .before .next-word .ensures .high (c .before .before .before .before .before .before .before .before .before .before .loop .inv .0))
@@ -97,19 +67,19 @@ read-line-spec =
     Inv-loop
     μ-loop
     loop-holds
-    row-of-requires
-    slot-in-requires
-    next-word-requires
-    ended-requires
+    (λ c κs. search needs)
+    (λ c κs. search needs)
+    (λ c κs. search needs)
+    (λ c κs. search needs)
     returns
-    sub-value-in
-    part-value-in-start
+    (λ c. search needs)
+    (λ c. search needs)
     part-value-in-end
-    value-in-requires
-    enum-known-found
-    enum-told
+    (λ c κs. search needs)
+    (λ c. search needs)
+    (λ c. search needs)
     returns-2
     with-field-requires
-    add-i
+    (λ c. omega arith)
     loop-less
     loop-again)

@@ -5,21 +5,6 @@ use borrow.Author.Needs.{needs}
 use Rattle.trace_text.proofs.ballots.put_in_ballot.Statement.{statement}
 use Rattle.trace_text.proofs.ballots.put_in_ballot.Tie as tie
 
-put-sent-in-requires : tie.Need-put-sent-in-requires
-put-sent-in-requires c κs = search needs
-
-put-sent-in-requires-2 : tie.Need-put-sent-in-requires-2
-put-sent-in-requires-2 c κs = search needs
-
-put-sent-in-requires-3 : tie.Need-put-sent-in-requires-3
-put-sent-in-requires-3 c κs = search needs
-
-put-sent-in-requires-4 : tie.Need-put-sent-in-requires-4
-put-sent-in-requires-4 c κs = search needs
-
-same-length : tie.Need-same-length
-same-length c = search needs
-
 returns : tie.Need-returns
 unfolding inBallot
 returns c = put-both _ _ (c .before .before .before .before .before .before .before .before .before .before .before .before .before .before .put-sent-in .ensures) (put-both _ _ (c .before .before .before .before .before .before .before .before .before .before .put-sent-in2 .ensures) (put-both _ _ (c .before .before .before .before .before .before .put-sent-in3 .ensures) (c .before .before .put-sent-in4 .ensures)))
@@ -28,9 +13,9 @@ pub put-in-ballot-spec : {M : Type 1} → statement M
 put-in-ballot-spec =
     tie.close
     (tie.spec
-    put-sent-in-requires
-    put-sent-in-requires-2
-    put-sent-in-requires-3
-    put-sent-in-requires-4
-    same-length
+    (λ c κs. search needs)
+    (λ c κs. search needs)
+    (λ c κs. search needs)
+    (λ c κs. search needs)
+    (λ c. search needs)
     returns)

@@ -9,18 +9,6 @@ use borrow.Author.Needs.{needs}
 use Rattle.trace_text.proofs.changes.put_changes.Statement.{statement}
 use Rattle.trace_text.proofs.changes.put_changes.Tie as tie
 
-summary-of-requires : tie.Need-summary-of-requires
-summary-of-requires c κs = search needs
-
-summary-of-requires-2 : tie.Need-summary-of-requires-2
-summary-of-requires-2 c κs = search needs
-
-put-rows-requires : tie.Need-put-rows-requires
-put-rows-requires c κs = search needs
-
-same-length : tie.Need-same-length
-same-length c = search needs
-
 returns : tie.Need-returns
 unfolding changed
 returns c =
@@ -32,4 +20,4 @@ returns c =
 pub put-changes-spec : {M : Type 1} → statement M
 put-changes-spec =
     tie.close
-    (tie.spec summary-of-requires summary-of-requires-2 put-rows-requires same-length returns)
+    (tie.spec (λ c κs. search needs) (λ c κs. search needs) (λ c κs. search needs) (λ c. search needs) returns)

@@ -1,13 +1,13 @@
 -- `trace_text::sent::put_sent_to` meets its contract.
-use Prim.Native.Nat.{ℕ, suc, _≤_, _-_}
-use mathlib.Core.List.{List, []}
+use Prim.Native.Nat.{ℕ, _≤_, _-_}
+use mathlib.Core.List.{List}
 use mathlib.Core.Path.{_∙_, ap}
 use native.Mathlib.Numerals.{add-one}
 use native.Mathlib.Omega.{arith}
 use borrow.Author.Needs.{needs}
 use Rattle.ground.specs.Limit.{limit}
 use Rattle.text.specs.Writing.{Put}
-use Rattle.text.specs.WritingLaws.{put-text, put-length}
+use Rattle.text.specs.WritingLaws.{put-length}
 use Rattle.ground.specs.Mask.{has}
 use Rattle.model.specs.declared.Kind.{Kind}
 use Rattle.model.specs.declared.Event.the-variants.{Deliver}
@@ -28,27 +28,6 @@ abbrev μ-loop : tie.MeasureT-loop
 
 loop-holds : tie.Need-loop-holds Inv-loop μ-loop
 loop-holds c = (omega arith, put-no-lines _ _ _ (omega arith) (omega arith))
-
-cast-to : tie.Need-cast-to Inv-loop μ-loop
-cast-to c = omega arith
-
-add-to : tie.Need-add-to Inv-loop μ-loop
-add-to c = omega arith
-
-is-new-requires : tie.Need-is-new-requires Inv-loop μ-loop
-is-new-requires c κs = search needs
-
-slice-aggregate-put-told-if : tie.Need-slice-aggregate-put-told-if Inv-loop μ-loop
-slice-aggregate-put-told-if c = search needs
-
-put-told-if-requires : tie.Need-put-told-if-requires Inv-loop μ-loop
-put-told-if-requires c κs = search needs
-
-add-j : tie.Need-add-j Inv-loop μ-loop
-add-j c = omega arith
-
-loop-less : tie.Need-loop-less Inv-loop μ-loop
-loop-less c = omega arith
 
 loop-again : tie.Need-loop-again Inv-loop μ-loop
 loop-again c =
@@ -73,13 +52,13 @@ put-sent-to-spec =
     Inv-loop
     μ-loop
     loop-holds
-    cast-to
-    add-to
-    is-new-requires
-    slice-aggregate-put-told-if
-    put-told-if-requires
-    add-j
-    loop-less
+    (λ c. omega arith)
+    (λ c. omega arith)
+    (λ c κs. search needs)
+    (λ c. search needs)
+    (λ c κs. search needs)
+    (λ c. omega arith)
+    (λ c. omega arith)
     loop-again
     same-length
     returns)
