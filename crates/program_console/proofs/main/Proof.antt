@@ -21,17 +21,31 @@ loop-holds c = (omega arith, omega arith, search needs)
 slice-aggregate-tell : tie.Need-slice-aggregate-tell Inv-loop μ-loop
 slice-aggregate-tell c = search needs
 
+-- places on the way to the next line, seen from its end: past the last test of its length, and in the loop
+abbrev at-if6 : tie.After-prompt Inv-loop μ-loop → tie.Else6 Inv-loop μ-loop
+at-if6 c = c .before .before .before .before .before .before .before .before .before .before .before .before .before .before .before .before
+
+abbrev at-if4 : tie.After-prompt Inv-loop μ-loop → tie.Else4 Inv-loop μ-loop
+at-if4 c = at-if6 c .before .before
+
+abbrev at-loop-test : tie.After-prompt Inv-loop μ-loop → tie.In-loop Inv-loop μ-loop
+at-loop-test c = at-if4 c .before .before .before .before .before
+
 add-at : tie.Need-add-at Inv-loop μ-loop
-add-at c = omega (arith, c .before .before .before .before .before .before .before .before .before .before .before .before .before .before .before .before .if6 .left, c .before .before .before .before .before .before .before .before .before .before .before .before .before .before .before .before .before .before .if4 .left)
+add-at c = omega (arith, at-if6 c .if6 .left, at-if4 c .if4 .left)
 
 add-line : tie.Need-add-line Inv-loop μ-loop
-add-line c = omega (arith, c .before .before .before .before .before .before .before .before .before .before .before .before .before .before .before .before .before .before .before .before .before .before .before .before .loop .inv .0, c .before .before .before .before .before .before .before .before .before .before .before .before .before .before .before .before .before .before .before .before .before .before .before .before .loop .inv .1, c .before .before .before .before .before .before .before .before .before .before .before .before .before .before .before .before .before .before .before .before .before .before .before .loop-test .taken)
+add-line c = omega (arith, at-loop-test c .before .loop .inv .0, at-loop-test c .before .loop .inv .1, at-loop-test c .loop-test .taken)
 
 loop-less : tie.Need-loop-less Inv-loop μ-loop
-loop-less c = omega (arith, c .before .before .before .before .before .before .before .before .before .before .before .before .before .before .before .before .before .if5 .left, c .before .before .before .before .before .before .before .before .before .before .before .before .before .before .before .before .before .before .before .before .before .before .before .loop-test .taken, c .before .before .before .before .before .before .before .before .before .before .before .before .before .before .before .before .before .before .before .before .before .before .before .before .loop .inv .0)
+loop-less c = omega (arith, at-if6 c .before .if5 .left, at-loop-test c .loop-test .taken, at-loop-test c .before .loop .inv .0)
 
 loop-again : tie.Need-loop-again Inv-loop μ-loop
-loop-again c = (omega (arith, c .before .before .before .before .before .before .before .before .before .before .before .before .before .before .before .before .before .before .if4 .left), omega (arith, c .before .before .before .before .before .before .before .before .before .before .before .before .before .before .before .before .before .before .before .before .before .before .before .before .loop .inv .1, c .before .before .before .before .before .before .before .before .before .before .before .before .before .before .before .before .before .if5 .left), sym (slice-aggregate-tell (c .before .before .before .before .before .before)))
+loop-again c = (
+  omega (arith, at-if4 c .if4 .left),
+  omega (arith, at-loop-test c .before .loop .inv .1, at-if6 c .before .if5 .left),
+  sym (slice-aggregate-tell (c .before .before .before .before .before .before)),
+)
 
 pub main-spec : {M : Type 1} → statement M
 main-spec =

@@ -9,11 +9,19 @@ use Rattle.trace_text.proofs.put_came.Tie as tie
 
 returns : tie.Need-returns
 unfolding cameOf
-returns c = put-text (put-both _ _ (c .before .before .before .before .before .before .put-changes .ensures) (c .before .before .put-event .ensures)) (rw (c .before .before .before .before .before .before .before .before .before .act .given .1))
+returns c =
+    let at-put-event = c .before .before in
+    let at-put-changes = at-put-event .before .before .before .before in
+    let at-act = at-put-changes .before .before .before in
+    put-text (put-both _ _ (at-put-changes .put-changes .ensures) (at-put-event .put-event .ensures)) (rw (at-act .act .given .1))
 
 returns-2 : tie.Need-returns-2
 unfolding cameOf text
-returns-2 c = put-text (put-then (c .before .before .before .before .before .before .put-undone .ensures) (c .before .before .put-changes2 .ensures)) (rw (c .before .before .before .before .before .before .before .before .enum-told .given .1))
+returns-2 c =
+    let at-put-changes2 = c .before .before in
+    let at-put-undone = at-put-changes2 .before .before .before .before in
+    let at-enum-told = at-put-undone .before .before in
+    put-text (put-then (at-put-undone .put-undone .ensures) (at-put-changes2 .put-changes2 .ensures)) (rw (at-enum-told .enum-told .given .1))
 
 pub put-came-spec : {M : Type 1} → statement M
 put-came-spec =

@@ -7,7 +7,12 @@ use Rattle.trace_text.proofs.put_event.Tie as tie
 
 returns : tie.Need-returns
 unfolding told
-returns c = put-both _ _ (c .before .before .before .before .before .before .before .before .before .before .before .before .before .before .put-all-sent .ensures) (put-both _ _ (c .before .before .before .before .before .before .before .before .before .before .put-ballots .ensures) (put-both _ _ (c .before .before .before .before .before .before .put-words .ensures) (c .before .before .put-given .ensures)))
+returns c =
+    let at-put-given = c .before .before in
+    let at-put-words = at-put-given .before .before .before .before in
+    let at-put-ballots = at-put-words .before .before .before .before in
+    let at-put-all-sent = at-put-ballots .before .before .before .before in
+    put-both _ _ (at-put-all-sent .put-all-sent .ensures) (put-both _ _ (at-put-ballots .put-ballots .ensures) (put-both _ _ (at-put-words .put-words .ensures) (at-put-given .put-given .ensures)))
 
 pub put-event-spec : {M : Type 1} → statement M
 put-event-spec =

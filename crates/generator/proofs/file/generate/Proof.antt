@@ -1,3 +1,4 @@
+-- `generator::generate` meets its contract, at each of its returns: refused, of another length, or written (ReplyLaws).
 use mathlib.Core.Path.{sym, _∙_}
 use Rattle.generator.specs.FileLaws.{length-file}
 use Rattle.generator.specs.ReplyLaws.{not-refused, some-controllers, as-long, refused-reply, length-reply, written-reply}

@@ -1,3 +1,4 @@
+-- `generator::put_drawn` meets its contract. The invariant: what is written and what is left to draw are the whole (Remaining).
 use native.Mathlib.Omega.{arith}
 use borrow.Author.Needs.{needs}
 use Rattle.text.specs.WritingLaws.{put-length}

@@ -1,3 +1,4 @@
+-- `generator::put_votes` meets its contract. The invariant: the votes of the first k controllers are written. It rests on `one-vote-more` (FileLaws).
 use Prim.Native.Nat.{_≤_, _-_}
 use native.Mathlib.Omega.{arith}
 use borrow.Author.Needs.{needs}

@@ -9,7 +9,11 @@ returns : tie.Need-returns
 returns c = text-done _ _ _ _ (sym (c .before .n .given .1) ∙ c .before .before .before .before .before .write .ensures .0) (c .before .before .before .before .before .write .ensures .1)
 
 returns-2 : tie.Need-returns-2
-returns-2 c = text-refused _ _ _ _ _ _ _ (sym (c .before .before .before .before .before .at .given .1) ∙ c .before .before .before .before .before .before .before .before .before .write .ensures .0) (c .before .before .before .before .before .before .before .before .before .write .ensures .1) (c .before .before .write-refused-record .ensures)
+returns-2 c =
+    let at-write-refused-record = c .before .before in
+    let at-at = at-write-refused-record .before .before .before in
+    let at-write = at-at .before .before .before .before in
+    text-refused _ _ _ _ _ _ _ (sym (at-at .at .given .1) ∙ at-write .write .ensures .0) (at-write .write .ensures .1) (at-write-refused-record .write-refused-record .ensures)
 
 returns-3 : tie.Need-returns-3
 returns-3 c = text-no-room _ _ _ (sym (c .enum-told .given .1) ∙ c .before .before .before .before .write .ensures .0) (c .before .before .before .before .write .ensures .1)

@@ -9,7 +9,11 @@ use Rattle.schedule_input.proofs.refusals.put_refused_in.Statement.{sta
 use Rattle.schedule_input.proofs.refusals.put_refused_in.Tie as tie
 
 returns : tie.Need-returns
-returns c = put-text (c .before .before .put-refused-word .ensures) (ap (refusedWord (c .before .before .before .before .before .before .before .before .args .line)) (ap (part (c .before .before .before .before .before .before .before .before .args .l .now)) (c .before .before .before .before .before .nth-span .ensures .0) ∙ nth-part (c .before .before .before .before .before .before .before .before .args .l .now) (c .before .before .before .before .before .before .before .before .args .word)))
+returns c =
+    let at-put-refused-word = c .before .before in
+    let at-nth-span = at-put-refused-word .before .before .before in
+    let start = at-nth-span .before .before .before in
+    put-text (at-put-refused-word .put-refused-word .ensures) (ap (refusedWord (start .args .line)) (ap (part (start .args .l .now)) (at-nth-span .nth-span .ensures .0) ∙ nth-part (start .args .l .now) (start .args .word)))
 
 pub put-refused-in-spec : {M : Type 1} → statement M
 put-refused-in-spec =

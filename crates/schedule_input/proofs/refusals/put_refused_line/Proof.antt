@@ -20,11 +20,15 @@ slice-aggregate-put-refused-in c = sym (length-take-le _ _ (c .before .before .e
 returns : tie.Need-returns
 unfolding refusedLine
 returns c =
-    let a = c .before .before .before .before .before .before .before .before .before .before .before .args in
-    let n = c .before .before .before .before .before .before .before .nth-line in
-    let line = ap (part (a .s .now)) (n .ensures .0) ∙ nth-line (a .s .now) (c .before .before .before .before .before .before .before .before .one-less .result) ∙ ap (λ (k : ℕ). getD (linesOf (a .s .now)) k []) (c .before .before .before .before .before .before .before .before .one-less .ensures) in
-    let shown = c .before .before .before .before .before .end-of-run .ensures .is ∙ zero-add _ in
-    put-text (c .before .before .put-refused-in .ensures) (ap (λ (l : List ℕ). refusedWord (a .line) (nthWord l (a .word))) (ap (λ (k : ℕ). take k (part (a .s .now) (n .result))) shown ∙ ap uncommented line))
+    let at-put-refused-in = c .before .before in
+    let at-end-of-run = at-put-refused-in .before .before .before in
+    let at-nth-line = at-end-of-run .before .before in
+    let start = at-nth-line .before .before .before .before in
+    let a = start .args in
+    let n = at-nth-line .nth-line in
+    let line = ap (part (a .s .now)) (n .ensures .0) ∙ nth-line (a .s .now) (at-nth-line .before .one-less .result) ∙ ap (λ (k : ℕ). getD (linesOf (a .s .now)) k []) (at-nth-line .before .one-less .ensures) in
+    let shown = at-end-of-run .end-of-run .ensures .is ∙ zero-add _ in
+    put-text (at-put-refused-in .put-refused-in .ensures) (ap (λ (l : List ℕ). refusedWord (a .line) (nthWord l (a .word))) (ap (λ (k : ℕ). take k (part (a .s .now) (n .result))) shown ∙ ap uncommented line))
 
 pub put-refused-line-spec : {M : Type 1} → statement M
 put-refused-line-spec =

@@ -10,9 +10,14 @@ use Rattle.schedule_input.proofs.refusals.put_refused_record.Tie as tie
 returns : tie.Need-returns
 unfolding refusedRecord
 returns c =
-    let number = put-text (c .before .before .before .before .before .before .before .before .before .before .before .before .before .before .before .before .put-number .ensures) (ap decimal (c .before .before .before .before .before .before .before .before .before .before .before .before .before .before .before .before .before .printed .ensures)) in
-    let question = put-text (c .before .before .before .before .before .before .put-number2 .ensures) (ap decimal (c .before .before .before .before .before .before .before .printed2 .ensures)) in
-    put-then (c .before .before .before .before .before .before .before .before .before .before .before .before .before .before .before .before .before .before .before .before .before .put-bytes .ensures) (put-then number (put-then (c .before .before .before .before .before .before .before .before .before .before .before .put-bytes2 .ensures) (put-then question (c .before .before .put-byte .ensures))))
+    let at-put-byte = c .before .before in
+    let at-put-number2 = at-put-byte .before .before .before .before in
+    let at-put-bytes2 = at-put-number2 .before .before .before .before .before in
+    let at-put-number = at-put-bytes2 .before .before .before .before .before in
+    let at-put-bytes = at-put-number .before .before .before .before .before in
+    let number = put-text (at-put-number .put-number .ensures) (ap decimal (at-put-number .before .printed .ensures)) in
+    let question = put-text (at-put-number2 .put-number2 .ensures) (ap decimal (at-put-number2 .before .printed2 .ensures)) in
+    put-then (at-put-bytes .put-bytes .ensures) (put-then number (put-then (at-put-bytes2 .put-bytes2 .ensures) (put-then question (at-put-byte .put-byte .ensures))))
 
 pub put-refused-record-spec : {M : Type 1} → statement M
 put-refused-record-spec =

@@ -28,7 +28,11 @@ cast-put-in-ballot c = omega (arith, ballot-low _ (sym (c .before .before .befor
 
 returns-2 : tie.Need-returns-2
 unfolding newRow
-returns-2 c = put-text (c .before .before .put-in-ballot .ensures) (ap text (in-ballot _ _ _ _ _ (c .before .before .before .before .before .before .before .before .ballot-of .ensures) (sym (c .before .before .before .before .before .before .before .is-ballot .ensures) ∙ not-false _ (c .before .before .before .before .before .before .if1 .left))))
+returns-2 c =
+    let at-put-in-ballot = c .before .before in
+    let at-if1 = at-put-in-ballot .before .before .before .before in
+    let at-ballot-of = at-if1 .before .before in
+    put-text (at-put-in-ballot .put-in-ballot .ensures) (ap text (in-ballot _ _ _ _ _ (at-ballot-of .ballot-of .ensures) (sym (at-if1 .before .is-ballot .ensures) ∙ not-false _ (at-if1 .if1 .left))))
 
 pub put-ballot-sent-spec : {M : Type 1} → statement M
 put-ballot-sent-spec =

@@ -7,7 +7,12 @@ use Rattle.trace_text.proofs.ballots.put_in_ballot.Tie as tie
 
 returns : tie.Need-returns
 unfolding inBallot
-returns c = put-both _ _ (c .before .before .before .before .before .before .before .before .before .before .before .before .before .before .put-sent-in .ensures) (put-both _ _ (c .before .before .before .before .before .before .before .before .before .before .put-sent-in2 .ensures) (put-both _ _ (c .before .before .before .before .before .before .put-sent-in3 .ensures) (c .before .before .put-sent-in4 .ensures)))
+returns c =
+    let at-put-sent-in4 = c .before .before in
+    let at-put-sent-in3 = at-put-sent-in4 .before .before .before .before in
+    let at-put-sent-in2 = at-put-sent-in3 .before .before .before .before in
+    let at-put-sent-in = at-put-sent-in2 .before .before .before .before in
+    put-both _ _ (at-put-sent-in .put-sent-in .ensures) (put-both _ _ (at-put-sent-in2 .put-sent-in2 .ensures) (put-both _ _ (at-put-sent-in3 .put-sent-in3 .ensures) (at-put-sent-in4 .put-sent-in4 .ensures)))
 
 pub put-in-ballot-spec : {M : Type 1} → statement M
 put-in-ballot-spec =

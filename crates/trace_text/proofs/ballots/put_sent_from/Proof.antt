@@ -32,11 +32,15 @@ loop-holds c = (omega arith, put-no-lines _ _ _ (omega arith) (omega arith))
 
 loop-again : tie.Need-loop-again Inv-loop μ-loop
 loop-again c =
-    let l = c .before .before .before .before .before .before .before .loop in
-    let a = c .before .before .before .before .before .before .before .before .before .args in (
+    let at-put-told-if = c .before .before in
+    let at-is-new-in = at-put-told-if .before .before in
+    let at-loop = at-is-new-in .before .before .before in
+    let start = at-loop .before .before in
+    let l = at-loop .loop in
+    let a = start .args in (
       omega arith,
       put-more (l .k) (told (a .kind) (a .n) (a .b) (a .i) (a .old) (a .new)) (l .inv .1)
-          (put-sent _ _ _ _ (c .before .before .before .before .is-new-in .ensures ∙ ap (λ (j : ℕ). newIn (a .kind) (a .n) (a .b) (a .i) j (a .old) (a .new)) (add-one (l .k))) (ap (λ (j : ℕ). OfBallots (Carry (a .i) j (a .kind) (a .b))) (add-one (l .k))) (c .before .before .put-told-if .ensures)),
+          (put-sent _ _ _ _ (at-is-new-in .is-new-in .ensures ∙ ap (λ (j : ℕ). newIn (a .kind) (a .n) (a .b) (a .i) j (a .old) (a .new)) (add-one (l .k))) (ap (λ (j : ℕ). OfBallots (Carry (a .i) j (a .kind) (a .b))) (add-one (l .k))) (at-put-told-if .put-told-if .ensures)),
     )
 
 same-length : tie.Need-same-length Inv-loop μ-loop

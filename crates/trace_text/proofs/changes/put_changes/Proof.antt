@@ -12,10 +12,13 @@ use Rattle.trace_text.proofs.changes.put_changes.Tie as tie
 returns : tie.Need-returns
 unfolding changed
 returns c =
-    let a = c .before .before .before .before .before .before .before .before .before .before .before .args in
-    let was = c .before .before .before .before .before .before .before .summary-of .ensures (a .old .ballots) in
-    let is = c .before .before .before .before .before .before .summary-of2 .ensures (a .new .ballots) in
-    put-text (c .before .before .put-rows .ensures) (ap (λ (s : Summary). text (changed s (c .before .before .before .before .before .before .summary-of2 .result))) was ∙ ap (λ (s : Summary). text (changed (summaryOf (a .old)) s)) is)
+    let at-put-rows = c .before .before in
+    let at-summary-of2 = at-put-rows .before .before .before .before in
+    let start = at-summary-of2 .before .before .before .before .before in
+    let a = start .args in
+    let was = at-summary-of2 .before .summary-of .ensures (a .old .ballots) in
+    let is = at-summary-of2 .summary-of2 .ensures (a .new .ballots) in
+    put-text (at-put-rows .put-rows .ensures) (ap (λ (s : Summary). text (changed s (at-summary-of2 .summary-of2 .result))) was ∙ ap (λ (s : Summary). text (changed (summaryOf (a .old)) s)) is)
 
 pub put-changes-spec : {M : Type 1} → statement M
 put-changes-spec =

@@ -31,9 +31,13 @@ loop-holds c = (omega arith, put-no-lines _ _ _ (omega arith) (omega arith))
 loop-again : tie.Need-loop-again Inv-loop μ-loop
 unfolding nth
 loop-again c =
-    let l = c .before .before .before .before .before .before .before .loop in
-    let a = c .before .before .before .before .before .before .before .before .before .args in
-    (omega arith, put-more (l .i) (rowLines (a .old-n) (a .old) (a .new)) (l .inv .1) (put-text (c .before .before .put-row .ensures) (rw (add-one, c .before .before .before .before .row-at2 .ensures, c .before .before .before .before .before .row-at .ensures))))
+    let at-put-row = c .before .before in
+    let at-row-at2 = at-put-row .before .before in
+    let at-loop = at-row-at2 .before .before .before in
+    let start = at-loop .before .before in
+    let l = at-loop .loop in
+    let a = start .args in
+    (omega arith, put-more (l .i) (rowLines (a .old-n) (a .old) (a .new)) (l .inv .1) (put-text (at-put-row .put-row .ensures) (rw (add-one, at-row-at2 .row-at2 .ensures, at-row-at2 .before .row-at .ensures))))
 
 same-length : tie.Need-same-length Inv-loop μ-loop
 same-length c = put-length (c .before .loop .inv .1)

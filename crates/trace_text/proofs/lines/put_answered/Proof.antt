@@ -7,7 +7,13 @@ use Rattle.trace_text.proofs.lines.put_answered.Tie as tie
 
 returns : tie.Need-returns
 unfolding lineText
-returns c = put-then (c .before .before .before .before .before .before .before .before .before .before .before .before .before .before .before .before .before .before .put-number .ensures) (put-then (c .before .before .before .before .before .before .before .before .before .before .before .before .before .before .put-field .ensures) (put-then (c .before .before .before .before .before .before .before .before .before .before .put-byte .ensures) (put-then (c .before .before .before .before .before .before .put-verdict .ensures) (c .before .before .put-byte2 .ensures))))
+returns c =
+    let at-put-byte2 = c .before .before in
+    let at-put-verdict = at-put-byte2 .before .before .before .before in
+    let at-put-byte = at-put-verdict .before .before .before .before in
+    let at-put-field = at-put-byte .before .before .before .before in
+    let at-put-number = at-put-field .before .before .before .before in
+    put-then (at-put-number .put-number .ensures) (put-then (at-put-field .put-field .ensures) (put-then (at-put-byte .put-byte .ensures) (put-then (at-put-verdict .put-verdict .ensures) (at-put-byte2 .put-byte2 .ensures))))
 
 pub put-answered-spec : {M : Type 1} → statement M
 put-answered-spec =

@@ -7,7 +7,11 @@ use Rattle.trace_text.proofs.lines.put_undone.Tie as tie
 
 returns : tie.Need-returns
 unfolding lineText
-returns c = put-then (c .before .before .before .before .before .before .before .before .before .before .put-bytes .ensures) (put-then (c .before .before .before .before .before .before .put-field .ensures) (c .before .before .put-byte .ensures))
+returns c =
+    let at-put-byte = c .before .before in
+    let at-put-field = at-put-byte .before .before .before .before in
+    let at-put-bytes = at-put-field .before .before .before .before in
+    put-then (at-put-bytes .put-bytes .ensures) (put-then (at-put-field .put-field .ensures) (at-put-byte .put-byte .ensures))
 
 pub put-undone-spec : {M : Type 1} → statement M
 put-undone-spec =

@@ -12,7 +12,11 @@ returns c = put-text (c .before .before .put-bytes .ensures) (rw (eq-eqb _ 0 (c 
 
 returns-2 : tie.Need-returns-2
 unfolding verdict
-returns-2 c = put-text (put-then (c .before .before .before .before .before .before .put-bytes2 .ensures) (c .before .before .put-question .ensures)) (rw (ne-eqb _ 0 (c .before .before .before .before .before .before .before .before .before .if1 .left)))
+returns-2 c =
+    let at-put-question = c .before .before in
+    let at-put-bytes2 = at-put-question .before .before .before .before in
+    let at-if1 = at-put-bytes2 .before .before .before in
+    put-text (put-then (at-put-bytes2 .put-bytes2 .ensures) (at-put-question .put-question .ensures)) (rw (ne-eqb _ 0 (at-if1 .if1 .left)))
 
 pub put-verdict-spec : {M : Type 1} → statement M
 put-verdict-spec =

@@ -7,7 +7,12 @@ use Rattle.trace_text.proofs.sent.put_all_sent.Tie as tie
 
 returns : tie.Need-returns
 unfolding sent
-returns c = put-both _ _ (c .before .before .before .before .before .before .before .before .before .before .before .before .before .before .put-sent .ensures) (put-both _ _ (c .before .before .before .before .before .before .before .before .before .before .put-sent2 .ensures) (put-both _ _ (c .before .before .before .before .before .before .put-sent3 .ensures) (c .before .before .put-sent4 .ensures)))
+returns c =
+    let at-put-sent4 = c .before .before in
+    let at-put-sent3 = at-put-sent4 .before .before .before .before in
+    let at-put-sent2 = at-put-sent3 .before .before .before .before in
+    let at-put-sent = at-put-sent2 .before .before .before .before in
+    put-both _ _ (at-put-sent .put-sent .ensures) (put-both _ _ (at-put-sent2 .put-sent2 .ensures) (put-both _ _ (at-put-sent3 .put-sent3 .ensures) (at-put-sent4 .put-sent4 .ensures)))
 
 pub put-all-sent-spec : {M : Type 1} → statement M
 put-all-sent-spec =

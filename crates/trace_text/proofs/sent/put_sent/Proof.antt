@@ -32,9 +32,13 @@ loop-holds c = (omega arith, put-no-lines _ _ _ (omega arith) (omega arith))
 loop-again : tie.Need-loop-again Inv-loop μ-loop
 unfolding nth freshStation fresh unsentAll
 loop-again c =
-    let l = c .before .before .before .before .before .before .before .before .before .loop in
-    let a = c .before .before .before .before .before .before .before .before .before .before .before .args in
-    (omega arith, put-more (l .i) (told (a .kind) (a .t4) (a .t5)) (l .inv .1) (put-text (c .before .before .put-sent-to .ensures) (rw (add-one, c .before .before .before .before .receivers2 .ensures, c .before .before .before .before .before .receivers .ensures))))
+    let at-put-sent-to = c .before .before in
+    let at-receivers2 = at-put-sent-to .before .before in
+    let at-loop = at-receivers2 .before .before .before .before .before in
+    let start = at-loop .before .before in
+    let l = at-loop .loop in
+    let a = start .args in
+    (omega arith, put-more (l .i) (told (a .kind) (a .t4) (a .t5)) (l .inv .1) (put-text (at-put-sent-to .put-sent-to .ensures) (rw (add-one, at-receivers2 .receivers2 .ensures, at-receivers2 .before .receivers .ensures))))
 
 same-length : tie.Need-same-length Inv-loop μ-loop
 same-length c = put-length (c .before .loop .inv .1)

@@ -31,11 +31,15 @@ loop-holds c = (omega arith, put-no-lines _ _ _ (omega arith) (omega arith))
 
 loop-again : tie.Need-loop-again Inv-loop μ-loop
 loop-again c =
-    let l = c .before .before .before .before .before .before .before .loop in
-    let a = c .before .before .before .before .before .before .before .before .before .args in (
+    let at-put-told-if = c .before .before in
+    let at-is-new = at-put-told-if .before .before in
+    let at-loop = at-is-new .before .before .before in
+    let start = at-loop .before .before in
+    let l = at-loop .loop in
+    let a = start .args in (
       omega arith,
       put-more (l .j) (told (a .kind) (a .i) (a .old) (a .new)) (l .inv .1)
-          (put-sent _ _ _ _ (c .before .before .before .before .is-new .ensures ∙ ap (λ (j : ℕ). isNew (has (a .old) j) (has (a .new) j)) (add-one (l .j))) (ap (λ (j : ℕ). Deliver (a .i) j (a .kind)) (add-one (l .j))) (c .before .before .put-told-if .ensures)),
+          (put-sent _ _ _ _ (at-is-new .is-new .ensures ∙ ap (λ (j : ℕ). isNew (has (a .old) j) (has (a .new) j)) (add-one (l .j))) (ap (λ (j : ℕ). Deliver (a .i) j (a .kind)) (add-one (l .j))) (at-put-told-if .put-told-if .ensures)),
     )
 
 same-length : tie.Need-same-length Inv-loop μ-loop

@@ -32,13 +32,19 @@ loop-holds c = (omega arith, put-no-lines _ _ _ (omega arith) (omega arith))
 loop-again : tie.Need-loop-again Inv-loop μ-loop
 unfolding wordPut nth freshStation fresh unsentAll
 loop-again c =
-    let l = c .before .before .before .before .before .before .before .before .before .before .before .before .loop in
-    let a = c .before .before .before .before .before .before .before .before .before .before .before .before .before .before .args in
-    let was = c .before .before .before .before .before .before .before .before .before .proposal-of .ensures in
-    let is = c .before .before .before .before .before .before .before .proposal-of2 .ensures in (
+    let at-put-told-if = c .before .before in
+    let at-is-word-new = at-put-told-if .before .before in
+    let at-is-move = at-is-word-new .before .before in
+    let at-proposal-of = at-is-move .before .before .before in
+    let at-loop = at-proposal-of .before .before .before in
+    let start = at-loop .before .before in
+    let l = at-loop .loop in
+    let a = start .args in
+    let was = at-proposal-of .proposal-of .ensures in
+    let is = at-is-move .before .proposal-of2 .ensures in (
       omega arith,
       put-more (l .i) (words (a .t3) (a .t4)) (l .inv .1)
-          (put-word _ _ _ _ (c .before .before .before .before .is-word-new .ensures ∙ rw (was, is)) (rw (add-one, c .before .before .before .before .before .before .is-move .ensures, is)) (c .before .before .put-told-if .ensures)),
+          (put-word _ _ _ _ (at-is-word-new .is-word-new .ensures ∙ rw (was, is)) (rw (add-one, at-is-move .is-move .ensures, is)) (at-put-told-if .put-told-if .ensures)),
     )
 
 same-length : tie.Need-same-length Inv-loop μ-loop

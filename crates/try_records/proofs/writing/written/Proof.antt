@@ -1,3 +1,4 @@
+-- `written` is safe and ends: its loop stays within the bytes.
 use Prim.Native.Nat.{_≤_, _-_}
 use lib.ListN.{length}
 use native.Mathlib.Omega.{arith}
