@@ -3,23 +3,8 @@ use borrow.Author.Needs.{needs}
 use Rattle.controller.proofs.ballots.arrives.Statement.{statement}
 use Rattle.controller.proofs.ballots.arrives.Tie as tie
 
-returns : tie.Need-returns
-unfolding ballotArrives
-returns c = simp (c .before .enum-told .given .1, c .prepare-arrives .ensures)
-
-returns-2 : tie.Need-returns-2
-unfolding ballotArrives
-returns-2 c = simp (c .before .enum-told2 .given .1, c .promise-arrives .ensures)
-
-returns-3 : tie.Need-returns-3
-unfolding ballotArrives
-returns-3 c = simp (c .before .enum-told3 .given .1, c .accept-arrives .ensures)
-
-returns-4 : tie.Need-returns-4
-unfolding ballotArrives
-returns-4 c = simp (c .before .enum-told4 .given .1, c .unanswered .ensures)
-
 pub arrives-spec : {M : Type 1} → statement M
+unfolding ballotArrives
 arrives-spec =
     tie.close
     (tie.spec
@@ -31,7 +16,7 @@ arrives-spec =
     (λ c κs. search needs)
     (λ c. search needs)
     (λ c κs. search needs)
-    returns
-    returns-2
-    returns-3
-    returns-4)
+    (λ c. simp (c .before .enum-told .given .1, c .prepare-arrives .ensures))
+    (λ c. simp (c .before .enum-told2 .given .1, c .promise-arrives .ensures))
+    (λ c. simp (c .before .enum-told3 .given .1, c .accept-arrives .ensures))
+    (λ c. simp (c .before .enum-told4 .given .1, c .unanswered .ensures)))

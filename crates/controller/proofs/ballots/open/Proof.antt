@@ -1,3 +1,4 @@
+-- `controller::open` meets its contract: three tests in the order of `openCall`, by what each test's call ensures.
 use mathlib.Core.Path.{_≡_, sym, _∙_}
 use mathlib.Core.Bool.{Bool, true, false, cond, not, _&&_}
 use Rattle.protocol.specs.declared.BallotAnswer.{BallotAnswer}
@@ -25,16 +26,22 @@ returns-2 c = simp (← c .before .before .before .before .takes-part .ensures, 
 returns-3 : tie.Need-returns-3
 unfolding openCall
 returns-3 c =
-    no-word _ _ _ _ _ _ (sym (c .before .before .before .before .before .before .takes-part .ensures) ∙ not-false (c .before .before .before .before .before .before .takes-part .result) (c .before .before .before .before .before .if1 .left))
-    (sym (c .before .before .before .before .may-open .ensures) ∙ not-false (c .before .before .before .before .may-open .result) (c .before .before .before .if2 .left))
-    (sym (c .before .before .is-none .ensures) ∙ c .before .if3 .taken) (c .unanswered3 .ensures)
+    let at-is-none = c .before .before in
+    let at-may-open = at-is-none .before .before in
+    let at-takes-part = at-may-open .before .before in
+    no-word _ _ _ _ _ _ (sym (at-takes-part .takes-part .ensures) ∙ not-false (at-takes-part .takes-part .result) (at-may-open .before .if1 .left))
+    (sym (at-may-open .may-open .ensures) ∙ not-false (at-may-open .may-open .result) (at-is-none .before .if2 .left))
+    (sym (at-is-none .is-none .ensures) ∙ c .before .if3 .taken) (c .unanswered3 .ensures)
 
 returns-4 : tie.Need-returns-4
 unfolding openCall
 returns-4 c =
-    with-word _ _ _ _ _ _ (sym (c .before .before .before .before .before .before .takes-part .ensures) ∙ not-false (c .before .before .before .before .before .before .takes-part .result) (c .before .before .before .before .before .if1 .left))
-    (sym (c .before .before .before .before .may-open .ensures) ∙ not-false (c .before .before .before .before .may-open .result) (c .before .before .before .if2 .left))
-    (sym (c .before .before .is-none .ensures) ∙ c .before .if3 .left) (c .open-ballot .ensures)
+    let at-is-none = c .before .before in
+    let at-may-open = at-is-none .before .before in
+    let at-takes-part = at-may-open .before .before in
+    with-word _ _ _ _ _ _ (sym (at-takes-part .takes-part .ensures) ∙ not-false (at-takes-part .takes-part .result) (at-may-open .before .if1 .left))
+    (sym (at-may-open .may-open .ensures) ∙ not-false (at-may-open .may-open .result) (at-is-none .before .if2 .left))
+    (sym (at-is-none .is-none .ensures) ∙ c .before .if3 .left) (c .open-ballot .ensures)
 
 pub open-spec : {M : Type 1} → statement M
 open-spec =

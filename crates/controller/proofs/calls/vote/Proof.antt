@@ -14,7 +14,11 @@ returns-2 c = simp (← c .before .before .before .before .takes-part .ensures, 
 
 returns-3 : tie.Need-returns-3
 unfolding vote
-returns-3 c = simp (← c .before .before .before .before .before .before .takes-part .ensures, not-false (c .before .before .before .before .before .before .takes-part .result) (c .before .before .before .before .before .if1 .left), ← c .before .before .before .before .phase-in .ensures, eq-eqb _ _ (c .before .before .before .if2 .left), ← c .before .before .single .ensures, ← c .before .drop-contradicting .ensures, c .vote-rule .ensures)
+returns-3 c =
+    let at-single = c .before .before in
+    let at-phase-in = at-single .before .before in
+    let at-takes-part = at-phase-in .before .before in
+    simp (← at-takes-part .takes-part .ensures, not-false (at-takes-part .takes-part .result) (at-phase-in .before .if1 .left), ← at-phase-in .phase-in .ensures, eq-eqb _ _ (at-single .before .if2 .left), ← at-single .single .ensures, ← c .before .drop-contradicting .ensures, c .vote-rule .ensures)
 
 pub vote-spec : {M : Type 1} → statement M
 vote-spec =

@@ -55,19 +55,25 @@ returns-2 c =
 
 returns-3 : tie.Need-returns-3
 returns-3 c =
-    let start = c .before .before .before .before .before .before .before .args in
+    let at-count-of3 = c .before .before in
+    let at-count-of2 = at-count-of3 .before .before in
+    let at-count-of = at-count-of2 .before .before in
+    let start = at-count-of .before .args in
     nth-message-of _ _ _ _ (c .nth-of-kind3 .ensures
-    ∙ here (calls (start .me) (start .sends)) (answers (start .me) (start .sends)) _ _ (c .before .before .count-of3 .ensures) (c .before .if3 .taken)
-    ∙ past (acks (start .me) (start .sends)) (calls (start .me) (start .sends) ++ answers (start .me) (start .sends)) _ _ (c .before .before .before .before .count-of2 .ensures) (c .before .before .before .if2 .left)
-    ∙ past-votes (start .me) (start .sends) (start .k) _ (c .before .before .before .before .before .before .count-of .ensures) (c .before .before .before .before .before .if1 .left))
+    ∙ here (calls (start .me) (start .sends)) (answers (start .me) (start .sends)) _ _ (at-count-of3 .count-of3 .ensures) (c .before .if3 .taken)
+    ∙ past (acks (start .me) (start .sends)) (calls (start .me) (start .sends) ++ answers (start .me) (start .sends)) _ _ (at-count-of2 .count-of2 .ensures) (at-count-of3 .before .if2 .left)
+    ∙ past-votes (start .me) (start .sends) (start .k) _ (at-count-of .count-of .ensures) (at-count-of2 .before .if1 .left))
 
 returns-4 : tie.Need-returns-4
 returns-4 c =
-    let start = c .before .before .before .before .before .before .before .args in
+    let at-count-of3 = c .before .before in
+    let at-count-of2 = at-count-of3 .before .before in
+    let at-count-of = at-count-of2 .before .before in
+    let start = at-count-of .before .args in
     nth-message-of _ _ _ _ (c .nth-of-kind4 .ensures
-    ∙ past (calls (start .me) (start .sends)) (answers (start .me) (start .sends)) _ _ (c .before .before .count-of3 .ensures) (c .before .if3 .left)
-    ∙ past (acks (start .me) (start .sends)) (calls (start .me) (start .sends) ++ answers (start .me) (start .sends)) _ _ (c .before .before .before .before .count-of2 .ensures) (c .before .before .before .if2 .left)
-    ∙ past-votes (start .me) (start .sends) (start .k) _ (c .before .before .before .before .before .before .count-of .ensures) (c .before .before .before .before .before .if1 .left))
+    ∙ past (calls (start .me) (start .sends)) (answers (start .me) (start .sends)) _ _ (at-count-of3 .count-of3 .ensures) (c .before .if3 .left)
+    ∙ past (acks (start .me) (start .sends)) (calls (start .me) (start .sends) ++ answers (start .me) (start .sends)) _ _ (at-count-of2 .count-of2 .ensures) (at-count-of3 .before .if2 .left)
+    ∙ past-votes (start .me) (start .sends) (start .k) _ (at-count-of .count-of .ensures) (at-count-of2 .before .if1 .left))
 
 pub nth-message-spec : {M : Type 1} → statement M
 nth-message-spec =

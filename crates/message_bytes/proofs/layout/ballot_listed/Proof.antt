@@ -14,7 +14,10 @@ returns-2 c = simp (← c .before .before .before .is-ballot-kind .ensures, not-
 
 returns-3 : tie.Need-returns-3
 unfolding listedIn
-returns-3 c = simp (← c .before .before .before .before .before .before .is-ballot-kind .ensures, not-false (c .before .before .before .before .before .before .is-ballot-kind .result) (c .before .before .before .before .before .if1 .left), eq-eqb _ _ (c .before .before .before .if2 .left), ← c .before .before .is-outcome .ensures, c .before .if3 .taken)
+returns-3 c =
+    let at-is-outcome = c .before .before in
+    let at-if1 = at-is-outcome .before .before .before in
+    simp (← at-if1 .before .is-ballot-kind .ensures, not-false (at-if1 .before .is-ballot-kind .result) (at-if1 .if1 .left), eq-eqb _ _ (at-is-outcome .before .if2 .left), ← at-is-outcome .is-outcome .ensures, c .before .if3 .taken)
 
 returns-4 : tie.Need-returns-4
 unfolding listedIn

@@ -5,7 +5,9 @@ use Rattle.message_bytes.proofs.layout.fields_in.Tie as tie
 
 returns : tie.Need-returns
 unfolding fieldsIn
-returns c = rw (c .before .before .before .before .before .before .before .before .votes-in .ensures, c .before .before .before .before .before .before .before .more-in .ensures, c .number4 .ensures)
+returns c =
+    let at-more-in = c .before .before .before .before .before .before .before in
+    rw (at-more-in .before .votes-in .ensures, at-more-in .more-in .ensures, c .number4 .ensures)
 
 pub fields-in-spec : {M : Type 1} → statement M
 fields-in-spec =

@@ -8,7 +8,11 @@ use Rattle.schedule_text.proofs.forms.put_name.Statement.{statement}
 use Rattle.schedule_text.proofs.forms.put_name.Tie as tie
 
 returns : tie.Need-returns
-returns c = put-text (c .before .before .put-bytes .ensures) (ap (part (c .before .before .before .before .before .before .before .before .args .names .now)) (c .before .before .before .before .before .nth-span .ensures .0) ∙ nth-part (c .before .before .before .before .before .before .before .before .args .names .now) (c .before .before .before .before .before .before .before .before .args .k))
+returns c =
+    let at-put-bytes = c .before .before in
+    let at-nth-span = at-put-bytes .before .before .before in
+    let start = at-nth-span .before .before .before in
+    put-text (at-put-bytes .put-bytes .ensures) (ap (part (start .args .names .now)) (at-nth-span .nth-span .ensures .0) ∙ nth-part (start .args .names .now) (start .args .k))
 
 pub put-name-spec : {M : Type 1} → statement M
 put-name-spec =

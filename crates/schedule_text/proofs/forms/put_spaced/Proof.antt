@@ -36,7 +36,11 @@ returns-7 c = rw (c .before .before .before .before .before .enum-told7 .given .
 
 returns-8 : tie.Need-returns-8
 unfolding spaced leftOut shown fieldOf
-returns-8 c = rw (c .before .before .before .before .before .before .enum-told8 .given .1) (rw (c .before .before .before .one-less .ensures, c .before .before .before .before .before .before .before .before .field-of .ensures, c .before .before .before .before .before .before .enum-told8 .given .1) at (c .before .before .put-spaced-name4 .ensures))
+returns-8 c =
+    let at-put-spaced-name4 = c .before .before in
+    let at-enum-told8 = at-put-spaced-name4 .before .before .before .before in
+    let at-field-of = at-enum-told8 .before .before in
+    rw (at-enum-told8 .enum-told8 .given .1) (rw (at-put-spaced-name4 .before .one-less .ensures, at-field-of .field-of .ensures, at-enum-told8 .enum-told8 .given .1) at (at-put-spaced-name4 .put-spaced-name4 .ensures))
 
 returns-9 : tie.Need-returns-9
 unfolding spaced leftOut shown fieldOf

@@ -1,3 +1,4 @@
+-- `schedule_text::with_field` meets its contract, slot by slot. A value that the slot has room for fits the field's type (`in-byte`, `in-four` of FormLaws).
 use Prim.Native.Nat.{_^_, _<_}
 use Rattle.schedule_text.specs.Forms.{withField, room}
 use Rattle.schedule_text.specs.FormLaws.{in-byte, in-four}

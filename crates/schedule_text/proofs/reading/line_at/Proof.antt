@@ -20,15 +20,18 @@ slice-aggregate-read-line c = sym (length-take-le _ _ (c .before .end-of-run2 .e
 
 returns : tie.Need-returns
 returns c =
-    let end = c .before .before .before .before .end-of-run .ensures in
-    let shown = c .before .before .end-of-run2 .ensures in
-    let a = c .before .before .before .before .before .before .args in
-    let line = take (c .before .before .before .before .end-of-run .result - a .at) (drop (a .at) (a .text .now)) in
+    let at-end-of-run2 = c .before .before in
+    let at-end-of-run = at-end-of-run2 .before .before in
+    let start = at-end-of-run .before .before in
+    let end = at-end-of-run .end-of-run .ensures in
+    let shown = at-end-of-run2 .end-of-run2 .ensures in
+    let a = start .args in
+    let line = take (at-end-of-run .end-of-run .result - a .at) (drop (a .at) (a .text .now)) in
     record {
       ends = end .is;
       line = c .read-line .ensures ∙ ap (λ (k : ℕ). readLine (take k line)) (shown .is ∙ zero-add (run Shown line));
       low = end .low;
-      high = end .high (c .before .before .before .before .before .before .pre);
+      high = end .high (start .pre);
     }
 
 pub line-at-spec : {M : Type 1} → statement M

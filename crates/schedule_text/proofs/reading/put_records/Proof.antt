@@ -37,17 +37,23 @@ add-at : tie.Need-add-at Inv-loop μ-loop
 add-at c = omega (arith, c .before .before .before .before .before .before .line-at .ensures .high)
 
 loop-less : tie.Need-loop-less Inv-loop μ-loop
-loop-less c = omega (arith, c .before .before .before .before .before .before .line-at .ensures .low, c .before .before .before .before .before .before .line-at .ensures .high)
+loop-less c =
+    let at-line-at = c .before .before .before .before .before .before in
+    omega (arith, at-line-at .line-at .ensures .low, at-line-at .line-at .ensures .high)
 
 loop-again : tie.Need-loop-again Inv-loop μ-loop
 loop-again c =
-    let l = c .before .before .before .before .before .before .before .before .loop in
-    let t = c .before .before .before .before .before .before .before .before .before .before .before .args .text .now in
-    let met = c .before .before .before .before .before .before .line-at .ensures in
-    let read = c .before .before .before .before .before .before .line-at .result .read in (
+    let at-put-read = c .before .before .before in
+    let at-match = at-put-read .before .before in
+    let at-loop-test = at-match .before .before in
+    let start = at-loop-test .before .before .before .before in
+    let l = at-loop-test .before .loop in
+    let t = start .args .text .now in
+    let met = at-match .before .line-at .ensures in
+    let read = at-match .before .line-at .result .read in (
       omega (arith, met .high),
       omega (arith, met .low),
-      (l .inv .2 .0 ++ bytesOfRead read, put-then (l .inv .2 .1) (c .before .before .before .put-read .ensures), sym (line-read t (l .at) (c .before .before .before .before .before .before .before .loop-test .taken) met (l .line) (l .inv .2 .0) (expected read (c .before .before .before .before .before .match .keys2))) ∙ l .inv .2 .2),
+      (l .inv .2 .0 ++ bytesOfRead read, put-then (l .inv .2 .1) (at-put-read .put-read .ensures), sym (line-read t (l .at) (at-loop-test .loop-test .taken) met (l .line) (l .inv .2 .0) (expected read (at-match .match .keys2))) ∙ l .inv .2 .2),
     )
 
 same-length-2 : tie.Need-same-length-2 Inv-loop μ-loop

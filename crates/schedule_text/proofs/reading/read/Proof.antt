@@ -14,7 +14,13 @@ returns-2 : tie.Need-returns-2
 returns-2 c = no-room (readText (c .before .before .before .before .before .before .before .before .before .args .text .now)) _ _ (c .before .before .before .before .before .put-records .result) _ (c .before .before .measured .given .0 .0) (c .before .before .before .before .before .put-records .ensures) (c .before .before .measured .given .1) (c .if1 .taken) (omega arith)
 
 returns-3 : tie.Need-returns-3
-returns-3 c = turned (readText (c .before .before .before .before .before .before .before .before .before .before .before .before .before .args .text .now)) _ _ (c .before .before .before .before .before .before .before .before .before .put-records .result) _ _ (c .before .before .put-records2 .result) (c .before .before .before .before .before .before .measured .given .0 .0) (c .before .before .before .before .before .before .before .before .before .put-records .ensures) (c .before .before .before .before .before .before .measured .given .1) (c .before .before .before .before .if1 .left) (omega arith) (c .before .before .put-records2 .ensures)
+returns-3 c =
+    let at-put-records2 = c .before .before in
+    let at-if1 = at-put-records2 .before .before in
+    let at-measured = at-if1 .before .before in
+    let at-put-records = at-measured .before .before .before in
+    let start = at-put-records .before .before .before .before in
+    turned (readText (start .args .text .now)) _ _ (at-put-records .put-records .result) _ _ (at-put-records2 .put-records2 .result) (at-measured .measured .given .0 .0) (at-put-records .put-records .ensures) (at-measured .measured .given .1) (at-if1 .if1 .left) (omega arith) (at-put-records2 .put-records2 .ensures)
 
 pub read-spec : {M : Type 1} → statement M
 read-spec =

@@ -36,12 +36,17 @@ returns c =
 
 loop-again : tie.Need-loop-again Inv-loop μ-loop
 loop-again c =
-    let l = c .before .before .before .before .before .before .before .before .before .before .loop in
-    let s = c .before .before .before .before .before .before .before .before .before .before .before .before .before .args .s .now in
-    let act = c .before .before .before .before .before .before .read .given .0 .0 in
-    let line = put-text (c .before .before .put-line .ensures) (ap lineOf (c .before .before .before .fields-of .ensures)) in (
+    let at-put-line = c .before .before in
+    let at-read = at-put-line .before .before .before .before in
+    let at-record-at = at-read .before .before in
+    let at-loop = at-record-at .before .before in
+    let start = at-loop .before .before .before in
+    let l = at-loop .loop in
+    let s = start .args .s .now in
+    let act = at-read .read .given .0 .0 in
+    let line = put-text (at-put-line .put-line .ensures) (ap lineOf (at-put-line .before .fields-of .ensures)) in (
       omega arith,
-      (l .inv .1 .0 ++ lineOf (fieldsOf act), put-then (l .inv .1 .1) line, sym (record-read (l .k) s (l .at) (c .before .before .before .before .before .before .before .before .before .loop-test .taken) (l .inv .1 .0) act (sym (c .before .before .before .before .before .before .before .before .record-at .ensures) ∙ c .before .before .before .before .before .before .read .given .1)) ∙ l .inv .1 .2),
+      (l .inv .1 .0 ++ lineOf (fieldsOf act), put-then (l .inv .1 .1) line, sym (record-read (l .k) s (l .at) (at-record-at .before .loop-test .taken) (l .inv .1 .0) act (sym (at-record-at .record-at .ensures) ∙ at-read .read .given .1)) ∙ l .inv .1 .2),
     )
 
 same-length-2 : tie.Need-same-length-2 Inv-loop μ-loop
