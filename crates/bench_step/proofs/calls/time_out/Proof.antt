@@ -22,12 +22,18 @@ unfolding effectOf answerTo
 leaves c = rw (c .answering .ensures, c .before .timeout .ensures, c .before .before .identity .ensures, c .before .before .before .before .before .station-at .ensures .0)
 
 finish-requires : tie.Need-finish-requires
-finish-requires c κs = let s = c .before .before .before .before .before .before in one-first (s .args .b) (event s) (c .before .before .before .before .before .station-at .ensures .1) _ (asked (c .before .before .before)) refl
+finish-requires c κs =
+    let asking = c .before .before .before in
+    let at-station-at = asking .before .before in
+    let s = at-station-at .before in
+    one-first (s .args .b) (event s) (at-station-at .station-at .ensures .1) _ (asked asking) refl
 
 returns : tie.Need-returns
 returns c =
-    let s = c .before .before .before .before .before .before .before in
-    c .finish .ensures ∙ one-finished (s .args .b) (event s) (c .before .before .before .before .before .before .station-at .ensures .1) _ (asked (c .before .before .before .before)) refl _ (λ y. leaves (c .before))
+    let asking = c .before .before .before .before in
+    let at-station-at = asking .before .before in
+    let s = at-station-at .before in
+    c .finish .ensures ∙ one-finished (s .args .b) (event s) (at-station-at .station-at .ensures .1) _ (asked asking) refl _ (λ y. leaves (c .before))
 
 pub time-out-spec : {M : Type 1} → statement M
 time-out-spec =

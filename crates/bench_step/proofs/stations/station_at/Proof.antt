@@ -1,3 +1,4 @@
+-- `station_at` meets its contract: controller 0 and those past the limit have a fresh station, any other its element. The array has as many as the limit.
 use Rattle.ground.specs.Limit.{limit}
 use mathlib.Core.List.{[]}
 use Rattle.protocol.specs.Benches.{freshStation, fresh, unsentAll}
