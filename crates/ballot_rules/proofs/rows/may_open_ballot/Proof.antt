@@ -1,3 +1,4 @@
+-- `may_open_ballot` meets its contract: the tests in the order of `mayOpenBallot`. A ballot that passed the first fits a byte.
 use mathlib.Core.Path.{sym, _∙_}
 use native.Mathlib.Omega.{arith}
 use lib.Dec.{leb}
@@ -25,7 +26,11 @@ returns-3 : tie.Need-returns-3
 returns-3 c = simp (← c .before .before .before .before .before .is-ballot .ensures, not-false (c .before .before .before .before .before .is-ballot .result) (c .before .before .before .before .if1 .left), ← c .before .before .before .owner .ensures, eq-eqb _ _ (c .before .before .if2 .left), ← c .before .has .ensures, c .if3 .taken)
 
 returns-4 : tie.Need-returns-4
-returns-4 c = simp (← c .before .before .before .before .before .before .is-ballot .ensures, not-false (c .before .before .before .before .before .before .is-ballot .result) (c .before .before .before .before .before .if1 .left), ← c .before .before .before .before .owner .ensures, eq-eqb _ _ (c .before .before .before .if2 .left), ← c .before .before .has .ensures, c .before .if3 .left)
+returns-4 c =
+    let at-has = c .before .before in
+    let at-owner = at-has .before .before in
+    let at-is-ballot = at-owner .before .before in
+    simp (← at-is-ballot .is-ballot .ensures, not-false (at-is-ballot .is-ballot .result) (at-owner .before .if1 .left), ← at-owner .owner .ensures, eq-eqb _ _ (at-has .before .if2 .left), ← at-has .has .ensures, c .before .if3 .left)
 
 pub may-open-ballot-spec : {M : Type 1} → statement M
 may-open-ballot-spec =

@@ -4,7 +4,10 @@ use Rattle.controller_rules.proofs.arrivals.help_arrives.Statement.{sta
 use Rattle.controller_rules.proofs.arrivals.help_arrives.Tie as tie
 
 returns : tie.Need-returns
-returns c = simp (c .before .before .before .before .before .before .before .before .before .before .before .has .ensures, c .before .before .before .before .before .before .before .before .before .before .phase-in .ensures, c .before .before .before .before .before .before .before .before .answer-to-call .ensures, c .before .before .before .before .before .before .before .called .ensures, c .before .helps .ensures, c .received .ensures) (help-joined _ _)
+returns c =
+    let at-called = c .before .before .before .before .before .before .before in
+    let at-phase-in = at-called .before .before .before in
+    simp (at-phase-in .before .has .ensures, at-phase-in .phase-in .ensures, at-called .before .answer-to-call .ensures, at-called .called .ensures, c .before .helps .ensures, c .received .ensures) (help-joined _ _)
 
 pub help-arrives-spec : {M : Type 1} → statement M
 help-arrives-spec =

@@ -4,7 +4,10 @@ use Rattle.controller_rules.proofs.arrivals.vote_arrives.Statement.{sta
 use Rattle.controller_rules.proofs.arrivals.vote_arrives.Tie as tie
 
 returns : tie.Need-returns
-returns c = simp (c .before .before .before .before .before .before .before .before .phase-in .ensures, c .before .before .before .before .before .before .learned .ensures, c .before .nothing .ensures, c .received .ensures) (vote-joined _ _)
+returns c =
+    let at-learned = c .before .before .before .before .before .before in
+    let at-phase-in = at-learned .before .before in
+    simp (at-phase-in .phase-in .ensures, at-learned .learned .ensures, c .before .nothing .ensures, c .received .ensures) (vote-joined _ _)
 
 pub vote-arrives-spec : {M : Type 1} → statement M
 vote-arrives-spec =

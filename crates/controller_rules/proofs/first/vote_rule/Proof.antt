@@ -5,7 +5,11 @@ use Rattle.controller_rules.proofs.first.vote_rule.Tie as tie
 
 returns : tie.Need-returns
 unfolding voteRule
-returns c = simp (c .before .before .before .before .before .before .before .single .ensures, c .before .before .before .before .before .before .learn .ensures, c .before .before .before .before .before .aim .ensures, c .before .before .before .before .phase-after-vote .ensures, c .before .before .before .advance .ensures, c .before .before .recipients .ensures, c .before .votes-to .ensures, c .sending .ensures)
+returns c =
+    let at-recipients = c .before .before in
+    let at-phase-after-vote = at-recipients .before .before in
+    let at-learn = at-phase-after-vote .before .before in
+    simp (at-learn .before .single .ensures, at-learn .learn .ensures, at-phase-after-vote .before .aim .ensures, at-phase-after-vote .phase-after-vote .ensures, at-recipients .before .advance .ensures, at-recipients .recipients .ensures, c .before .votes-to .ensures, c .sending .ensures)
 
 pub vote-rule-spec : {M : Type 1} → statement M
 vote-rule-spec =
