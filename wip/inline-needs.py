@@ -1,31 +1,28 @@
-"""Named answers that are `search needs` alone go inline where a proof is put together: inline-needs.py crates/*/proofs/**/Proof.antt, then rt fmt."""
+"""Named answers that are `search needs` or `omega arith` alone go inline where a proof is put together: inline-needs.py FILE.., then rt fmt.
+An answer that is used twice, or by another answer, stays named."""
 import re,sys
 from pathlib import Path
+pat=re.compile(r"(?P<cm>(?:^--[^\n]*\n)*)^(?P<n>[a-z][\w·-]*) : tie\.Need-[^\n]*\n(?:    [^\n]*\n)*(?P=n) (?P<a>c(?: κs)?) = (?P<b>search needs|omega arith)\n\n?",re.M)
+def uses(n,t): return re.findall(r"(?<![\w·.-])%s(?![\w·-])"%re.escape(n),t)
 def work(p):
     t=p.read_text()
-    names={}
-    # blocks: optional comment line "-- src/..", signature, definition
-    pat=re.compile(r"(?:^-- src/[^\n]*\n)?^(?P<n>[a-z][\w·-]*) : tie\.Need-[^\n]*\n(?:    [^\n]*\n)*(?P=n) (?P<a>c(?: κs)?) = search needs\n\n?",re.M)
-    def gone(m):
-        names[m.group('n')]=m.group('a'); return ""
-    new=pat.sub(gone,t)
-    if not names: return 0
-    i=new.rfind("tie.spec")
-    head,tail=new[:i],new[i:]
-    ok=True
-    for n,a in names.items():
-        # used elsewhere?
-        uses=re.findall(r"(?<![\w·.-])%s(?![\w·-])"%re.escape(n),head)
-        tl,k=re.subn(r"(?<![\w·.-])%s(?![\w·-])"%re.escape(n),lambda m:"(λ %s. search needs)"%a,tail)
-        if uses or k!=1:
-            return -1
-        tail=tl
-    new=head+tail
-    p.write_text(new)
-    return len(names)
-total=0; bad=[]
+    i=t.rfind("tie.spec")
+    count=0; left=[]
+    head,tail=t[:i],t[i:]
+    for m in list(pat.finditer(head)):
+        n=m.group('n')
+        notes=[l for l in m.group('cm').splitlines() if not l.startswith('-- src/')]
+        if notes: left.append((n,"comment: "+notes[0])); continue
+        if len(uses(n,tail))!=1 or len(uses(n,head))!=2:
+            # two of its uses in head are the signature and the definition
+            left.append((n,"used %d+%d"%(len(uses(n,head))-2,len(uses(n,tail))))); continue
+        tail=re.sub(r"(?<![\w·.-])%s(?![\w·-])"%re.escape(n),lambda k:"(λ %s. %s)"%(m.group('a'),m.group('b')),tail)
+        head=head.replace(m.group(0),"",1)
+        count+=1
+    if count: p.write_text(head+tail)
+    return count,left
+total=0
 for f in sys.argv[1:]:
-    p=Path(f); r=work(p)
-    if r<0: bad.append(f)
-    else: total+=r
-print(total,"answers inline;",len(bad),"files left:",bad[:10])
+    k,left=work(Path(f)); total+=k
+    for n,w in left: print(f,n,w)
+print(total,"answers inline")

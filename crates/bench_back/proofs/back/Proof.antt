@@ -3,9 +3,6 @@ use Rattle.bench_back.proofs.ActLaws.{kept, undone}
 use Rattle.bench_back.proofs.back.Statement.{statement}
 use Rattle.bench_back.proofs.back.Tie as tie
 
-back-question-requires : tie.Need-back-question-requires
-back-question-requires c κs = search needs
-
 returns : tie.Need-returns
 returns c older =
     let x = c .before .before .args in
@@ -17,4 +14,4 @@ returns-2 c older =
     undone (x .b) (x .newest) older (x .remembers) _ (c .before .back-question .ensures) (c .if1 .left)
 
 pub back-spec : {M : Type 1} → statement M
-back-spec = tie.close (tie.spec back-question-requires returns returns-2)
+back-spec = tie.close (tie.spec (λ c κs. search needs) returns returns-2)

@@ -4,14 +4,8 @@ use borrow.Author.Needs.{needs}
 use Rattle.bench_back.proofs.play.Statement.{statement}
 use Rattle.bench_back.proofs.play.Tie as tie
 
-step-requires : tie.Need-step-requires
-step-requires c κs = search needs
-
 returns : tie.Need-returns
 returns c past = refused _ _ past _ (c .before .before .step .ensures) (c .if1 .taken)
-
-can-be-undone-requires : tie.Need-can-be-undone-requires
-can-be-undone-requires c κs = search needs
 
 returns-2 : tie.Need-returns-2
 returns-2 c past =
@@ -24,4 +18,4 @@ returns-3 c past =
     not-remembered _ _ past _ (asked .before .before .step .ensures) (asked .if1 .left) (sym (c .before .can-be-undone .ensures) ∙ c .if2 .left)
 
 pub play-spec : {M : Type 1} → statement M
-play-spec = tie.close (tie.spec step-requires returns can-be-undone-requires returns-2 returns-3)
+play-spec = tie.close (tie.spec (λ c κs. search needs) returns (λ c κs. search needs) returns-2 returns-3)

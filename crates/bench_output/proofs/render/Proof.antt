@@ -20,27 +20,12 @@ use Rattle.bench_output.proofs.Texts.{is-too-long, few-answers, few, co
 use Rattle.bench_output.proofs.render.Statement.{statement}
 use Rattle.bench_output.proofs.render.Tie as tie
 
-is-too-long-requires : tie.Need-is-too-long-requires
-is-too-long-requires c κs = search needs
-
-write-too-long-requires : tie.Need-write-too-long-requires
-write-too-long-requires c κs = search needs
-
-same-length : tie.Need-same-length
-same-length c = search needs
-
 returns : tie.Need-returns
 returns c =
     let s = c .before .before .before .before .before .before .before .before .args .s .now in
     let e = is-too-long s (sym (c .before .before .before .before .before .is-too-long .ensures) ∙ c .before .before .before .before .if1 .taken) in
     let w = c .before .before .write-too-long .ensures in
     rendered _ _ (w .0 ∙ rw e, w .1 ∙ rw e)
-
-slice-aggregate-run : tie.Need-slice-aggregate-run
-slice-aggregate-run c = search needs
-
-run-requires : tie.Need-run-requires
-run-requires c κs = search needs
 
 -- the run: its result, and the answers in their array
 abbrev schedule : tie.After-run → List ℕ
@@ -76,12 +61,6 @@ array-share-prefix-answers c = within (c .before .before .before)
 slice-aggregate-write-report : tie.Need-slice-aggregate-write-report
 slice-aggregate-write-report c = sym (length-take-le _ _ (within (c .before .before .before .before)))
 
-write-report-requires : tie.Need-write-report-requires
-write-report-requires c κs = search needs
-
-same-length-2 : tie.Need-same-length-2
-same-length-2 c = search needs
-
 returns-2 : tie.Need-returns-2
 returns-2 c =
     let r = c .before .before .before .before .before .before .before in
@@ -98,14 +77,14 @@ pub render-spec : {M : Type 1} → statement M
 render-spec =
     tie.close
     (tie.spec
-    is-too-long-requires
-    write-too-long-requires
-    same-length
+    (λ c κs. search needs)
+    (λ c κs. search needs)
+    (λ c. search needs)
     returns
-    slice-aggregate-run
-    run-requires
+    (λ c. search needs)
+    (λ c κs. search needs)
     array-share-prefix-answers
     slice-aggregate-write-report
-    write-report-requires
-    same-length-2
+    (λ c κs. search needs)
+    (λ c. search needs)
     returns-2)

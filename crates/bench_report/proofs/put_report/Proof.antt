@@ -5,15 +5,6 @@ use Rattle.text.specs.WritingLaws.{put-then, put-length}
 use Rattle.bench_report.proofs.put_report.Statement.{statement}
 use Rattle.bench_report.proofs.put_report.Tie as tie
 
-put-answers-requires : tie.Need-put-answers-requires
-put-answers-requires c κs = search needs
-
-put-controllers-requires : tie.Need-put-controllers-requires
-put-controllers-requires c κs = search needs
-
-put-messages-requires : tie.Need-put-messages-requires
-put-messages-requires c κs = search needs
-
 returns : tie.Need-returns
 unfolding reportOf
 returns c =
@@ -29,8 +20,8 @@ pub put-report-spec : {M : Type 1} → statement M
 put-report-spec =
     tie.close
     (tie.spec
-    put-answers-requires
-    put-controllers-requires
-    put-messages-requires
+    (λ c κs. search needs)
+    (λ c κs. search needs)
+    (λ c κs. search needs)
     same-length
     returns)

@@ -9,31 +9,13 @@ use Rattle.bench_report.proofs.write_report.Tie as tie
 returns : tie.Need-returns
 returns c = too-many _ _ _ (c .if1 .taken)
 
-longest-report-requires : tie.Need-longest-report-requires
-longest-report-requires c κs = search needs
-
-put-report-requires : tie.Need-put-report-requires
-put-report-requires c κs = search needs
-
-same-length : tie.Need-same-length
-same-length c = search needs
-
 returns-2 : tie.Need-returns-2
 returns-2 c =
     let test = c .before .before .before .before in
     written _ _ _ (test .before .before .if1 .left) (le-trans (report-length _ _) (rw (test .before .longest-report .ensures) at (test .if2 .taken))) (c .before .before .put-report .ensures)
 
-measure-requires : tie.Need-measure-requires
-measure-requires c κs = search needs
-
 returns-3 : tie.Need-returns-3
 returns-3 c = too-long _ _ _ (c .before .before .before .before .if1 .left) (rw (← c .before .measure .ensures) (c .if3 .taken))
-
-put-report-requires-2 : tie.Need-put-report-requires-2
-put-report-requires-2 c κs = search needs
-
-same-length-2 : tie.Need-same-length-2
-same-length-2 c = search needs
 
 returns-4 : tie.Need-returns-4
 returns-4 c =
@@ -45,12 +27,12 @@ write-report-spec =
     tie.close
     (tie.spec
     returns
-    longest-report-requires
-    put-report-requires
-    same-length
+    (λ c κs. search needs)
+    (λ c κs. search needs)
+    (λ c. search needs)
     returns-2
-    measure-requires
+    (λ c κs. search needs)
     returns-3
-    put-report-requires-2
-    same-length-2
+    (λ c κs. search needs)
+    (λ c. search needs)
     returns-4)

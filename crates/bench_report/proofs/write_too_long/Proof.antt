@@ -4,15 +4,9 @@ use borrow.Author.Needs.{needs}
 use Rattle.bench_report.proofs.write_too_long.Statement.{statement}
 use Rattle.bench_report.proofs.write_too_long.Tie as tie
 
-write-refusal-requires : tie.Need-write-refusal-requires
-write-refusal-requires c κs = search needs
-
-same-length : tie.Need-same-length
-same-length c = search needs
-
 returns : tie.Need-returns
 unfolding digits decimal
 returns c = c .before .before .write-refusal .ensures
 
 pub write-too-long-spec : {M : Type 1} → statement M
-write-too-long-spec = tie.close (tie.spec write-refusal-requires same-length returns)
+write-too-long-spec = tie.close (tie.spec (λ c κs. search needs) (λ c. search needs) returns)

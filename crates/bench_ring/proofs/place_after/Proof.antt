@@ -5,9 +5,6 @@ use borrow.Author.Needs.{needs}
 use Rattle.bench_ring.proofs.place_after.Statement.{statement}
 use Rattle.bench_ring.proofs.place_after.Tie as tie
 
-add-result : tie.Need-add-result
-add-result c = search needs
-
 returns : tie.Need-returns
 unfolding placeAfter
 returns c = simp (lt-ltb _ _ (c .if1 .taken))
@@ -17,4 +14,4 @@ unfolding placeAfter
 returns-2 c = simp (le-ltb _ _ (c .if1 .left))
 
 pub place-after-spec : {M : Type 1} → statement M
-place-after-spec = tie.close (tie.spec add-result returns returns-2)
+place-after-spec = tie.close (tie.spec (λ c. search needs) returns returns-2)

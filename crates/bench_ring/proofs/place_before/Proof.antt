@@ -10,12 +10,9 @@ returns : tie.Need-returns
 unfolding placeBefore
 returns c = (simp (eq-eqb _ _ (c .if1 .taken)), λ h. omega arith)
 
-sub-result : tie.Need-sub-result
-sub-result c = search needs
-
 returns-2 : tie.Need-returns-2
 unfolding placeBefore
 returns-2 c = (simp (ne-eqb _ _ (c .if1 .left)), λ h. omega arith)
 
 pub place-before-spec : {M : Type 1} → statement M
-place-before-spec = tie.close (tie.spec returns sub-result returns-2)
+place-before-spec = tie.close (tie.spec returns (λ c. search needs) returns-2)

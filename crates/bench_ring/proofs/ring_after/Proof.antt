@@ -1,35 +1,9 @@
 -- `bench_ring::ring_after` meets its contract.
-use Prim.Native.Nat.{_<_}
-use mathlib.Core.Path.{sym}
-use Rattle.bench_ring.specs.Rings.{places, ringAfter}
+use Rattle.bench_ring.specs.Rings.{ringAfter}
 use Rattle.bench_ring.specs.RingLaws.{after-place}
 use borrow.Author.Needs.{needs}
 use Rattle.bench_ring.proofs.ring_after.Statement.{statement}
 use Rattle.bench_ring.proofs.ring_after.Tie as tie
-
-enum-told : tie.Need-enum-told
-enum-told c = search needs
-
-enum-told-2 : tie.Need-enum-told-2
-enum-told-2 c = search needs
-
-place-after-requires : tie.Need-place-after-requires
-place-after-requires c κs = search needs
-
-one-more-requires : tie.Need-one-more-requires
-one-more-requires c κs = search needs
-
-enum-told-3 : tie.Need-enum-told-3
-enum-told-3 c = search needs
-
-place-before-requires : tie.Need-place-before-requires
-place-before-requires c κs = search needs
-
-one-fewer-requires : tie.Need-one-fewer-requires
-one-fewer-requires c κs = search needs
-
-enum-told-4 : tie.Need-enum-told-4
-enum-told-4 c = search needs
 
 returns : tie.Need-returns
 unfolding ringAfter
@@ -51,14 +25,14 @@ pub ring-after-spec : {M : Type 1} → statement M
 ring-after-spec =
     tie.close
     (tie.spec
-    enum-told
-    enum-told-2
-    place-after-requires
-    one-more-requires
-    enum-told-3
-    place-before-requires
-    one-fewer-requires
-    enum-told-4
+    (λ c. search needs)
+    (λ c. search needs)
+    (λ c κs. search needs)
+    (λ c κs. search needs)
+    (λ c. search needs)
+    (λ c κs. search needs)
+    (λ c κs. search needs)
+    (λ c. search needs)
     returns
     returns-2
     returns-3

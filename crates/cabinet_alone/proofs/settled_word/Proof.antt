@@ -1,10 +1,7 @@
 use Rattle.cabinet_alone.proofs.Settled.{settled-word}
 use Rattle.cabinet_alone.proofs.settled_word.Statement.{statement}
 use Rattle.cabinet_alone.proofs.settled_word.Tie as tie
-use Rattle.cabinet_alone.proofs.settled_word.Reads as reads
-use Rattle.cabinet_alone.proofs.settled_word.Lts as lts
 
--- src/lib.rt:20:1
 returns : tie.Need-returns
 returns c = settled-word
 

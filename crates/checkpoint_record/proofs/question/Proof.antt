@@ -5,15 +5,9 @@ use Rattle.model.specs.Questions.{firstNo, unless}
 use Rattle.checkpoint_record.proofs.question.Statement.{statement}
 use Rattle.checkpoint_record.proofs.question.Tie as tie
 
-sizes-in-range-requires : tie.Need-sizes-in-range-requires
-sizes-in-range-requires c κs = search needs
-
 returns : tie.Need-returns
 unfolding aboutCheckpoint firstNo unless
 returns c = simp (← c .before .sizes-in-range .ensures, not-true (c .before .sizes-in-range .result) (c .if1 .taken))
-
-is-controller-requires : tie.Need-is-controller-requires
-is-controller-requires c κs = search needs
 
 returns-2 : tie.Need-returns-2
 unfolding aboutCheckpoint firstNo unless
@@ -22,9 +16,6 @@ returns-2 c = simp (← c .before .before .before .sizes-in-range .ensures, not-
 returns-3 : tie.Need-returns-3
 unfolding aboutCheckpoint firstNo unless
 returns-3 c = simp (← c .before .before .before .before .before .sizes-in-range .ensures, not-false (c .before .before .before .before .before .sizes-in-range .result) (c .before .before .before .before .if1 .left), ← c .before .before .before .is-controller .ensures, not-false (c .before .before .before .is-controller .result) (c .before .before .if2 .left), lt-leb _ _ (c .if3 .taken))
-
-position-in-range-requires : tie.Need-position-in-range-requires
-position-in-range-requires c κs = search needs
 
 returns-4 : tie.Need-returns-4
 unfolding aboutCheckpoint firstNo unless
@@ -38,11 +29,11 @@ pub question-spec : {M : Type 1} → statement M
 question-spec =
     tie.close
     (tie.spec
-    sizes-in-range-requires
+    (λ c κs. search needs)
     returns
-    is-controller-requires
+    (λ c κs. search needs)
     returns-2
     returns-3
-    position-in-range-requires
+    (λ c κs. search needs)
     returns-4
     returns-5)

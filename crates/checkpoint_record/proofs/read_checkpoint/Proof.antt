@@ -10,9 +10,6 @@ use borrow.Author.Needs.{needs}
 use Rattle.checkpoint_record.proofs.read_checkpoint.Statement.{statement}
 use Rattle.checkpoint_record.proofs.read_checkpoint.Tie as tie
 
-frame-question-requires : tie.Need-frame-question-requires
-frame-question-requires c κs = search needs
-
 returns : tie.Need-returns
 returns c = frame-refused checkpoints _ tt refl 0x4C53 refl _ (c .before .frame-question .ensures) (c .if1 .taken)
 
@@ -21,9 +18,6 @@ shared-slice-read-is-outcome c =
     let s = c .before .before .before .before .args .s .now in
     let l : length s ≡ 14 = frame-length checkpoints s tt refl 0x4C53 refl _ (c .before .before .frame-question .ensures) (c .before .if1 .left) in
     omega arith
-
-is-outcome-requires : tie.Need-is-outcome-requires
-is-outcome-requires c κs = search needs
 
 returns-2 : tie.Need-returns-2
 returns-2 c =
@@ -34,9 +28,6 @@ checkpoint-in-requires : tie.Need-checkpoint-in-requires
 checkpoint-in-requires c κs =
     let framed = c .before .before .before in
     frame-length checkpoints (framed .before .before .before .args .s .now) tt refl 0x4C53 refl _ (framed .before .frame-question .ensures) (framed .if1 .left)
-
-question-requires : tie.Need-question-requires
-question-requires c κs = search needs
 
 returns-3 : tie.Need-returns-3
 returns-3 c =
@@ -56,12 +47,12 @@ pub read-checkpoint-spec : {M : Type 1} → statement M
 read-checkpoint-spec =
     tie.close
     (tie.spec
-    frame-question-requires
+    (λ c κs. search needs)
     returns
     shared-slice-read-is-outcome
-    is-outcome-requires
+    (λ c κs. search needs)
     returns-2
     checkpoint-in-requires
-    question-requires
+    (λ c κs. search needs)
     returns-3
     returns-4)

@@ -7,21 +7,6 @@ use borrow.Author.Needs.{needs}
 use Rattle.checkpoint_record.proofs.write_checkpoint.Statement.{statement}
 use Rattle.checkpoint_record.proofs.write_checkpoint.Tie as tie
 
-checkpoint-bytes-requires : tie.Need-checkpoint-bytes-requires
-checkpoint-bytes-requires c κs = search needs
-
-slice-aggregate-write-record : tie.Need-slice-aggregate-write-record
-slice-aggregate-write-record c = search needs
-
-question-requires : tie.Need-question-requires
-question-requires c κs = search needs
-
-write-record-requires : tie.Need-write-record-requires
-write-record-requires c κs = search needs
-
-same-length : tie.Need-same-length
-same-length c = search needs
-
 returns : tie.Need-returns
 returns c =
     let written = c .before .before in
@@ -33,9 +18,9 @@ pub write-checkpoint-spec : {M : Type 1} → statement M
 write-checkpoint-spec =
     tie.close
     (tie.spec
-    checkpoint-bytes-requires
-    slice-aggregate-write-record
-    question-requires
-    write-record-requires
-    same-length
+    (λ c κs. search needs)
+    (λ c. search needs)
+    (λ c κs. search needs)
+    (λ c κs. search needs)
+    (λ c. search needs)
     returns)

@@ -8,19 +8,10 @@ returns : tie.Need-returns
 unfolding willingnessIn
 returns c = simp (ne-eqb _ _ (c .if1 .taken))
 
-range-at-requires : tie.Need-range-at-requires
-range-at-requires c κs = search needs
-
-range-at-requires-2 : tie.Need-range-at-requires-2
-range-at-requires-2 c κs = search needs
-
-judge-requires : tie.Need-judge-requires
-judge-requires c κs = search needs
-
 returns-2 : tie.Need-returns-2
 unfolding willingnessIn
 returns-2 c = simp (eq-eqb _ _ (c .before .before .before .if1 .left), ← c .before .before .range-at .ensures, ← c .before .range-at2 .ensures, c .judge .ensures .1)
 
 pub answer-to-spec : {M : Type 1} → statement M
 answer-to-spec =
-    tie.close (tie.spec returns range-at-requires range-at-requires-2 judge-requires returns-2)
+    tie.close (tie.spec returns (λ c κs. search needs) (λ c κs. search needs) (λ c κs. search needs) returns-2)

@@ -6,25 +6,13 @@ use Rattle.line.specs.Turns.{callOf}
 use Rattle.line.proofs.call.Statement.{statement}
 use Rattle.line.proofs.call.Tie as tie
 
-unchanged-requires : tie.Need-unchanged-requires
-unchanged-requires c κs = search needs
-
 returns : tie.Need-returns
 unfolding callOf
 returns c = simp (lt-leb _ _ (c .before .if1 .taken), c .unchanged .ensures)
 
-unchanged-requires-2 : tie.Need-unchanged-requires-2
-unchanged-requires-2 c κs = search needs
-
 returns-2 : tie.Need-returns-2
 unfolding callOf
 returns-2 c = simp (le-leb _ _ (c .before .before .if1 .left), lt-leb _ _ (c .before .if2 .taken), c .unchanged2 .ensures)
-
-cast-at : tie.Need-cast-at
-cast-at c = search needs
-
-array-write-calling : tie.Need-array-write-calling
-array-write-calling c = search needs
 
 returns-3 : tie.Need-returns-3
 unfolding callOf put
@@ -34,10 +22,10 @@ pub call-spec : {M : Type 1} → statement M
 call-spec =
     tie.close
     (tie.spec
-    unchanged-requires
+    (λ c κs. search needs)
     returns
-    unchanged-requires-2
+    (λ c κs. search needs)
     returns-2
-    cast-at
-    array-write-calling
+    (λ c. search needs)
+    (λ c. search needs)
     returns-3)

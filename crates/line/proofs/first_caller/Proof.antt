@@ -16,20 +16,8 @@ abbrev μ-loop : tie.MeasureT-loop
 loop-holds : tie.Need-loop-holds Inv-loop μ-loop
 loop-holds c = refl
 
-is-calling-requires : tie.Need-is-calling-requires Inv-loop μ-loop
-is-calling-requires c κs = search needs
-
 returns : tie.Need-returns Inv-loop μ-loop
 returns c = let l = c .before .before .before in sym (walk-here _ _ _ (c .before .before .loop-test .taken) (sym (c .before .is-calling .ensures) ∙ c .if1 .taken)) ∙ l .loop .inv
-
-lock-after-requires : tie.Need-lock-after-requires Inv-loop μ-loop
-lock-after-requires c κs = search needs
-
-sub-left : tie.Need-sub-left Inv-loop μ-loop
-sub-left c = omega arith
-
-loop-less : tie.Need-loop-less Inv-loop μ-loop
-loop-less c = omega arith
 
 loop-again : tie.Need-loop-again Inv-loop μ-loop
 loop-again c =
@@ -47,10 +35,10 @@ first-caller-spec =
     Inv-loop
     μ-loop
     loop-holds
-    is-calling-requires
+    (λ c κs. search needs)
     returns
-    lock-after-requires
-    sub-left
-    loop-less
+    (λ c κs. search needs)
+    (λ c. omega arith)
+    (λ c. omega arith)
     loop-again
     returns-2)

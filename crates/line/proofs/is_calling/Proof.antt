@@ -15,15 +15,9 @@ returns-2 : tie.Need-returns-2
 unfolding calls
 returns-2 c = simp (le-leb _ _ (c .before .if1 .left), lt-leb _ _ (c .if2 .taken))
 
-cast-at : tie.Need-cast-at
-cast-at c = search needs
-
-array-read-result : tie.Need-array-read-result
-array-read-result c = search needs
-
 returns-3 : tie.Need-returns-3
 unfolding calls
 returns-3 c = simp (le-leb _ _ (c .before .before .if1 .left), le-leb _ _ (c .before .if2 .left), nth-at false (c .before .before .before .args .line .calling) _ (c .before .before .if1 .left))
 
 pub is-calling-spec : {M : Type 1} → statement M
-is-calling-spec = tie.close (tie.spec returns returns-2 cast-at array-read-result returns-3)
+is-calling-spec = tie.close (tie.spec returns returns-2 (λ c. search needs) (λ c. search needs) returns-3)

@@ -5,9 +5,6 @@ use Rattle.line.specs.Turns.{up}
 use Rattle.line.proofs.lock_after.Statement.{statement}
 use Rattle.line.proofs.lock_after.Tie as tie
 
-add-result : tie.Need-add-result
-add-result c = search needs
-
 returns : tie.Need-returns
 unfolding up
 returns c = simp (lt-ltb _ _ (c .if1 .taken))
@@ -17,4 +14,4 @@ unfolding up
 returns-2 c = simp (le-ltb _ _ (c .if1 .left))
 
 pub lock-after-spec : {M : Type 1} → statement M
-lock-after-spec = tie.close (tie.spec add-result returns returns-2)
+lock-after-spec = tie.close (tie.spec (λ c. search needs) returns returns-2)

@@ -8,21 +8,9 @@ use Rattle.line.proofs.Callers.{met-high}
 use Rattle.line.proofs.turn.Statement.{statement}
 use Rattle.line.proofs.turn.Tie as tie
 
-lock-after-requires : tie.Need-lock-after-requires
-lock-after-requires c κs = search needs
-
-first-caller-requires : tie.Need-first-caller-requires
-first-caller-requires c κs = search needs
-
-unchanged-requires : tie.Need-unchanged-requires
-unchanged-requires c κs = search needs
-
 returns : tie.Need-returns
 unfolding turnOf
 returns c = simp (← c .before .before .before .lock-after .ensures, ← c .before .before .first-caller .ensures, lt-ltb _ _ (c .before .if1 .taken), c .unchanged .ensures)
-
-cast-at : tie.Need-cast-at
-cast-at c = search needs
 
 array-write-calling : tie.Need-array-write-calling
 array-write-calling c = omega (arith, met-high (c .before .before .before .before .args .line) 8 (c .before .before .before .lock-after .result))
@@ -35,10 +23,10 @@ pub turn-spec : {M : Type 1} → statement M
 turn-spec =
     tie.close
     (tie.spec
-    lock-after-requires
-    first-caller-requires
-    unchanged-requires
+    (λ c κs. search needs)
+    (λ c κs. search needs)
+    (λ c κs. search needs)
     returns
-    cast-at
+    (λ c. search needs)
     array-write-calling
     returns-2)

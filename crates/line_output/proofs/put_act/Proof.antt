@@ -4,18 +4,6 @@ use borrow.Author.Needs.{needs}
 use Rattle.line_output.proofs.put_act.Statement.{statement}
 use Rattle.line_output.proofs.put_act.Tie as tie
 
-put-number-requires : tie.Need-put-number-requires
-put-number-requires c κs = search needs
-
-put-answer-requires : tie.Need-put-answer-requires
-put-answer-requires c κs = search needs
-
-put-byte-requires : tie.Need-put-byte-requires
-put-byte-requires c κs = search needs
-
-same-length : tie.Need-same-length
-same-length c = search needs
-
 returns : tie.Need-returns
 returns c =
     let third = c .before .before in
@@ -26,4 +14,4 @@ returns c =
 pub put-act-spec : {M : Type 1} → statement M
 put-act-spec =
     tie.close
-    (tie.spec put-number-requires put-answer-requires put-byte-requires same-length returns)
+    (tie.spec (λ c κs. search needs) (λ c κs. search needs) (λ c κs. search needs) (λ c. search needs) returns)

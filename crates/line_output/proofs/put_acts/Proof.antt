@@ -21,32 +21,8 @@ Inv-loop out₀ s line₀ next₀ i₀ out line next i = (i ≤ length s) × (li
 abbrev μ-loop : tie.MeasureT-loop
 μ-loop out₀ s line₀ next₀ i₀ out line next i = length s - i
 
-new-line-requires : tie.Need-new-line-requires Inv-loop μ-loop
-new-line-requires c κs = search needs
-
 loop-holds : tie.Need-loop-holds Inv-loop μ-loop
 loop-holds c = (omega arith, c .new-line .ensures ∙ none-yet, put-none _ 0 _ (omega arith) (omega arith))
-
-shared-slice-read-act-of : tie.Need-shared-slice-read-act-of Inv-loop μ-loop
-shared-slice-read-act-of c = search needs
-
-act-of-requires : tie.Need-act-of-requires Inv-loop μ-loop
-act-of-requires c κs = search needs
-
-perform-requires : tie.Need-perform-requires Inv-loop μ-loop
-perform-requires c κs = search needs
-
-cast-put-act : tie.Need-cast-put-act Inv-loop μ-loop
-cast-put-act c = search needs
-
-put-act-requires : tie.Need-put-act-requires Inv-loop μ-loop
-put-act-requires c κs = search needs
-
-add-i : tie.Need-add-i Inv-loop μ-loop
-add-i c = omega arith
-
-loop-less : tie.Need-loop-less Inv-loop μ-loop
-loop-less c = omega arith
 
 loop-again : tie.Need-loop-again Inv-loop μ-loop
 loop-again c =
@@ -75,15 +51,15 @@ put-acts-spec =
     (tie.spec
     Inv-loop
     μ-loop
-    new-line-requires
+    (λ c κs. search needs)
     loop-holds
-    shared-slice-read-act-of
-    act-of-requires
-    perform-requires
-    cast-put-act
-    put-act-requires
-    add-i
-    loop-less
+    (λ c. search needs)
+    (λ c κs. search needs)
+    (λ c κs. search needs)
+    (λ c. search needs)
+    (λ c κs. search needs)
+    (λ c. omega arith)
+    (λ c. omega arith)
     loop-again
     same-length
     returns)

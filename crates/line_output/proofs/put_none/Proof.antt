@@ -4,15 +4,6 @@ use borrow.Author.Needs.{needs}
 use Rattle.line_output.proofs.put_none.Statement.{statement}
 use Rattle.line_output.proofs.put_none.Tie as tie
 
-put-byte-requires : tie.Need-put-byte-requires
-put-byte-requires c κs = search needs
-
-put-byte-requires-2 : tie.Need-put-byte-requires-2
-put-byte-requires-2 c κs = search needs
-
-same-length : tie.Need-same-length
-same-length c = search needs
-
 returns : tie.Need-returns
 returns c =
     let second = c .before .before in
@@ -20,4 +11,4 @@ returns c =
     put-then (first .put-byte .ensures) (second .put-byte2 .ensures)
 
 pub put-none-spec : {M : Type 1} → statement M
-put-none-spec = tie.close (tie.spec put-byte-requires put-byte-requires-2 same-length returns)
+put-none-spec = tie.close (tie.spec (λ c κs. search needs) (λ c κs. search needs) (λ c. search needs) returns)

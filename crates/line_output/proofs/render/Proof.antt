@@ -5,30 +5,15 @@ use borrow.Author.Needs.{needs}
 use Rattle.line_output.proofs.render.Statement.{statement}
 use Rattle.line_output.proofs.render.Tie as tie
 
-write-refusal-requires : tie.Need-write-refusal-requires
-write-refusal-requires c κs = search needs
-
-same-length : tie.Need-same-length
-same-length c = search needs
-
 returns : tie.Need-returns
 returns c =
     let test = c .before .before .before .before in
     rendered _ _ (rw (many (test .before .before .before .args .s .now) (test .if1 .taken)) (c .before .before .write-refusal .ensures))
 
-measure-requires : tie.Need-measure-requires
-measure-requires c κs = search needs
-
 returns-2 : tie.Need-returns-2
 returns-2 c =
     let test = c .before .before in
     rendered _ _ (rw (few (test .before .before .before .args .s .now) (test .if1 .left)) (nothing-fitted _ _ (rw (← c .before .measure .ensures) (c .if2 .taken))))
-
-put-acts-requires : tie.Need-put-acts-requires
-put-acts-requires c κs = search needs
-
-same-length-2 : tie.Need-same-length-2
-same-length-2 c = search needs
 
 returns-3 : tie.Need-returns-3
 returns-3 c =
@@ -41,11 +26,11 @@ pub render-spec : {M : Type 1} → statement M
 render-spec =
     tie.close
     (tie.spec
-    write-refusal-requires
-    same-length
+    (λ c κs. search needs)
+    (λ c. search needs)
     returns
-    measure-requires
+    (λ c κs. search needs)
     returns-2
-    put-acts-requires
-    same-length-2
+    (λ c κs. search needs)
+    (λ c. search needs)
     returns-3)

@@ -9,21 +9,6 @@ use Rattle.schedule_reader.proofs.event_at.Tie as tie
 returns : tie.Need-returns
 returns c = sym (ap readEvent (no-piece _ _ (omega arith)) ∙ nothing-read)
 
-piece-end-requires : tie.Need-piece-end-requires
-piece-end-requires c κs = search needs
-
-sub-read-event : tie.Need-sub-read-event
-sub-read-event c = search needs
-
-part-read-event-start : tie.Need-part-read-event-start
-part-read-event-start c = search needs
-
-part-read-event-end : tie.Need-part-read-event-end
-part-read-event-end c = search needs
-
-read-event-requires : tie.Need-read-event-requires
-read-event-requires c κs = search needs
-
 returns-2 : tie.Need-returns-2
 returns-2 c = c .read-event .ensures ∙ ap readEvent (part-is-piece _ _ _ (c .before .before .piece-end .ensures .0))
 
@@ -32,9 +17,9 @@ event-at-spec =
     tie.close
     (tie.spec
     returns
-    piece-end-requires
-    sub-read-event
-    part-read-event-start
-    part-read-event-end
-    read-event-requires
+    (λ c κs. search needs)
+    (λ c. search needs)
+    (λ c. search needs)
+    (λ c. search needs)
+    (λ c κs. search needs)
     returns-2)

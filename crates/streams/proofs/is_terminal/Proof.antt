@@ -4,11 +4,8 @@ use borrow.Author.Needs.{needs}
 use Rattle.streams.proofs.is_terminal.Statement.{statement}
 use Rattle.streams.proofs.is_terminal.Tie as tie
 
-isatty-requires : tie.Need-isatty-requires
-isatty-requires c κs = search needs
-
 returns : tie.Need-returns
 returns c = either-way _
 
 pub is-terminal-spec : {M : Type 1} → statement M
-is-terminal-spec = tie.close (tie.spec isatty-requires returns)
+is-terminal-spec = tie.close (tie.spec (λ c κs. search needs) returns)

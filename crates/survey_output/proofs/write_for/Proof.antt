@@ -8,18 +8,6 @@ use borrow.Author.Needs.{needs}
 use Rattle.survey_output.proofs.write_for.Statement.{statement}
 use Rattle.survey_output.proofs.write_for.Tie as tie
 
-refusal-of-requires : tie.Need-refusal-of-requires
-refusal-of-requires c κs = search needs
-
-cast-write-refusal : tie.Need-cast-write-refusal
-cast-write-refusal c = search needs
-
-write-refusal-requires : tie.Need-write-refusal-requires
-write-refusal-requires c κs = search needs
-
-same-length : tie.Need-same-length
-same-length c = search needs
-
 returns : tie.Need-returns
 returns c =
     let test = c .before .before .before .before in
@@ -27,12 +15,6 @@ returns c =
 
 survey-of-requires : tie.Need-survey-of-requires
 survey-of-requires c κs = not-refused _ _ _ _ _ _ (c .before .refusal-of .ensures) (c .if1 .left)
-
-write-page-requires : tie.Need-write-page-requires
-write-page-requires c κs = search needs
-
-same-length-2 : tie.Need-same-length-2
-same-length-2 c = search needs
 
 returns-2 : tie.Need-returns-2
 returns-2 c =
@@ -47,12 +29,12 @@ pub write-for-spec : {M : Type 1} → statement M
 write-for-spec =
     tie.close
     (tie.spec
-    refusal-of-requires
-    cast-write-refusal
-    write-refusal-requires
-    same-length
+    (λ c κs. search needs)
+    (λ c. search needs)
+    (λ c κs. search needs)
+    (λ c. search needs)
     returns
     survey-of-requires
-    write-page-requires
-    same-length-2
+    (λ c κs. search needs)
+    (λ c. search needs)
     returns-2)

@@ -5,32 +5,22 @@ use borrow.Author.Needs.{needs}
 use Rattle.trace_text.proofs.put_event.Statement.{statement}
 use Rattle.trace_text.proofs.put_event.Tie as tie
 
-put-all-sent-requires : tie.Need-put-all-sent-requires
-put-all-sent-requires c κs = search needs
-
-put-ballots-requires : tie.Need-put-ballots-requires
-put-ballots-requires c κs = search needs
-
-put-words-requires : tie.Need-put-words-requires
-put-words-requires c κs = search needs
-
-put-given-requires : tie.Need-put-given-requires
-put-given-requires c κs = search needs
-
-same-length : tie.Need-same-length
-same-length c = search needs
-
 returns : tie.Need-returns
 unfolding told
-returns c = put-both _ _ (c .before .before .before .before .before .before .before .before .before .before .before .before .before .before .put-all-sent .ensures) (put-both _ _ (c .before .before .before .before .before .before .before .before .before .before .put-ballots .ensures) (put-both _ _ (c .before .before .before .before .before .before .put-words .ensures) (c .before .before .put-given .ensures)))
+returns c =
+    let at-put-given = c .before .before in
+    let at-put-words = at-put-given .before .before .before .before in
+    let at-put-ballots = at-put-words .before .before .before .before in
+    let at-put-all-sent = at-put-ballots .before .before .before .before in
+    put-both _ _ (at-put-all-sent .put-all-sent .ensures) (put-both _ _ (at-put-ballots .put-ballots .ensures) (put-both _ _ (at-put-words .put-words .ensures) (at-put-given .put-given .ensures)))
 
 pub put-event-spec : {M : Type 1} → statement M
 put-event-spec =
     tie.close
     (tie.spec
-    put-all-sent-requires
-    put-ballots-requires
-    put-words-requires
-    put-given-requires
-    same-length
+    (λ c κs. search needs)
+    (λ c κs. search needs)
+    (λ c κs. search needs)
+    (λ c κs. search needs)
+    (λ c. search needs)
     returns)

@@ -1,5 +1,5 @@
 -- `trace_text::put_given` meets its contract.
-use Rattle.text.specs.WritingLaws.{put-then, put-text, put-nothing, put-length}
+use Rattle.text.specs.WritingLaws.{put-text, put-nothing}
 use native.Mathlib.Omega.{arith}
 use mathlib.Core.List.{append-nil}
 use mathlib.Core.Path.{sym}
@@ -8,42 +8,6 @@ use Rattle.trace.specs.Shown.{given}
 use borrow.Author.Needs.{needs}
 use Rattle.trace_text.proofs.put_given.Statement.{statement}
 use Rattle.trace_text.proofs.put_given.Tie as tie
-
-enum-told : tie.Need-enum-told
-enum-told c = search needs
-
-enum-told-2 : tie.Need-enum-told-2
-enum-told-2 c = search needs
-
-enum-told-3 : tie.Need-enum-told-3
-enum-told-3 c = search needs
-
-enum-told-4 : tie.Need-enum-told-4
-enum-told-4 c = search needs
-
-enum-told-5 : tie.Need-enum-told-5
-enum-told-5 c = search needs
-
-enum-known-e : tie.Need-enum-known-e
-enum-known-e c = search needs
-
-slice-aggregate-put-told : tie.Need-slice-aggregate-put-told
-slice-aggregate-put-told c = search needs
-
-put-told-requires : tie.Need-put-told-requires
-put-told-requires c κs = search needs
-
-enum-told-6 : tie.Need-enum-told-6
-enum-told-6 c = search needs
-
-enum-told-7 : tie.Need-enum-told-7
-enum-told-7 c = search needs
-
-enum-told-8 : tie.Need-enum-told-8
-enum-told-8 c = search needs
-
-enum-told-9 : tie.Need-enum-told-9
-enum-told-9 c = search needs
 
 returns : tie.Need-returns
 unfolding given text
@@ -64,9 +28,6 @@ returns-4 c = rw (c .enum-told4 .given .1) (put-nothing _ _ (omega arith) (omega
 returns-5 : tie.Need-returns-5
 unfolding given text
 returns-5 c = rw (c .enum-told5 .given .1) (put-nothing _ _ (omega arith) (omega arith))
-
-same-length : tie.Need-same-length
-same-length c = search needs
 
 returns-6 : tie.Need-returns-6
 unfolding given text lineText
@@ -92,24 +53,24 @@ pub put-given-spec : {M : Type 1} → statement M
 put-given-spec =
     tie.close
     (tie.spec
-    enum-told
-    enum-told-2
-    enum-told-3
-    enum-told-4
-    enum-told-5
-    enum-known-e
-    slice-aggregate-put-told
-    put-told-requires
-    enum-told-6
-    enum-told-7
-    enum-told-8
-    enum-told-9
+    (λ c. search needs)
+    (λ c. search needs)
+    (λ c. search needs)
+    (λ c. search needs)
+    (λ c. search needs)
+    (λ c. search needs)
+    (λ c. search needs)
+    (λ c κs. search needs)
+    (λ c. search needs)
+    (λ c. search needs)
+    (λ c. search needs)
+    (λ c. search needs)
     returns
     returns-2
     returns-3
     returns-4
     returns-5
-    same-length
+    (λ c. search needs)
     returns-6
     returns-7
     returns-8

@@ -9,21 +9,9 @@ use borrow.Author.Needs.{needs}
 use Rattle.trace_text.proofs.put_shown.Statement.{statement}
 use Rattle.trace_text.proofs.put_shown.Tie as tie
 
-put-answered-requires : tie.Need-put-answered-requires
-put-answered-requires c κs = search needs
-
-same-length : tie.Need-same-length
-same-length c = search needs
-
 returns : tie.Need-returns
 unfolding shown text
 returns c = put-text (c .before .before .before .put-answered .ensures) (rw (ne-eqb _ 0 (c .if1 .taken)) (sym (append-nil _)))
-
-put-came-requires : tie.Need-put-came-requires
-put-came-requires c κs = search needs
-
-same-length-2 : tie.Need-same-length-2
-same-length-2 c = search needs
 
 returns-2 : tie.Need-returns-2
 unfolding shown text
@@ -32,4 +20,4 @@ returns-2 c = put-text (put-then (c .before .before .before .before .before .bef
 pub put-shown-spec : {M : Type 1} → statement M
 put-shown-spec =
     tie.close
-    (tie.spec put-answered-requires same-length returns put-came-requires same-length-2 returns-2)
+    (tie.spec (λ c κs. search needs) (λ c. search needs) returns (λ c κs. search needs) (λ c. search needs) returns-2)

@@ -14,12 +14,6 @@ loop-holds c = tt
 round-requires : tie.Need-round-requires Inv-loop μ-loop
 round-requires c κs = tt
 
-sub-rounds : tie.Need-sub-rounds Inv-loop μ-loop
-sub-rounds c = omega arith
-
-loop-less : tie.Need-loop-less Inv-loop μ-loop
-loop-less c = omega arith
-
 loop-again : tie.Need-loop-again Inv-loop μ-loop
 loop-again c = tt
 
@@ -37,8 +31,8 @@ main-spec =
     μ-loop
     loop-holds
     round-requires
-    sub-rounds
-    loop-less
+    (λ c. omega arith)
+    (λ c. omega arith)
     loop-again
     returns
     returns-2)

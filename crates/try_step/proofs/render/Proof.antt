@@ -17,62 +17,17 @@ Inv-loop s out answers₀ b₀ past₀ ring₀ k₀ answers b past ring k = (k �
 abbrev μ-loop : tie.MeasureT-loop
 μ-loop s out answers₀ b₀ past₀ ring₀ k₀ answers b past ring k = mostAnswers - k
 
-is-too-long-requires : tie.Need-is-too-long-requires Inv-loop μ-loop
-is-too-long-requires c κs = search needs
-
-write-too-long-requires : tie.Need-write-too-long-requires Inv-loop μ-loop
-write-too-long-requires c κs = search needs
-
-same-length : tie.Need-same-length Inv-loop μ-loop
-same-length c = search needs
-
 returns : tie.Need-returns Inv-loop μ-loop
 returns c = let w = rendered _ _ (c .before .before .write-too-long .ensures) in (w .2, w .3)
 
-new-bench-requires : tie.Need-new-bench-requires Inv-loop μ-loop
-new-bench-requires c κs = search needs
-
 loop-holds : tie.Need-loop-holds Inv-loop μ-loop
 loop-holds c = (omega arith, ltb-false longestSchedule _ (unfold isTooLong in (sym (c .before .before .is-too-long .ensures) ∙ c .before .if1 .left)), search needs, search needs, omega arith)
-
-mul-loop : tie.Need-mul-loop Inv-loop μ-loop
-mul-loop c = omega arith
-
-mul-past : tie.Need-mul-past Inv-loop μ-loop
-mul-past c = omega arith
-
-array-set-from-past : tie.Need-array-set-from-past Inv-loop μ-loop
-array-set-from-past c = omega arith
-
-place-before-requires : tie.Need-place-before-requires Inv-loop μ-loop
-place-before-requires c κs = search needs
 
 mul-newest : tie.Need-mul-newest Inv-loop μ-loop
 mul-newest c = omega (arith, c .place-before .ensures .1 (c .before .before .loop .inv .4))
 
 array-copy-out-newest : tie.Need-array-copy-out-newest Inv-loop μ-loop
 array-copy-out-newest c = omega (arith, c .place-before .ensures .1 (c .before .before .loop .inv .4))
-
-mul-record-at : tie.Need-mul-record-at Inv-loop μ-loop
-mul-record-at c = omega arith
-
-record-at-requires : tie.Need-record-at-requires Inv-loop μ-loop
-record-at-requires c κs = search needs
-
-played-requires : tie.Need-played-requires Inv-loop μ-loop
-played-requires c κs = search needs
-
-array-write-answers : tie.Need-array-write-answers Inv-loop μ-loop
-array-write-answers c = omega arith
-
-ring-after-requires : tie.Need-ring-after-requires Inv-loop μ-loop
-ring-after-requires c κs = search needs
-
-add-k : tie.Need-add-k Inv-loop μ-loop
-add-k c = omega arith
-
-loop-less : tie.Need-loop-less Inv-loop μ-loop
-loop-less c = omega arith
 
 loop-again : tie.Need-loop-again Inv-loop μ-loop
 loop-again c = (omega arith, search needs, search needs, search needs, c .ring-after .ensures .1 (c .before .before .before .before .before .before .before .before .loop .inv .4))
@@ -83,15 +38,6 @@ array-share-prefix-answers c = omega arith
 slice-aggregate-write-report : tie.Need-slice-aggregate-write-report Inv-loop μ-loop
 slice-aggregate-write-report c = sym (length-take-le _ _ (array-share-prefix-answers (c .before)))
 
-summary-of-requires : tie.Need-summary-of-requires Inv-loop μ-loop
-summary-of-requires c κs = search needs
-
-write-report-requires : tie.Need-write-report-requires Inv-loop μ-loop
-write-report-requires c κs = search needs
-
-same-length-2 : tie.Need-same-length-2 Inv-loop μ-loop
-same-length-2 c = search needs
-
 returns-2 : tie.Need-returns-2 Inv-loop μ-loop
 returns-2 c = let w = rendered _ _ (c .before .before .write-report .ensures) in (w .2, w .3)
 
@@ -101,29 +47,29 @@ render-spec =
     (tie.spec
     Inv-loop
     μ-loop
-    is-too-long-requires
-    write-too-long-requires
-    same-length
+    (λ c κs. search needs)
+    (λ c κs. search needs)
+    (λ c. search needs)
     returns
-    new-bench-requires
+    (λ c κs. search needs)
     loop-holds
-    mul-loop
-    mul-past
-    array-set-from-past
-    place-before-requires
+    (λ c. omega arith)
+    (λ c. omega arith)
+    (λ c. omega arith)
+    (λ c κs. search needs)
     mul-newest
     array-copy-out-newest
-    mul-record-at
-    record-at-requires
-    played-requires
-    array-write-answers
-    ring-after-requires
-    add-k
-    loop-less
+    (λ c. omega arith)
+    (λ c κs. search needs)
+    (λ c κs. search needs)
+    (λ c. omega arith)
+    (λ c κs. search needs)
+    (λ c. omega arith)
+    (λ c. omega arith)
     loop-again
     array-share-prefix-answers
     slice-aggregate-write-report
-    summary-of-requires
-    write-report-requires
-    same-length-2
+    (λ c κs. search needs)
+    (λ c κs. search needs)
+    (λ c. search needs)
     returns-2)

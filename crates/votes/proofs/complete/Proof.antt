@@ -4,12 +4,9 @@ use borrow.Author.Needs.{needs}
 use Rattle.votes.proofs.complete.Statement.{statement}
 use Rattle.votes.proofs.complete.Tie as tie
 
-full-to-requires : tie.Need-full-to-requires
-full-to-requires c κs = search needs
-
 returns : tie.Need-returns
 unfolding complete
 returns c = c .full-to .ensures
 
 pub complete-spec : {M : Type 1} → statement M
-complete-spec = tie.close (tie.spec full-to-requires returns)
+complete-spec = tie.close (tie.spec (λ c κs. search needs) returns)

@@ -5,9 +5,6 @@ use borrow.Author.Needs.{needs}
 use Rattle.votes.proofs.join.Statement.{statement}
 use Rattle.votes.proofs.join.Tie as tie
 
-contradicts-requires : tie.Need-contradicts-requires
-contradicts-requires c κs = search needs
-
 returns : tie.Need-returns
 unfolding join union
 returns c = simp (← c .before .contradicts .ensures, c .if1 .taken)
@@ -17,4 +14,4 @@ unfolding join union
 returns-2 c = simp (← c .before .before .before .before .before .contradicts .ensures, c .before .before .before .before .if1 .left)
 
 pub join-spec : {M : Type 1} → statement M
-join-spec = tie.close (tie.spec contradicts-requires returns returns-2)
+join-spec = tie.close (tie.spec (λ c κs. search needs) returns returns-2)

@@ -19,45 +19,12 @@ Inv-loop m from sets joined₀ end k₀ joined k = (k ≤ end) × (joinAll k fro
 abbrev μ-loop : tie.MeasureT-loop
 μ-loop m from sets joined₀ end k₀ joined k = end - k
 
-empty-set-requires : tie.Need-empty-set-requires Inv-loop μ-loop
-empty-set-requires c κs = search needs
-
-up-to-limit-requires : tie.Need-up-to-limit-requires Inv-loop μ-loop
-up-to-limit-requires c κs = search needs
-
 loop-holds : tie.Need-loop-holds Inv-loop μ-loop
 unfolding joinAll
 loop-holds c = (omega arith, ap Agreed (sym (c .before .empty-set .ensures)))
 
-cast-at : tie.Need-cast-at Inv-loop μ-loop
-cast-at c = search needs
-
-mul-s : tie.Need-mul-s Inv-loop μ-loop
-mul-s c = search needs
-
-array-copy-out-s : tie.Need-array-copy-out-s Inv-loop μ-loop
-array-copy-out-s c = omega arith
-
-add-k : tie.Need-add-k Inv-loop μ-loop
-add-k c = omega arith
-
-has-requires : tie.Need-has-requires Inv-loop μ-loop
-has-requires c κs = search needs
-
-loop-less : tie.Need-loop-less Inv-loop μ-loop
-loop-less c = omega arith
-
 loop-again : tie.Need-loop-again Inv-loop μ-loop
 loop-again c = (omega arith, skipped _ _ _ _ (sym (c .before .has .ensures) ∙ not-true _ (c .if1 .taken)) (c .before .before .before .before .loop .inv .1))
-
-join-requires : tie.Need-join-requires Inv-loop μ-loop
-join-requires c κs = search needs
-
-enum-known-next : tie.Need-enum-known-next Inv-loop μ-loop
-enum-known-next c = search needs
-
-enum-told : tie.Need-enum-told Inv-loop μ-loop
-enum-told c = search needs
 
 returns : tie.Need-returns Inv-loop μ-loop
 unfolding nth
@@ -66,9 +33,6 @@ returns c =
     let loop = c .before .before .before .before .before .before .before .loop in
     sym (contradicted-all (loop .k + 1) (start .m) limit (start .from) (start .t3) (search needs) (omega arith)
     (added _ _ _ _ _ (sym (c .before .before .before .before .has .ensures) ∙ not-false _ (c .before .before .before .if1 .left)) (loop .inv .1) (sym (c .enum-told .given .1) ∙ c .before .before .join .ensures)))
-
-loop-less-2 : tie.Need-loop-less-2 Inv-loop μ-loop
-loop-less-2 c = omega arith
 
 loop-again-2 : tie.Need-loop-again-2 Inv-loop μ-loop
 unfolding nth
@@ -91,20 +55,20 @@ join-all-spec =
     (tie.spec
     Inv-loop
     μ-loop
-    empty-set-requires
-    up-to-limit-requires
+    (λ c κs. search needs)
+    (λ c κs. search needs)
     loop-holds
-    cast-at
-    mul-s
-    array-copy-out-s
-    add-k
-    has-requires
-    loop-less
+    (λ c. search needs)
+    (λ c. search needs)
+    (λ c. omega arith)
+    (λ c. omega arith)
+    (λ c κs. search needs)
+    (λ c. omega arith)
     loop-again
-    join-requires
-    enum-known-next
-    enum-told
+    (λ c κs. search needs)
+    (λ c. search needs)
+    (λ c. search needs)
     returns
-    loop-less-2
+    (λ c. omega arith)
     loop-again-2
     returns-2)

@@ -4,9 +4,6 @@ use borrow.Author.Needs.{needs}
 use Rattle.votes.proofs.single.Statement.{statement}
 use Rattle.votes.proofs.single.Tie as tie
 
-insert-requires : tie.Need-insert-requires
-insert-requires c κs = search needs
-
 returns : tie.Need-returns
 unfolding single
 returns c = rw (c .before .insert .ensures, c .if1 .taken)
@@ -16,4 +13,4 @@ unfolding single
 returns-2 c = rw (c .before .insert .ensures, c .if1 .left)
 
 pub single-spec : {M : Type 1} → statement M
-single-spec = tie.close (tie.spec insert-requires returns returns-2)
+single-spec = tie.close (tie.spec (λ c κs. search needs) returns returns-2)

@@ -9,7 +9,6 @@ use borrow.Author.Needs.{needs}
 use Rattle.ground.specs.Tests.{or-no}
 use Rattle.ground.specs.Lists.{nth}
 use Rattle.ground.specs.Quantify.{anyTo, any-of}
-use Rattle.protocol.specs.declared.Acceptor.{Acceptor}
 use Rattle.protocol.specs.declared.BallotRow.{BallotRow}
 use Rattle.protocol.specs.Ballots.{ballotLimit, newRow, row, chosenIn, isChosen}
 use Rattle.ballot_rules.proofs.chosen.is_chosen.Statement.{statement}
@@ -29,15 +28,6 @@ loop-holds : tie.Need-loop-holds Inv-loop μ-loop
 unfolding anyTo
 loop-holds c = (omega arith, refl)
 
-mul-row : tie.Need-mul-row Inv-loop μ-loop
-mul-row c = search needs
-
-array-copy-out-row : tie.Need-array-copy-out-row Inv-loop μ-loop
-array-copy-out-row c = search needs
-
-chosen-in-requires : tie.Need-chosen-in-requires Inv-loop μ-loop
-chosen-in-requires c κs = search needs
-
 returns : tie.Need-returns Inv-loop μ-loop
 unfolding isChosen chosenIn row newRow nth
 returns c = λ acceptors.
@@ -45,12 +35,6 @@ returns c = λ acceptors.
     let start = c .before .before .before .before .before .before .args in
     let yes = sym (c .before .chosen-in .ensures) ∙ c .if1 .taken in
     sym (any-of ballotLimit (chosen (start .n) (start .t2) (start .to-move)) (suc (l .at)) (omega arith) (omega arith) yes)
-
-add-at : tie.Need-add-at Inv-loop μ-loop
-add-at c = search needs
-
-loop-less : tie.Need-loop-less Inv-loop μ-loop
-loop-less c = search needs
 
 loop-again : tie.Need-loop-again Inv-loop μ-loop
 unfolding anyTo chosenIn row newRow nth
@@ -73,11 +57,11 @@ is-chosen-spec =
     Inv-loop
     μ-loop
     loop-holds
-    mul-row
-    array-copy-out-row
-    chosen-in-requires
+    (λ c. search needs)
+    (λ c. search needs)
+    (λ c κs. search needs)
     returns
-    add-at
-    loop-less
+    (λ c. search needs)
+    (λ c. search needs)
     loop-again
     returns-2)

@@ -18,17 +18,8 @@ some : (n b k : ℕ) → k ≡ b - 1 → k % n + 1 ≡ owner n b
 unfolding owner
 some n b k e = add-one (k % n) ∙ ap (λ (x : ℕ). suc (x % n)) e
 
-lower-requires : tie.Need-lower-requires
-lower-requires c κs = search needs
-
-add-result : tie.Need-add-result
-add-result c = search needs
-
 returns : tie.Need-returns
 returns c = none _ _ _ (c .before .lower .ensures) (c .if1 .taken)
-
-rem-result : tie.Need-rem-result
-rem-result c = search needs
 
 add-result-2 : tie.Need-add-result-2
 add-result-2 c = let m = mod-lt (c .before .lower .result) (c .if1 .left) in omega arith
@@ -37,4 +28,4 @@ returns-2 : tie.Need-returns-2
 returns-2 c = some _ _ _ (c .before .lower .ensures)
 
 pub owner-spec : {M : Type 1} → statement M
-owner-spec = tie.close (tie.spec lower-requires add-result returns rem-result add-result-2 returns-2)
+owner-spec = tie.close (tie.spec (λ c κs. search needs) (λ c. search needs) returns (λ c. search needs) add-result-2 returns-2)

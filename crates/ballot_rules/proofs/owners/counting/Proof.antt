@@ -4,9 +4,6 @@ use borrow.Author.Needs.{needs}
 use Rattle.ballot_rules.proofs.owners.counting.Statement.{statement}
 use Rattle.ballot_rules.proofs.owners.counting.Tie as tie
 
-insert-requires : tie.Need-insert-requires
-insert-requires c κs = search needs
-
 returns : tie.Need-returns
 unfolding counting
 returns c = simp (← c .before .before .insert .ensures, lt-ltb _ _ (c .if1 .taken))
@@ -16,4 +13,4 @@ unfolding counting
 returns-2 c = simp (← c .before .before .insert .ensures, le-ltb _ _ (c .if1 .left))
 
 pub counting-spec : {M : Type 1} → statement M
-counting-spec = tie.close (tie.spec insert-requires returns returns-2)
+counting-spec = tie.close (tie.spec (λ c κs. search needs) returns returns-2)

@@ -3,12 +3,6 @@ use borrow.Author.Needs.{needs}
 use Rattle.ballot_rules.proofs.rows.is_owner_in.Statement.{statement}
 use Rattle.ballot_rules.proofs.rows.is_owner_in.Tie as tie
 
-owner-requires : tie.Need-owner-requires
-owner-requires c κs = search needs
-
-has-requires : tie.Need-has-requires
-has-requires c κs = search needs
-
 returns : tie.Need-returns
 returns c = simp (← c .before .before .owner .ensures, eq-eqb _ _ (c .before .if1 .taken), c .has .ensures)
 
@@ -16,4 +10,4 @@ returns-2 : tie.Need-returns-2
 returns-2 c = simp (← c .before .owner .ensures, ne-eqb _ _ (c .if1 .left))
 
 pub is-owner-in-spec : {M : Type 1} → statement M
-is-owner-in-spec = tie.close (tie.spec owner-requires has-requires returns returns-2)
+is-owner-in-spec = tie.close (tie.spec (λ c κs. search needs) (λ c κs. search needs) returns returns-2)

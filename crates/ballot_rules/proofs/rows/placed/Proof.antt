@@ -9,12 +9,6 @@ use borrow.Author.Needs.{needs}
 use Rattle.ballot_rules.proofs.rows.placed.Statement.{statement}
 use Rattle.ballot_rules.proofs.rows.placed.Tie as tie
 
-lower-requires : tie.Need-lower-requires
-lower-requires c κs = search needs
-
-cast-at : tie.Need-cast-at
-cast-at c = search needs
-
 returns : tie.Need-returns
 unfolding put
 returns c =
@@ -22,12 +16,9 @@ returns c =
     let held : length (start .lasts) ≡ limit = search needs in
     simp (set-out (start .lasts) (start .i - 1) (start .last) (omega arith))
 
-array-write-next : tie.Need-array-write-next
-array-write-next c = search needs
-
 returns-2 : tie.Need-returns-2
 unfolding put
 returns-2 c = simp (c .before .lower .ensures)
 
 pub placed-spec : {M : Type 1} → statement M
-placed-spec = tie.close (tie.spec lower-requires cast-at returns array-write-next returns-2)
+placed-spec = tie.close (tie.spec (λ c κs. search needs) (λ c. search needs) returns (λ c. search needs) returns-2)

@@ -11,21 +11,12 @@ use Rattle.bench_output.proofs.Texts.{all-run}
 use Rattle.bench_output.proofs.open_gates.bench_open_gates.Statement.{statement}
 use Rattle.bench_output.proofs.open_gates.bench_open_gates.Tie as tie
 
-is-too-long-requires : tie.Need-is-too-long-requires
-is-too-long-requires c κs = search needs
-
 returns : tie.Need-returns
 unfolding openGatesOf
 returns c =
     let s = c .before .before .before .args .s .now in
     let e : isTooLong (length s) ≡ true = sym (c .before .is-too-long .ensures) ∙ c .if1 .taken in
     sym (rw e)
-
-slice-aggregate-run : tie.Need-slice-aggregate-run
-slice-aggregate-run c = search needs
-
-run-requires : tie.Need-run-requires
-run-requires c κs = search needs
 
 returns-2 : tie.Need-returns-2
 unfolding openGatesOf
@@ -36,4 +27,4 @@ returns-2 c =
     ap (λ (r : RunResult). r .«open_gates») ran ∙ sym (rw e)
 
 pub bench-open-gates-spec : {M : Type 1} → statement M
-bench-open-gates-spec = tie.close (tie.spec is-too-long-requires returns slice-aggregate-run run-requires returns-2)
+bench-open-gates-spec = tie.close (tie.spec (λ c κs. search needs) returns (λ c. search needs) (λ c κs. search needs) returns-2)

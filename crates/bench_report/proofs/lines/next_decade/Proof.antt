@@ -4,20 +4,11 @@ use Rattle.bench_report.proofs.Counting.{next-tens, next-hundreds, next
 use Rattle.bench_report.proofs.lines.next_decade.Statement.{statement}
 use Rattle.bench_report.proofs.lines.next_decade.Tie as tie
 
-add-t3 : tie.Need-add-t3
-add-t3 c = search needs
-
 returns : tie.Need-returns
 returns c = λ i e. next-tens _ i e (c .before .if1 .taken)
 
-add-t7 : tie.Need-add-t7
-add-t7 c = search needs
-
 returns-2 : tie.Need-returns-2
 returns-2 c = λ i e. next-hundreds _ i e (c .before .before .before .if1 .left) (c .before .if2 .taken)
-
-add-t10 : tie.Need-add-t10
-add-t10 c = search needs
 
 returns-3 : tie.Need-returns-3
 returns-3 c = λ i e. next-thousands _ i e (c .before .before .before .before .before .if1 .left) (c .before .before .before .if2 .left) (c .before .if3 .taken)
@@ -26,4 +17,4 @@ returns-4 : tie.Need-returns-4
 returns-4 c = λ i e. next-none _ i e (c .before .before .before .before .if1 .left) (c .before .before .if2 .left) (c .if3 .left)
 
 pub next-decade-spec : {M : Type 1} → statement M
-next-decade-spec = tie.close (tie.spec add-t3 returns add-t7 returns-2 add-t10 returns-3 returns-4)
+next-decade-spec = tie.close (tie.spec (λ c. search needs) returns (λ c. search needs) returns-2 (λ c. search needs) returns-3 returns-4)

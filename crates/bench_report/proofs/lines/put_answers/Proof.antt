@@ -16,35 +16,11 @@ Inv-loop out₀ answers next₀ i₀ out next i = (i ≤ length answers) × Put 
 abbrev μ-loop : tie.MeasureT-loop
 μ-loop out₀ answers next₀ i₀ out next i = length answers - i
 
-mul-if1 : tie.Need-mul-if1 Inv-loop μ-loop
-mul-if1 c = search needs
-
-put-answers-in-requires : tie.Need-put-answers-in-requires Inv-loop μ-loop
-put-answers-in-requires c κs = search needs
-
-same-length : tie.Need-same-length Inv-loop μ-loop
-same-length c = search needs
-
 returns : tie.Need-returns Inv-loop μ-loop
 returns c = c .before .before .put-answers-in .ensures
 
 loop-holds : tie.Need-loop-holds Inv-loop μ-loop
 loop-holds c = (omega arith, put-none _ 0 _ (omega arith) (omega arith))
-
-cast-put-answer : tie.Need-cast-put-answer Inv-loop μ-loop
-cast-put-answer c = search needs
-
-shared-slice-read-put-answer : tie.Need-shared-slice-read-put-answer Inv-loop μ-loop
-shared-slice-read-put-answer c = search needs
-
-put-answer-requires : tie.Need-put-answer-requires Inv-loop μ-loop
-put-answer-requires c κs = search needs
-
-add-i : tie.Need-add-i Inv-loop μ-loop
-add-i c = omega arith
-
-loop-less : tie.Need-loop-less Inv-loop μ-loop
-loop-less c = omega arith
 
 loop-again : tie.Need-loop-again Inv-loop μ-loop
 loop-again c =
@@ -64,16 +40,16 @@ put-answers-spec =
     (tie.spec
     Inv-loop
     μ-loop
-    mul-if1
-    put-answers-in-requires
-    same-length
+    (λ c. search needs)
+    (λ c κs. search needs)
+    (λ c. search needs)
     returns
     loop-holds
-    cast-put-answer
-    shared-slice-read-put-answer
-    put-answer-requires
-    add-i
-    loop-less
+    (λ c. search needs)
+    (λ c. search needs)
+    (λ c κs. search needs)
+    (λ c. omega arith)
+    (λ c. omega arith)
     loop-again
     same-length-2
     returns-2)

@@ -24,24 +24,12 @@ abbrev μ-loop : tie.MeasureT-loop
 loop-holds : tie.Need-loop-holds Inv-loop μ-loop
 loop-holds c = (omega arith, put-lines _ (omega arith) (put-none _ 0 _ (omega arith) (omega arith)), refl)
 
-mul-loop : tie.Need-mul-loop Inv-loop μ-loop
-mul-loop c = omega arith
-
 put-decade-requires : tie.Need-put-decade-requires Inv-loop μ-loop
 put-decade-requires c κs =
     let l = c .before .before .loop in
     let r : l .next ≤ _ = reach _ _ _ (λ k. answer-length _ _) (l .inv .1) in
     let e = put-length (l .inv .1) in
     ((omega arith, omega arith), (omega arith, omega arith, l .inv .2))
-
-next-decade-requires : tie.Need-next-decade-requires Inv-loop μ-loop
-next-decade-requires c κs = search needs
-
-add-tens : tie.Need-add-tens Inv-loop μ-loop
-add-tens c = omega arith
-
-loop-less : tie.Need-loop-less Inv-loop μ-loop
-loop-less c = omega arith
 
 loop-again : tie.Need-loop-again Inv-loop μ-loop
 loop-again c =
@@ -64,11 +52,11 @@ put-answers-in-spec =
     Inv-loop
     μ-loop
     loop-holds
-    mul-loop
+    (λ c. omega arith)
     put-decade-requires
-    next-decade-requires
-    add-tens
-    loop-less
+    (λ c κs. search needs)
+    (λ c. omega arith)
+    (λ c. omega arith)
     loop-again
     same-length
     returns)

@@ -4,27 +4,6 @@ use Rattle.text.specs.WritingLaws.{put-then, put-length}
 use Rattle.bench_report.proofs.lines.put_controller.Statement.{statement}
 use Rattle.bench_report.proofs.lines.put_controller.Tie as tie
 
-put-byte-requires : tie.Need-put-byte-requires
-put-byte-requires c κs = search needs
-
-put-field-requires : tie.Need-put-field-requires
-put-field-requires c κs = search needs
-
-cast-put-field : tie.Need-cast-put-field
-cast-put-field c = search needs
-
-put-field-requires-2 : tie.Need-put-field-requires-2
-put-field-requires-2 c κs = search needs
-
-put-outcome-requires : tie.Need-put-outcome-requires
-put-outcome-requires c κs = search needs
-
-put-signed-field-requires : tie.Need-put-signed-field-requires
-put-signed-field-requires c κs = search needs
-
-put-byte-requires-2 : tie.Need-put-byte-requires-2
-put-byte-requires-2 c κs = search needs
-
 returns : tie.Need-returns
 returns c =
     let sixth = c .before .before in
@@ -43,12 +22,12 @@ pub put-controller-spec : {M : Type 1} → statement M
 put-controller-spec =
     tie.close
     (tie.spec
-    put-byte-requires
-    put-field-requires
-    cast-put-field
-    put-field-requires-2
-    put-outcome-requires
-    put-signed-field-requires
-    put-byte-requires-2
+    (λ c κs. search needs)
+    (λ c κs. search needs)
+    (λ c. search needs)
+    (λ c κs. search needs)
+    (λ c κs. search needs)
+    (λ c κs. search needs)
+    (λ c κs. search needs)
     same-length
     returns)

@@ -19,24 +19,6 @@ abbrev μ-loop : tie.MeasureT-loop
 loop-holds : tie.Need-loop-holds Inv-loop μ-loop
 loop-holds c = (omega arith, put-none _ _ _ (omega arith) (omega arith))
 
-row-at-requires : tie.Need-row-at-requires Inv-loop μ-loop
-row-at-requires c κs = search needs
-
-cast-put-controller : tie.Need-cast-put-controller Inv-loop μ-loop
-cast-put-controller c = search needs
-
-add-put-controller : tie.Need-add-put-controller Inv-loop μ-loop
-add-put-controller c = omega arith
-
-put-controller-requires : tie.Need-put-controller-requires Inv-loop μ-loop
-put-controller-requires c κs = search needs
-
-add-i : tie.Need-add-i Inv-loop μ-loop
-add-i c = omega arith
-
-loop-less : tie.Need-loop-less Inv-loop μ-loop
-loop-less c = omega arith
-
 loop-again : tie.Need-loop-again Inv-loop μ-loop
 loop-again c =
     let call = c .before .before in
@@ -60,12 +42,12 @@ put-controllers-spec =
     Inv-loop
     μ-loop
     loop-holds
-    row-at-requires
-    cast-put-controller
-    add-put-controller
-    put-controller-requires
-    add-i
-    loop-less
+    (λ c κs. search needs)
+    (λ c. search needs)
+    (λ c. omega arith)
+    (λ c κs. search needs)
+    (λ c. omega arith)
+    (λ c. omega arith)
     loop-again
     same-length
     returns)

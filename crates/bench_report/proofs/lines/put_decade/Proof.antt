@@ -17,9 +17,6 @@ Inv-loop out₀ at answers tens d size next₀ ones₀ out next ones = (ones ≤
 abbrev μ-loop : tie.MeasureT-loop
 μ-loop out₀ at answers tens d size next₀ ones₀ out next ones = size - ones
 
-decade-size-requires : tie.Need-decade-size-requires Inv-loop μ-loop
-decade-size-requires c κs = omega arith
-
 loop-holds : tie.Need-loop-holds Inv-loop μ-loop
 loop-holds c = (omega arith, put-none _ _ _ (omega arith) (omega arith))
 
@@ -30,15 +27,6 @@ put-index-requires c κs =
     let e = put-length (l .loop .inv .1) in
     (omega arith, omega arith, l .before .before .before .before .pre .1 .2, omega arith)
 
-mul-put-rest : tie.Need-mul-put-rest Inv-loop μ-loop
-mul-put-rest c = omega arith
-
-add-put-rest : tie.Need-add-put-rest Inv-loop μ-loop
-add-put-rest c = omega arith
-
-shared-slice-read-put-rest : tie.Need-shared-slice-read-put-rest Inv-loop μ-loop
-shared-slice-read-put-rest c = omega arith
-
 put-rest-requires : tie.Need-put-rest-requires Inv-loop μ-loop
 put-rest-requires c κs =
     let p = c .before .before .before .before .put-index .ensures in
@@ -47,9 +35,6 @@ put-rest-requires c κs =
     let e = put-length (l .inv .1) in
     let f = put-length (p .0) in
     omega (arith, p .1)
-
-add-ones : tie.Need-add-ones Inv-loop μ-loop
-add-ones c = omega arith
 
 loop-less : tie.Need-loop-less Inv-loop μ-loop
 loop-less c = add-one-dec _ _ (c .before .before .before .before .before .before .before .before .before .loop-test .taken)
@@ -73,14 +58,14 @@ put-decade-spec =
     (tie.spec
     Inv-loop
     μ-loop
-    decade-size-requires
+    (λ c κs. omega arith)
     loop-holds
     put-index-requires
-    mul-put-rest
-    add-put-rest
-    shared-slice-read-put-rest
+    (λ c. omega arith)
+    (λ c. omega arith)
+    (λ c. omega arith)
     put-rest-requires
-    add-ones
+    (λ c. omega arith)
     loop-less
     loop-again
     same-length

@@ -7,26 +7,8 @@ use Rattle.bench_report.proofs.Short.{one-digit, two-digits, three-digi
 use Rattle.bench_report.proofs.lines.put_index.Statement.{statement}
 use Rattle.bench_report.proofs.lines.put_index.Tie as tie
 
-cast-last : tie.Need-cast-last
-cast-last c = search needs
-
 add-last : tie.Need-add-last
 add-last c = let p = c .before .before .pre in omega (arith, of-ones _ _ (p .2))
-
-put-in-requires : tie.Need-put-in-requires
-put-in-requires c κs = search needs
-
-put-in-requires-2 : tie.Need-put-in-requires-2
-put-in-requires-2 c κs = search needs
-
-put-in-requires-3 : tie.Need-put-in-requires-3
-put-in-requires-3 c κs = search needs
-
-put-in-requires-4 : tie.Need-put-in-requires-4
-put-in-requires-4 c κs = search needs
-
-same-length : tie.Need-same-length
-same-length c = search needs
 
 returns : tie.Need-returns
 returns c =
@@ -41,18 +23,6 @@ returns c =
       omega (arith, first .put-in .ensures .1, second .put-in2 .ensures .1, third .put-in3 .ensures .1, fourth .put-in4 .ensures .1),
     )
 
-put-in-requires-5 : tie.Need-put-in-requires-5
-put-in-requires-5 c κs = search needs
-
-put-in-requires-6 : tie.Need-put-in-requires-6
-put-in-requires-6 c κs = search needs
-
-put-in-requires-7 : tie.Need-put-in-requires-7
-put-in-requires-7 c κs = search needs
-
-same-length-2 : tie.Need-same-length-2
-same-length-2 c = search needs
-
 returns-2 : tie.Need-returns-2
 returns-2 c =
     let third = c .before .before in
@@ -65,15 +35,6 @@ returns-2 c =
       omega (arith, first .put-in5 .ensures .1, second .put-in6 .ensures .1, third .put-in7 .ensures .1),
     )
 
-put-in-requires-8 : tie.Need-put-in-requires-8
-put-in-requires-8 c κs = search needs
-
-put-in-requires-9 : tie.Need-put-in-requires-9
-put-in-requires-9 c κs = search needs
-
-same-length-3 : tie.Need-same-length-3
-same-length-3 c = search needs
-
 returns-3 : tie.Need-returns-3
 returns-3 c =
     let second = c .before .before in
@@ -84,12 +45,6 @@ returns-3 c =
           (two-digits _ _ (p .3) _ (p .2) (test .if3 .taken) (test .before .if2 .left)),
       omega (arith, first .put-in8 .ensures .1, second .put-in9 .ensures .1),
     )
-
-put-in-requires-10 : tie.Need-put-in-requires-10
-put-in-requires-10 c κs = search needs
-
-same-length-4 : tie.Need-same-length-4
-same-length-4 c = search needs
 
 returns-4 : tie.Need-returns-4
 returns-4 c =
@@ -102,23 +57,23 @@ pub put-index-spec : {M : Type 1} → statement M
 put-index-spec =
     tie.close
     (tie.spec
-    cast-last
+    (λ c. search needs)
     add-last
-    put-in-requires
-    put-in-requires-2
-    put-in-requires-3
-    put-in-requires-4
-    same-length
+    (λ c κs. search needs)
+    (λ c κs. search needs)
+    (λ c κs. search needs)
+    (λ c κs. search needs)
+    (λ c. search needs)
     returns
-    put-in-requires-5
-    put-in-requires-6
-    put-in-requires-7
-    same-length-2
+    (λ c κs. search needs)
+    (λ c κs. search needs)
+    (λ c κs. search needs)
+    (λ c. search needs)
     returns-2
-    put-in-requires-8
-    put-in-requires-9
-    same-length-3
+    (λ c κs. search needs)
+    (λ c κs. search needs)
+    (λ c. search needs)
     returns-3
-    put-in-requires-10
-    same-length-4
+    (λ c κs. search needs)
+    (λ c. search needs)
     returns-4)

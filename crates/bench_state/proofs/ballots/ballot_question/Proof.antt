@@ -2,18 +2,6 @@ use borrow.Author.Needs.{needs}
 use Rattle.bench_state.proofs.ballots.ballot_question.Statement.{statement}
 use Rattle.bench_state.proofs.ballots.ballot_question.Tie as tie
 
-enum-known-e : tie.Need-enum-known-e
-enum-known-e c = search needs
-
-open-ballot-question-requires : tie.Need-open-ballot-question-requires
-open-ballot-question-requires c κs = search needs
-
-enum-known-e-2 : tie.Need-enum-known-e-2
-enum-known-e-2 c = search needs
-
-carry-question-requires : tie.Need-carry-question-requires
-carry-question-requires c κs = search needs
-
 returns : tie.Need-returns
 returns c = rw (c .before .before .e .given .1) (c .open-ballot-question .ensures)
 
@@ -24,9 +12,9 @@ pub ballot-question-spec : {M : Type 1} → statement M
 ballot-question-spec =
     tie.close
     (tie.spec
-    enum-known-e
-    open-ballot-question-requires
-    enum-known-e-2
-    carry-question-requires
+    (λ c. search needs)
+    (λ c κs. search needs)
+    (λ c. search needs)
+    (λ c κs. search needs)
     returns
     returns-2)

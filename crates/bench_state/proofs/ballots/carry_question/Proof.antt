@@ -1,3 +1,4 @@
+-- `bench_state::carry_question` meets its contract: at each return the questions before it are passed, and it is the first "no" (Answers).
 use borrow.Author.Tests.{not-true, not-false, lt-leb, le-leb}
 use Rattle.bench_state.proofs.Answers.{answers, past, here, none, said, denied}
 use native.Mathlib.Omega.{arith}
@@ -9,52 +10,57 @@ use Rattle.bench_state.proofs.ballots.carry_question.Tie as tie
 returns : tie.Need-returns
 returns c = λ word a. answers (here (not-true _ (c .if1 .taken)))
 
-different-controllers-requires : tie.Need-different-controllers-requires
-different-controllers-requires c κs = search needs
-
 returns-2 : tie.Need-returns-2
 returns-2 c = λ word a. answers (past (not-false _ (c .before .before .if1 .left)) (here (denied (c .before .different-controllers .ensures) (c .if2 .taken))))
 
 returns-3 : tie.Need-returns-3
 returns-3 c = λ word a. answers (past (not-false _ (c .before .before .before .before .if1 .left)) (past (said (c .before .before .before .different-controllers .ensures) (c .before .before .if2 .left)) (here (lt-leb _ _ (c .if3 .taken)))))
 
-is-running-requires : tie.Need-is-running-requires
-is-running-requires c κs = search needs
-
 returns-4 : tie.Need-returns-4
 returns-4 c = λ word a. answers (past (not-false _ (c .before .before .before .before .before .before .if1 .left)) (past (said (c .before .before .before .before .before .different-controllers .ensures) (c .before .before .before .before .if2 .left)) (past (le-leb _ _ (c .before .before .if3 .left)) (here (denied (c .before .is-running .ensures) (c .if4 .taken))))))
 
-is-ballot-requires : tie.Need-is-ballot-requires
-is-ballot-requires c κs = search needs
-
 returns-5 : tie.Need-returns-5
-returns-5 c = λ word a. answers (past (not-false _ (c .before .before .before .before .before .before .before .before .if1 .left)) (past (said (c .before .before .before .before .before .before .before .different-controllers .ensures) (c .before .before .before .before .before .before .if2 .left)) (past (le-leb _ _ (c .before .before .before .before .if3 .left)) (past (said (c .before .before .before .is-running .ensures) (c .before .before .if4 .left)) (here (denied (c .before .is-ballot .ensures) (c .if5 .taken)))))))
+returns-5 c =
+    let at-if4 = c .before .before in
+    let at-if3 = at-if4 .before .before in
+    let at-if2 = at-if3 .before .before in
+    let at-if1 = at-if2 .before .before in
+    λ word a. answers (past (not-false _ (at-if1 .if1 .left)) (past (said (at-if2 .before .different-controllers .ensures) (at-if2 .if2 .left)) (past (le-leb _ _ (at-if3 .if3 .left)) (past (said (at-if4 .before .is-running .ensures) (at-if4 .if4 .left)) (here (denied (c .before .is-ballot .ensures) (c .if5 .taken)))))))
 
 cast-was-sent : tie.Need-cast-was-sent
 cast-was-sent c = let k = in-row _ (said (c .before .is-ballot .ensures) (c .if5 .left)) in omega (arith, k .1)
 
-was-sent-requires : tie.Need-was-sent-requires
-was-sent-requires c κs = search needs
-
 returns-6 : tie.Need-returns-6
-returns-6 c = λ word a. answers (past (not-false _ (c .before .before .before .before .before .before .before .before .before .before .if1 .left)) (past (said (c .before .before .before .before .before .before .before .before .before .different-controllers .ensures) (c .before .before .before .before .before .before .before .before .if2 .left)) (past (le-leb _ _ (c .before .before .before .before .before .before .if3 .left)) (past (said (c .before .before .before .before .before .is-running .ensures) (c .before .before .before .before .if4 .left)) (past (said (c .before .before .before .is-ballot .ensures) (c .before .before .if5 .left)) (here (denied (c .before .was-sent .ensures) (c .if6 .taken))))))))
+returns-6 c =
+    let at-if5 = c .before .before in
+    let at-if4 = at-if5 .before .before in
+    let at-if3 = at-if4 .before .before in
+    let at-if2 = at-if3 .before .before in
+    let at-if1 = at-if2 .before .before in
+    λ word a. answers (past (not-false _ (at-if1 .if1 .left)) (past (said (at-if2 .before .different-controllers .ensures) (at-if2 .if2 .left)) (past (le-leb _ _ (at-if3 .if3 .left)) (past (said (at-if4 .before .is-running .ensures) (at-if4 .if4 .left)) (past (said (at-if5 .before .is-ballot .ensures) (at-if5 .if5 .left)) (here (denied (c .before .was-sent .ensures) (c .if6 .taken))))))))
 
 returns-7 : tie.Need-returns-7
-returns-7 c = λ word a. answers (past (not-false _ (c .before .before .before .before .before .before .before .before .before .before .if1 .left)) (past (said (c .before .before .before .before .before .before .before .before .before .different-controllers .ensures) (c .before .before .before .before .before .before .before .before .if2 .left)) (past (le-leb _ _ (c .before .before .before .before .before .before .if3 .left)) (past (said (c .before .before .before .before .before .is-running .ensures) (c .before .before .before .before .if4 .left)) (past (said (c .before .before .before .is-ballot .ensures) (c .before .before .if5 .left)) (past (said (c .before .was-sent .ensures) (c .if6 .left)) none))))))
+returns-7 c =
+    let at-if5 = c .before .before in
+    let at-if4 = at-if5 .before .before in
+    let at-if3 = at-if4 .before .before in
+    let at-if2 = at-if3 .before .before in
+    let at-if1 = at-if2 .before .before in
+    λ word a. answers (past (not-false _ (at-if1 .if1 .left)) (past (said (at-if2 .before .different-controllers .ensures) (at-if2 .if2 .left)) (past (le-leb _ _ (at-if3 .if3 .left)) (past (said (at-if4 .before .is-running .ensures) (at-if4 .if4 .left)) (past (said (at-if5 .before .is-ballot .ensures) (at-if5 .if5 .left)) (past (said (c .before .was-sent .ensures) (c .if6 .left)) none))))))
 
 pub carry-question-spec : {M : Type 1} → statement M
 carry-question-spec =
     tie.close
     (tie.spec
     returns
-    different-controllers-requires
+    (λ c κs. search needs)
     returns-2
     returns-3
-    is-running-requires
+    (λ c κs. search needs)
     returns-4
-    is-ballot-requires
+    (λ c κs. search needs)
     returns-5
     cast-was-sent
-    was-sent-requires
+    (λ c κs. search needs)
     returns-6
     returns-7)

@@ -7,17 +7,11 @@ use Rattle.bench_state.proofs.questions.present_question.Tie as tie
 returns : tie.Need-returns
 returns c = let same = answers (here (not-true _ (c .if1 .taken))) in (same, same)
 
-is-controller-requires : tie.Need-is-controller-requires
-is-controller-requires c κs = search needs
-
 returns-2 : tie.Need-returns-2
 returns-2 c = let same = answers (past (not-false _ (c .before .before .if1 .left)) (here (denied (c .before .is-controller .ensures) (c .if2 .taken)))) in (same, same)
 
 returns-3 : tie.Need-returns-3
 returns-3 c = let same = answers (past (not-false _ (c .before .before .before .before .if1 .left)) (past (said (c .before .before .before .is-controller .ensures) (c .before .before .if2 .left)) (here (lt-leb _ _ (c .if3 .taken))))) in (same, same)
-
-is-present-requires : tie.Need-is-present-requires
-is-present-requires c κs = search needs
 
 returns-4 : tie.Need-returns-4
 returns-4 c = let same = answers (past (not-false _ (c .before .before .before .before .before .before .if1 .left)) (past (said (c .before .before .before .before .before .is-controller .ensures) (c .before .before .before .before .if2 .left)) (past (le-leb _ _ (c .before .before .if3 .left)) (here (denied (c .before .is-present .ensures) (c .if4 .taken)))))) in (same, same)
@@ -30,9 +24,9 @@ present-question-spec =
     tie.close
     (tie.spec
     returns
-    is-controller-requires
+    (λ c κs. search needs)
     returns-2
     returns-3
-    is-present-requires
+    (λ c κs. search needs)
     returns-4
     returns-5)

@@ -3,9 +3,6 @@ use borrow.Author.Needs.{needs}
 use Rattle.bench_state.proofs.tests.awaits_timeout.Statement.{statement}
 use Rattle.bench_state.proofs.tests.awaits_timeout.Tie as tie
 
-phase-in-requires : tie.Need-phase-in-requires
-phase-in-requires c κs = search needs
-
 returns : tie.Need-returns
 returns c = simp (← c .before .phase-in .ensures, eq-eqb _ _ (c .if1 .taken))
 
@@ -13,4 +10,4 @@ returns-2 : tie.Need-returns-2
 returns-2 c = simp (← c .before .phase-in .ensures, ne-eqb _ _ (c .if1 .left))
 
 pub awaits-timeout-spec : {M : Type 1} → statement M
-awaits-timeout-spec = tie.close (tie.spec phase-in-requires returns returns-2)
+awaits-timeout-spec = tie.close (tie.spec (λ c κs. search needs) returns returns-2)

@@ -2,12 +2,6 @@ use borrow.Author.Needs.{needs}
 use Rattle.bench_state.proofs.tests.may_decide.Statement.{statement}
 use Rattle.bench_state.proofs.tests.may_decide.Tie as tie
 
-was-proposed-requires : tie.Need-was-proposed-requires
-was-proposed-requires c κs = search needs
-
-no-other-requires : tie.Need-no-other-requires
-no-other-requires c κs = search needs
-
 returns : tie.Need-returns
 returns c = simp (← c .before .before .was-proposed .ensures, c .before .if1 .taken, c .no-other .ensures)
 
@@ -15,4 +9,4 @@ returns-2 : tie.Need-returns-2
 returns-2 c = simp (← c .before .was-proposed .ensures, c .if1 .left)
 
 pub may-decide-spec : {M : Type 1} → statement M
-may-decide-spec = tie.close (tie.spec was-proposed-requires no-other-requires returns returns-2)
+may-decide-spec = tie.close (tie.spec (λ c κs. search needs) (λ c κs. search needs) returns returns-2)

@@ -10,27 +10,12 @@ use Rattle.bench_step.proofs.ballots.acceptor_at.Tie as tie
 all-acceptors : (s : tie.Start) → length (s .args .t1) ≡ limit
 all-acceptors s = search needs
 
-new-acceptor-requires : tie.Need-new-acceptor-requires
-new-acceptor-requires c κs = search needs
-
 returns : tie.Need-returns
 unfolding nth
 returns c = let z : c .before .before .args .i ≡ 0 = omega arith in c .new-acceptor .ensures ∙ sym (rw z)
 
-new-acceptor-requires-2 : tie.Need-new-acceptor-requires-2
-new-acceptor-requires-2 c κs = search needs
-
 returns-2 : tie.Need-returns-2
 returns-2 c = let l = all-acceptors (c .before .before .before) in c .new-acceptor2 .ensures ∙ sym (nth-past _ _ _ (omega (arith, l)))
-
-cast-at : tie.Need-cast-at
-cast-at c = search needs
-
-mul-result : tie.Need-mul-result
-mul-result c = search needs
-
-array-copy-out-result : tie.Need-array-copy-out-result
-array-copy-out-result c = search needs
 
 returns-3 : tie.Need-returns-3
 returns-3 c = sym (nth-at _ _ _ (omega arith))
@@ -39,11 +24,11 @@ pub acceptor-at-spec : {M : Type 1} → statement M
 acceptor-at-spec =
     tie.close
     (tie.spec
-    new-acceptor-requires
+    (λ c κs. search needs)
     returns
-    new-acceptor-requires-2
+    (λ c κs. search needs)
     returns-2
-    cast-at
-    mul-result
-    array-copy-out-result
+    (λ c. search needs)
+    (λ c. search needs)
+    (λ c. search needs)
     returns-3)

@@ -12,9 +12,12 @@ use Rattle.bench_step.proofs.ballots.ballot.Tie as tie
 asked : (c : tie.After-ballot-question) → let s = c .before .before .before .before .before .before .before .before .before .before .before in c .ballot-question .result ≡ number (reply (s .args .b) (OfBallots (s .args .e)))
 unfolding acceptor
 asked c =
-    let s = c .before .before .before .before .before .before .before .before .before .before .before in
-    rw (c .ballot-question .ensures, c .before .condition-of .ensures, c .before .before .row-at .ensures .0, c .before .before .before .acceptor-at .ensures, c .before .before .before .before .before .before .before .ballot-of .ensures, c .before .before .before .before .before .before .before .before .proposal-of .ensures, c .before .before .before .before .before .before .before .before .before .station-at .ensures .0, c .before .before .before .before .before .before .before .before .before .before .subject-of .ensures)
-    (asked-read (s .args .b) (s .args .e) (c .before .before .row-at .ensures .1))
+    let at-row-at = c .before .before in
+    let at-ballot-of = at-row-at .before .before .before .before .before in
+    let at-station-at = at-ballot-of .before .before in
+    let s = at-station-at .before .before in
+    rw (c .ballot-question .ensures, c .before .condition-of .ensures, at-row-at .row-at .ensures .0, at-row-at .before .acceptor-at .ensures, at-ballot-of .ballot-of .ensures, at-ballot-of .before .proposal-of .ensures, at-station-at .station-at .ensures .0, at-station-at .before .subject-of .ensures)
+    (asked-read (s .args .b) (s .args .e) (at-row-at .row-at .ensures .1))
 
 zero : (c : tie.After-ballot-question) → c .ballot-question .result ≡ 0 → let s = c .before .before .before .before .before .before .before .before .before .before .before in number (reply (s .args .b) (OfBallots (s .args .e))) ≡ 0
 zero c z = sym (asked c) ∙ z
@@ -23,65 +26,49 @@ found : (c : tie.After-answer-to) → let a = c .before .before in let s = a .be
 unfolding acceptor
 found c =
     let a = c .before .before in
-    rw (c .answer-to .ensures, a .before .before .row-at .ensures .0, a .before .before .before .acceptor-at .ensures, a .before .before .before .before .before .before .before .ballot-of .ensures, a .before .before .before .before .before .before .before .before .proposal-of .ensures, a .before .before .before .before .before .before .before .before .before .station-at .ensures .0, a .before .before .before .before .before .before .before .before .before .before .subject-of .ensures)
-
-subject-of-requires : tie.Need-subject-of-requires
-subject-of-requires c κs = search needs
-
-station-at-requires : tie.Need-station-at-requires
-station-at-requires c κs = search needs
-
-proposal-of-requires : tie.Need-proposal-of-requires
-proposal-of-requires c κs = search needs
-
-ballot-of-requires : tie.Need-ballot-of-requires
-ballot-of-requires c κs = search needs
-
-acceptor-at-requires : tie.Need-acceptor-at-requires
-acceptor-at-requires c κs = search needs
-
-row-at-requires : tie.Need-row-at-requires
-row-at-requires c κs = search needs
-
-condition-of-requires : tie.Need-condition-of-requires
-condition-of-requires c κs = search needs
-
-ballot-question-requires : tie.Need-ballot-question-requires
-ballot-question-requires c κs = search needs
+    let at-row-at = a .before .before in
+    let at-ballot-of = at-row-at .before .before .before .before .before in
+    let at-station-at = at-ballot-of .before .before in
+    rw (c .answer-to .ensures, at-row-at .row-at .ensures .0, at-row-at .before .acceptor-at .ensures, at-ballot-of .ballot-of .ensures, at-ballot-of .before .proposal-of .ensures, at-station-at .station-at .ensures .0, at-station-at .before .subject-of .ensures)
 
 returns : tie.Need-returns
 returns c = refuses _ _ _ (asked (c .before)) (c .if1 .taken)
 
-answer-to-requires : tie.Need-answer-to-requires
-answer-to-requires c κs = search needs
-
 answered-requires : tie.Need-answered-requires
 answered-requires c κs =
-    let a = c .before .before .before .before in
-    let s = a .before .before .before .before .before .before .before .before .before .before .before in
-    rw (a .before .before .before .before .before .before .before .ballot-of .ensures, a .before .before .before .before .before .before .before .before .before .before .subject-of .ensures) (placed (s .args .b) (s .args .e) (a .before .before .row-at .ensures .1) (zero a (c .before .before .before .if1 .left)))
+    let at-if1 = c .before .before .before in
+    let a = at-if1 .before in
+    let at-row-at = a .before .before in
+    let at-ballot-of = at-row-at .before .before .before .before .before in
+    let at-subject-of = at-ballot-of .before .before .before in
+    let s = at-subject-of .before in
+    rw (at-ballot-of .ballot-of .ensures, at-subject-of .subject-of .ensures) (placed (s .args .b) (s .args .e) (at-row-at .row-at .ensures .1) (zero a (at-if1 .if1 .left)))
 
 returns-2 : tie.Need-returns-2
 returns-2 c =
-    let a = c .before .before .before .before .before in
-    let s = a .before .before .before .before .before .before .before .before .before .before .before in
-    accepts _ _ _ (asked a) (c .before .before .before .before .if1 .left) _
-    (rw (c .answered .ensures, a .before .before .row-at .ensures .0, a .before .before .before .before .before .before .before .ballot-of .ensures, a .before .before .before .before .before .before .before .before .before .before .subject-of .ensures)
-    (put-answer (s .args .b) (s .args .e) (a .before .before .row-at .ensures .1) (zero a (c .before .before .before .before .if1 .left)) _ (found (c .before .before .before))))
+    let at-if1 = c .before .before .before .before in
+    let a = at-if1 .before in
+    let at-row-at = a .before .before in
+    let at-ballot-of = at-row-at .before .before .before .before .before in
+    let at-subject-of = at-ballot-of .before .before .before in
+    let s = at-subject-of .before in
+    accepts _ _ _ (asked a) (at-if1 .if1 .left) _
+    (rw (c .answered .ensures, at-row-at .row-at .ensures .0, at-ballot-of .ballot-of .ensures, at-subject-of .subject-of .ensures)
+    (put-answer (s .args .b) (s .args .e) (at-row-at .row-at .ensures .1) (zero a (at-if1 .if1 .left)) _ (found (c .before .before .before))))
 
 pub ballot-spec : {M : Type 1} → statement M
 ballot-spec =
     tie.close
     (tie.spec
-    subject-of-requires
-    station-at-requires
-    proposal-of-requires
-    ballot-of-requires
-    acceptor-at-requires
-    row-at-requires
-    condition-of-requires
-    ballot-question-requires
+    (λ c κs. search needs)
+    (λ c κs. search needs)
+    (λ c κs. search needs)
+    (λ c κs. search needs)
+    (λ c κs. search needs)
+    (λ c κs. search needs)
+    (λ c κs. search needs)
+    (λ c κs. search needs)
     returns
-    answer-to-requires
+    (λ c κs. search needs)
     answered-requires
     returns-2)

@@ -12,27 +12,12 @@ use Rattle.bench_step.proofs.ballots.row_at.Tie as tie
 all-rows : (s : tie.Start) → length (s .args .t1) ≡ ballotLimit
 all-rows s = search needs
 
-new-row-requires : tie.Need-new-row-requires
-new-row-requires c κs = search needs
-
 returns : tie.Need-returns
 unfolding nth
 returns c = let z : c .before .before .args .b ≡ 0 = omega arith in (c .new-row .ensures ∙ sym (rw z), all-rows (c .before .before))
 
-new-row-requires-2 : tie.Need-new-row-requires-2
-new-row-requires-2 c κs = search needs
-
 returns-2 : tie.Need-returns-2
 returns-2 c = let l = all-rows (c .before .before .before) in (c .new-row2 .ensures ∙ sym (nth-past _ _ _ (omega (arith, l))), l)
-
-cast-at : tie.Need-cast-at
-cast-at c = search needs
-
-mul-result : tie.Need-mul-result
-mul-result c = search needs
-
-array-copy-out-result : tie.Need-array-copy-out-result
-array-copy-out-result c = search needs
 
 returns-3 : tie.Need-returns-3
 unfolding newRow
@@ -44,11 +29,11 @@ pub row-at-spec : {M : Type 1} → statement M
 row-at-spec =
     tie.close
     (tie.spec
-    new-row-requires
+    (λ c κs. search needs)
     returns
-    new-row-requires-2
+    (λ c κs. search needs)
     returns-2
-    cast-at
-    mul-result
-    array-copy-out-result
+    (λ c. search needs)
+    (λ c. search needs)
+    (λ c. search needs)
     returns-3)

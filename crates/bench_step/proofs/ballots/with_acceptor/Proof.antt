@@ -11,25 +11,13 @@ use Rattle.bench_step.proofs.ballots.with_acceptor.Tie as tie
 all-acceptors : (s : tie.Start) → length (s .args .acceptors) ≡ limit
 all-acceptors s = search needs
 
-sub-at : tie.Need-sub-at
-sub-at c = search needs
-
-cast-at : tie.Need-cast-at
-cast-at c = search needs
-
 returns : tie.Need-returns
 unfolding put
 returns c = let l = all-acceptors (c .before) in sym (set-out _ _ _ (omega (arith, l, c .if1 .taken)))
-
-mul-next : tie.Need-mul-next
-mul-next c = search needs
-
-array-set-from-next : tie.Need-array-set-from-next
-array-set-from-next c = search needs
 
 returns-2 : tie.Need-returns-2
 unfolding put
 returns-2 c = refl
 
 pub with-acceptor-spec : {M : Type 1} → statement M
-with-acceptor-spec = tie.close (tie.spec sub-at cast-at returns mul-next array-set-from-next returns-2)
+with-acceptor-spec = tie.close (tie.spec (λ c. search needs) (λ c. search needs) returns (λ c. search needs) (λ c. search needs) returns-2)

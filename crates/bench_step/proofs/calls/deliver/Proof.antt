@@ -16,63 +16,46 @@ event s = Deliver (s .args .from) (s .args .to) (s .args .kind)
 
 asked : (c : tie.After-deliver-question) → let s = c .before .before .before .before .before .before .before .before .before in c .deliver-question .result ≡ number (firstNo (questionsOf (factsRead (s .args .b) (event s)) (event s)))
 unfolding answerTo
-asked c = rw (c .deliver-question .ensures, c .before .condition-of .ensures, c .before .before .is-contradicted .ensures, c .before .before .before .receive .ensures, c .before .before .before .before .message-to .ensures, c .before .before .before .before .before .identity .ensures, c .before .before .before .before .before .before .outgoing .ensures, c .before .before .before .before .before .before .before .station-at2 .ensures .0, c .before .before .before .before .before .before .before .before .station-at .ensures .0)
+asked c =
+    let at-is-contradicted = c .before .before in
+    let at-message-to = at-is-contradicted .before .before in
+    let at-outgoing = at-message-to .before .before in
+    let at-station-at = at-outgoing .before .before in
+    rw (c .deliver-question .ensures, c .before .condition-of .ensures, at-is-contradicted .is-contradicted .ensures, at-is-contradicted .before .receive .ensures, at-message-to .message-to .ensures, at-message-to .before .identity .ensures, at-outgoing .outgoing .ensures, at-outgoing .before .station-at2 .ensures .0, at-station-at .station-at .ensures .0)
 
 leaves : (c : tie.After-answering) → let s = c .before .before .before .before .before .before .before .before .before .before in c .answering .result ≡ effect (s .args .b .shared) (event s) (sentRead (s .args .b) (event s)) (stationRead (s .args .b) (s .args .to))
 unfolding effectOf answerTo
-leaves c = rw (c .answering .ensures, c .before .before .before .before .receive .ensures, c .before .before .before .before .before .message-to .ensures, c .before .before .before .before .before .before .identity .ensures, c .before .before .before .before .before .before .before .outgoing .ensures, c .before .before .before .before .before .before .before .before .station-at2 .ensures .0, c .before .before .before .before .before .before .before .before .before .station-at .ensures .0)
-
-station-at-requires : tie.Need-station-at-requires
-station-at-requires c κs = search needs
-
-station-at-requires-2 : tie.Need-station-at-requires-2
-station-at-requires-2 c κs = search needs
-
-outgoing-requires : tie.Need-outgoing-requires
-outgoing-requires c κs = search needs
-
-identity-requires : tie.Need-identity-requires
-identity-requires c κs = search needs
-
-message-to-requires : tie.Need-message-to-requires
-message-to-requires c κs = search needs
-
-receive-requires : tie.Need-receive-requires
-receive-requires c κs = search needs
-
-is-contradicted-requires : tie.Need-is-contradicted-requires
-is-contradicted-requires c κs = search needs
-
-condition-of-requires : tie.Need-condition-of-requires
-condition-of-requires c κs = search needs
-
-deliver-question-requires : tie.Need-deliver-question-requires
-deliver-question-requires c κs = search needs
-
-answering-requires : tie.Need-answering-requires
-answering-requires c κs = search needs
+leaves c =
+    let at-receive = c .before .before .before .before in
+    let at-identity = at-receive .before .before in
+    let at-station-at2 = at-identity .before .before in
+    rw (c .answering .ensures, at-receive .receive .ensures, at-receive .before .message-to .ensures, at-identity .identity .ensures, at-identity .before .outgoing .ensures, at-station-at2 .station-at2 .ensures .0, at-station-at2 .before .station-at .ensures .0)
 
 finish-requires : tie.Need-finish-requires
-finish-requires c κs = let s = c .before .before .before .before .before .before .before .before .before .before in one-first (s .args .b) (event s) (c .before .before .before .before .before .before .before .before .before .station-at .ensures .1) _ (asked (c .before)) refl
+finish-requires c κs =
+    let at-station-at = c .before .before .before .before .before .before .before .before .before in
+    let s = at-station-at .before in
+    one-first (s .args .b) (event s) (at-station-at .station-at .ensures .1) _ (asked (c .before)) refl
 
 returns : tie.Need-returns
 returns c =
-    let s = c .before .before .before .before .before .before .before .before .before .before .before in
-    c .finish .ensures ∙ one-finished (s .args .b) (event s) (c .before .before .before .before .before .before .before .before .before .before .station-at .ensures .1) _ (asked (c .before .before)) refl _ (λ y. leaves (c .before))
+    let at-station-at = c .before .before .before .before .before .before .before .before .before .before in
+    let s = at-station-at .before in
+    c .finish .ensures ∙ one-finished (s .args .b) (event s) (at-station-at .station-at .ensures .1) _ (asked (c .before .before)) refl _ (λ y. leaves (c .before))
 
 pub deliver-spec : {M : Type 1} → statement M
 deliver-spec =
     tie.close
     (tie.spec
-    station-at-requires
-    station-at-requires-2
-    outgoing-requires
-    identity-requires
-    message-to-requires
-    receive-requires
-    is-contradicted-requires
-    condition-of-requires
-    deliver-question-requires
-    answering-requires
+    (λ c κs. search needs)
+    (λ c κs. search needs)
+    (λ c κs. search needs)
+    (λ c κs. search needs)
+    (λ c κs. search needs)
+    (λ c κs. search needs)
+    (λ c κs. search needs)
+    (λ c κs. search needs)
+    (λ c κs. search needs)
+    (λ c κs. search needs)
     finish-requires
     returns)

@@ -21,41 +21,32 @@ event s = Decide (s .args .id) (s .args .to-move)
 
 asked : (c : tie.After-decide-question) → let s = c .before .before .before .before .before .before .before in c .decide-question .result ≡ number (firstNo (questionsOf (factsRead (s .args .b) (event s)) (event s)))
 asked c =
-    let s = c .before .before .before .before .before .before .before in
-    let may = c .before .before .may-give .ensures ∙ ap (λ (x : Bool). cond (s .args .b .shared .own) x (wasProposed (s .args .b .shared .consensus) (s .args .to-move) && noOther (s .args .b .shared .consensus .decision) (s .args .to-move))) (c .before .before .before .is-chosen .ensures (s .args .b .ballots .acceptors)) in
+    let at-may-give = c .before .before in
+    let at-station-at = at-may-give .before .before .before .before in
+    let s = at-station-at .before in
+    let may = at-may-give .may-give .ensures ∙ ap (λ (x : Bool). cond (s .args .b .shared .own) x (wasProposed (s .args .b .shared .consensus) (s .args .to-move) && noOther (s .args .b .shared .consensus .decision) (s .args .to-move))) (at-may-give .before .is-chosen .ensures (s .args .b .ballots .acceptors)) in
     c .decide-question .ensures (s .args .to-move)
     ∙ ap (λ (x : Bool). number (firstNo (questionsOf (decideFacts (s .args .b .shared) (c .before .condition-of .result) x) (event s)))) may
-    ∙ ap (λ (x : Condition). number (firstNo (questionsOf (decideFacts (s .args .b .shared) x (mayGive (s .args .b .shared) (s .args .b .ballots) (s .args .to-move))) (event s)))) (c .before .condition-of .ensures ∙ ap (λ (x : Station). x .controller .condition) (c .before .before .before .before .before .before .station-at .ensures .0))
+    ∙ ap (λ (x : Condition). number (firstNo (questionsOf (decideFacts (s .args .b .shared) x (mayGive (s .args .b .shared) (s .args .b .ballots) (s .args .to-move))) (event s)))) (c .before .condition-of .ensures ∙ ap (λ (x : Station). x .controller .condition) (at-station-at .station-at .ensures .0))
 
 leaves : (c : tie.After-decide-turn) → let s = c .before .before .before .before .before .before .before .before in AllYes (questionsOf (factsRead (s .args .b) (event s)) (event s))
     → c .decide-turn .result ≡ effect (s .args .b .shared) (event s) (sentRead (s .args .b) (event s)) (stationRead (s .args .b) (s .args .id))
-leaves c y = let s = c .before .before .before .before .before .before .before .before in rw (c .decide-turn .ensures, c .before .before .before .before .before .before .before .station-at .ensures .0) (turn-decides _ _ _ _ (mayGive (s .args .b .shared) (s .args .b .ballots)) _ y)
-
-station-at-requires : tie.Need-station-at-requires
-station-at-requires c κs = search needs
-
-is-chosen-requires : tie.Need-is-chosen-requires
-is-chosen-requires c κs = search needs
-
-may-give-requires : tie.Need-may-give-requires
-may-give-requires c κs = search needs
-
-condition-of-requires : tie.Need-condition-of-requires
-condition-of-requires c κs = search needs
-
-decide-question-requires : tie.Need-decide-question-requires
-decide-question-requires c κs = search needs
-
-decide-turn-requires : tie.Need-decide-turn-requires
-decide-turn-requires c κs = search needs
+leaves c y =
+    let at-station-at = c .before .before .before .before .before .before .before in
+    let s = at-station-at .before in
+    rw (c .decide-turn .ensures, at-station-at .station-at .ensures .0) (turn-decides _ _ _ _ (mayGive (s .args .b .shared) (s .args .b .ballots)) _ y)
 
 finish-requires : tie.Need-finish-requires
-finish-requires c κs = let s = c .before .before .before .before .before .before .before .before in one-first (s .args .b) (event s) (c .before .before .before .before .before .before .before .station-at .ensures .1) _ (asked (c .before)) refl
+finish-requires c κs =
+    let at-station-at = c .before .before .before .before .before .before .before in
+    let s = at-station-at .before in
+    one-first (s .args .b) (event s) (at-station-at .station-at .ensures .1) _ (asked (c .before)) refl
 
 returns : tie.Need-returns
 returns c =
-    let s = c .before .before .before .before .before .before .before .before .before in
-    c .finish .ensures ∙ one-finished (s .args .b) (event s) (c .before .before .before .before .before .before .before .before .station-at .ensures .1) _ (asked (c .before .before)) refl _ (leaves (c .before))
+    let at-station-at = c .before .before .before .before .before .before .before .before in
+    let s = at-station-at .before in
+    c .finish .ensures ∙ one-finished (s .args .b) (event s) (at-station-at .station-at .ensures .1) _ (asked (c .before .before)) refl _ (leaves (c .before))
 
 pub decide-spec : {M : Type 1} → statement M
-decide-spec = tie.close (tie.spec station-at-requires is-chosen-requires may-give-requires condition-of-requires decide-question-requires decide-turn-requires finish-requires returns)
+decide-spec = tie.close (tie.spec (λ c κs. search needs) (λ c κs. search needs) (λ c κs. search needs) (λ c κs. search needs) (λ c κs. search needs) (λ c κs. search needs) finish-requires returns)

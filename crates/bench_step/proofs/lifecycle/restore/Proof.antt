@@ -22,21 +22,6 @@ leaves : (c : tie.After-restore-turn) → let s = c .before .before .before .bef
     → c .restore-turn .result ≡ effect (s .args .b .shared) (event s) (sentRead (s .args .b) (event s)) (stationRead (s .args .b) (s .args .id))
 leaves c y = rw (c .restore-turn .ensures, c .before .before .before .before .station-at .ensures .0) (turn-restores _ _ _ _ y)
 
-station-at-requires : tie.Need-station-at-requires
-station-at-requires c κs = search needs
-
-condition-of-requires : tie.Need-condition-of-requires
-condition-of-requires c κs = search needs
-
-is-saved-requires : tie.Need-is-saved-requires
-is-saved-requires c κs = search needs
-
-restore-question-requires : tie.Need-restore-question-requires
-restore-question-requires c κs = search needs
-
-restore-turn-requires : tie.Need-restore-turn-requires
-restore-turn-requires c κs = search needs
-
 finish-requires : tie.Need-finish-requires
 finish-requires c κs = let s = c .before .before .before .before .before in one-first (s .args .b) (event s) (c .before .before .before .before .station-at .ensures .1) _ (asked (c .before)) refl
 
@@ -46,4 +31,4 @@ returns c =
     c .finish .ensures ∙ one-finished (s .args .b) (event s) (c .before .before .before .before .before .station-at .ensures .1) _ (asked (c .before .before)) refl _ (leaves (c .before))
 
 pub restore-spec : {M : Type 1} → statement M
-restore-spec = tie.close (tie.spec station-at-requires condition-of-requires is-saved-requires restore-question-requires restore-turn-requires finish-requires returns)
+restore-spec = tie.close (tie.spec (λ c κs. search needs) (λ c κs. search needs) (λ c κs. search needs) (λ c κs. search needs) (λ c κs. search needs) finish-requires returns)

@@ -21,18 +21,6 @@ leaves : (c : tie.After-save-turn) → let s = c .before .before .before .before
 unfolding effectOf
 leaves c = rw (c .save-turn .ensures, c .before .before .before .before .station-at .ensures .0)
 
-station-at-requires : tie.Need-station-at-requires
-station-at-requires c κs = search needs
-
-condition-of-requires : tie.Need-condition-of-requires
-condition-of-requires c κs = search needs
-
-present-question-requires : tie.Need-present-question-requires
-present-question-requires c κs = search needs
-
-save-turn-requires : tie.Need-save-turn-requires
-save-turn-requires c κs = search needs
-
 finish-requires : tie.Need-finish-requires
 finish-requires c κs = let s = c .before .before .before .before .before in one-first (s .args .b) (event s) (c .before .before .before .before .station-at .ensures .1) _ (asked (c .before .before)) refl
 
@@ -45,9 +33,9 @@ pub save-spec : {M : Type 1} → statement M
 save-spec =
     tie.close
     (tie.spec
-    station-at-requires
-    condition-of-requires
-    present-question-requires
-    save-turn-requires
+    (λ c κs. search needs)
+    (λ c κs. search needs)
+    (λ c κs. search needs)
+    (λ c κs. search needs)
     finish-requires
     returns)

@@ -22,18 +22,6 @@ leaves : (c : tie.After-stop-turn) → let s = c .before .before .before .before
     → c .stop-turn .result ≡ effect (s .args .b .shared) (event s) (sentRead (s .args .b) (event s)) (stationRead (s .args .b) (s .args .id))
 leaves c y = rw (c .stop-turn .ensures, c .before .before .before .station-at .ensures .0) (turn-stops _ _ _ _ y)
 
-station-at-requires : tie.Need-station-at-requires
-station-at-requires c κs = search needs
-
-condition-of-requires : tie.Need-condition-of-requires
-condition-of-requires c κs = search needs
-
-present-question-requires : tie.Need-present-question-requires
-present-question-requires c κs = search needs
-
-stop-turn-requires : tie.Need-stop-turn-requires
-stop-turn-requires c κs = search needs
-
 finish-requires : tie.Need-finish-requires
 finish-requires c κs = let s = c .before .before .before .before in one-first (s .args .b) (event s) (c .before .before .before .station-at .ensures .1) _ (asked (c .before)) refl
 
@@ -43,4 +31,4 @@ returns c =
     c .finish .ensures ∙ one-finished (s .args .b) (event s) (c .before .before .before .before .station-at .ensures .1) _ (asked (c .before .before)) refl _ (leaves (c .before))
 
 pub stop-spec : {M : Type 1} → statement M
-stop-spec = tie.close (tie.spec station-at-requires condition-of-requires present-question-requires stop-turn-requires finish-requires returns)
+stop-spec = tie.close (tie.spec (λ c κs. search needs) (λ c κs. search needs) (λ c κs. search needs) (λ c κs. search needs) finish-requires returns)

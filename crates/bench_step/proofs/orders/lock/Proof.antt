@@ -11,18 +11,12 @@ asked : (c : tie.After-lock-question) → c .lock-question .result ≡ number (r
 unfolding reply
 asked c = c .lock-question .ensures (c .before .args .own)
 
-lock-question-requires : tie.Need-lock-question-requires
-lock-question-requires c κs = search needs
-
 returns : tie.Need-returns
 returns c = refuses _ _ _ (asked (c .before)) (c .if1 .taken)
-
-bench-of-requires : tie.Need-bench-of-requires
-bench-of-requires c κs = search needs
 
 returns-2 : tie.Need-returns-2
 unfolding perform
 returns-2 c = accepts _ _ _ (asked (c .before .before)) (c .before .if1 .left) _ (c .bench-of .ensures)
 
 pub lock-spec : {M : Type 1} → statement M
-lock-spec = tie.close (tie.spec lock-question-requires returns bench-of-requires returns-2)
+lock-spec = tie.close (tie.spec (λ c κs. search needs) returns (λ c κs. search needs) returns-2)

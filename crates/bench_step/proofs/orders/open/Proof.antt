@@ -10,17 +10,8 @@ asked : (c : tie.After-order-question) → c .order-question .result ≡ number 
 unfolding reply
 asked c = rw (c .order-question .ensures, c .before .may-open .ensures)
 
-may-open-requires : tie.Need-may-open-requires
-may-open-requires c κs = search needs
-
-order-question-requires : tie.Need-order-question-requires
-order-question-requires c κs = search needs
-
 returns : tie.Need-returns
 returns c = refuses _ _ _ (asked (c .before)) (c .if1 .taken)
-
-opened-requires : tie.Need-opened-requires
-opened-requires c κs = search needs
 
 returns-2 : tie.Need-returns-2
 returns-2 c = accepts _ _ _ (asked (c .before .before)) (c .before .if1 .left) _ (c .opened .ensures)
@@ -28,4 +19,4 @@ returns-2 c = accepts _ _ _ (asked (c .before .before)) (c .before .if1 .left) _
 pub open-spec : {M : Type 1} → statement M
 open-spec =
     tie.close
-    (tie.spec may-open-requires order-question-requires returns opened-requires returns-2)
+    (tie.spec (λ c κs. search needs) (λ c κs. search needs) returns (λ c κs. search needs) returns-2)

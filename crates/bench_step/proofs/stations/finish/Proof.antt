@@ -19,20 +19,11 @@ returns c = rw (ne-eqb (c .before .args .answer) 0 (c .if1 .taken))
 sub-at : tie.Need-sub-at
 sub-at c = c .before .before .before .before .pre (c .before .before .before .if1 .left)
 
-cast-at : tie.Need-cast-at
-cast-at c = search needs
-
 returns-2 : tie.Need-returns-2
 unfolding put
 returns-2 c =
     let s = c .before .before .before .before .before in
     rw (c .before .before .before .before .if1 .left, set-out (s .args .b .stations) (s .args .id - 1) (s .args .t .station) (rw (all-stations s) (c .if2 .taken)))
-
-mul-stations : tie.Need-mul-stations
-mul-stations c = search needs
-
-array-set-from-stations : tie.Need-array-set-from-stations
-array-set-from-stations c = search needs
 
 returns-3 : tie.Need-returns-3
 unfolding put
@@ -41,4 +32,4 @@ returns-3 c = rw (c .before .before .before .before .before .if1 .left)
 pub finish-spec : {M : Type 1} → statement M
 finish-spec =
     tie.close
-    (tie.spec returns sub-at cast-at returns-2 mul-stations array-set-from-stations returns-3)
+    (tie.spec returns sub-at (λ c. search needs) returns-2 (λ c. search needs) (λ c. search needs) returns-3)

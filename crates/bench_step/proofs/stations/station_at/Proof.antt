@@ -1,3 +1,4 @@
+-- `station_at` meets its contract: controller 0 and those past the limit have a fresh station, any other its element. The array has as many as the limit.
 use Rattle.ground.specs.Limit.{limit}
 use mathlib.Core.List.{[]}
 use Rattle.protocol.specs.Benches.{freshStation, fresh, unsentAll}
@@ -13,29 +14,14 @@ use Rattle.bench_step.proofs.stations.station_at.Tie as tie
 all-stations : (s : tie.Start) → length (s .args .t1 .stations) ≡ limit
 all-stations s = simp length-map at (s .good .0 .1 .1 .1 .1 .0 .1 .0 .1)
 
-fresh-station-requires : tie.Need-fresh-station-requires
-fresh-station-requires c κs = search needs
-
 returns : tie.Need-returns
 unfolding nth
 returns c = let z : c .before .before .args .i ≡ 0 = omega arith in (c .fresh-station .ensures ∙ sym (rw z), all-stations (c .before .before))
-
-fresh-station-requires-2 : tie.Need-fresh-station-requires-2
-fresh-station-requires-2 c κs = search needs
 
 returns-2 : tie.Need-returns-2
 returns-2 c =
     let l = all-stations (c .before .before .before) in
     (c .fresh-station2 .ensures ∙ sym (nth-past _ _ _ (omega (arith, l))), l)
-
-cast-at : tie.Need-cast-at
-cast-at c = search needs
-
-mul-result : tie.Need-mul-result
-mul-result c = search needs
-
-element-copy-out-result : tie.Need-element-copy-out-result
-element-copy-out-result c = search needs
 
 returns-3 : tie.Need-returns-3
 unfolding freshStation fresh unsentAll
@@ -47,11 +33,11 @@ pub station-at-spec : {M : Type 1} → statement M
 station-at-spec =
     tie.close
     (tie.spec
-    fresh-station-requires
+    (λ c κs. search needs)
     returns
-    fresh-station-requires-2
+    (λ c κs. search needs)
     returns-2
-    cast-at
-    mul-result
-    element-copy-out-result
+    (λ c. search needs)
+    (λ c. search needs)
+    (λ c. search needs)
     returns-3)

@@ -4,9 +4,6 @@ use borrow.Author.Tests.{lt-ltb, le-ltb}
 use Rattle.bench_summary.proofs.sending.receivers_at.Statement.{statement}
 use Rattle.bench_summary.proofs.sending.receivers_at.Tie as tie
 
-receivers-requires : tie.Need-receivers-requires
-receivers-requires c κs = search needs
-
 returns : tie.Need-returns
 returns c = simp (lt-ltb _ _ (c .before .if1 .taken), c .receivers .ensures)
 
@@ -14,4 +11,4 @@ returns-2 : tie.Need-returns-2
 returns-2 c = simp (le-ltb _ _ (c .if1 .left))
 
 pub receivers-at-spec : {M : Type 1} → statement M
-receivers-at-spec = tie.close (tie.spec receivers-requires returns returns-2)
+receivers-at-spec = tie.close (tie.spec (λ c κs. search needs) returns returns-2)

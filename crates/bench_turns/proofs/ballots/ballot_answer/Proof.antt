@@ -1,29 +1,7 @@
 use Rattle.bench_turns.specs.BallotTurns.{ballotAnswer}
-use borrow.Author.Tests.{le-leb, lt-leb, lt-ltb, le-ltb, eq-eqb, ne-eqb}
 use borrow.Author.Needs.{needs}
 use Rattle.bench_turns.proofs.ballots.ballot_answer.Statement.{statement}
 use Rattle.bench_turns.proofs.ballots.ballot_answer.Tie as tie
-
-enum-known-e : tie.Need-enum-known-e
-enum-known-e c = search needs
-
-cast-open-ballot : tie.Need-cast-open-ballot
-cast-open-ballot c = search needs
-
-open-ballot-requires : tie.Need-open-ballot-requires
-open-ballot-requires c κs = search needs
-
-enum-known-e-2 : tie.Need-enum-known-e-2
-enum-known-e-2 c = search needs
-
-report-of-requires : tie.Need-report-of-requires
-report-of-requires c κs = search needs
-
-cast-carried : tie.Need-cast-carried
-cast-carried c = search needs
-
-carried-requires : tie.Need-carried-requires
-carried-requires c κs = search needs
 
 returns : tie.Need-returns
 unfolding ballotAnswer
@@ -37,12 +15,12 @@ pub ballot-answer-spec : {M : Type 1} → statement M
 ballot-answer-spec =
     tie.close
     (tie.spec
-    enum-known-e
-    cast-open-ballot
-    open-ballot-requires
-    enum-known-e-2
-    report-of-requires
-    cast-carried
-    carried-requires
+    (λ c. search needs)
+    (λ c. search needs)
+    (λ c κs. search needs)
+    (λ c. search needs)
+    (λ c κs. search needs)
+    (λ c. search needs)
+    (λ c κs. search needs)
     returns
     returns-2)

@@ -14,17 +14,11 @@ returns : tie.Need-returns
 unfolding nth
 returns c = let z : c .before .args .j ≡ 0 = omega arith in sym (rw z)
 
-cast-at : tie.Need-cast-at
-cast-at c = search needs
-
 returns-2 : tie.Need-returns-2
 returns-2 c = let l = all-lasts (c .before .before) in sym (nth-past _ _ _ (omega (arith, l)))
-
-array-read-result : tie.Need-array-read-result
-array-read-result c = search needs
 
 returns-3 : tie.Need-returns-3
 returns-3 c = sym (nth-at _ _ _ (omega arith))
 
 pub report-at-spec : {M : Type 1} → statement M
-report-at-spec = tie.close (tie.spec returns cast-at returns-2 array-read-result returns-3)
+report-at-spec = tie.close (tie.spec returns (λ c. search needs) returns-2 (λ c. search needs) returns-3)

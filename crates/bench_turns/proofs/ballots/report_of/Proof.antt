@@ -2,11 +2,8 @@ use borrow.Author.Needs.{needs}
 use Rattle.bench_turns.proofs.ballots.report_of.Statement.{statement}
 use Rattle.bench_turns.proofs.ballots.report_of.Tie as tie
 
-report-at-requires : tie.Need-report-at-requires
-report-at-requires c κs = search needs
-
 returns : tie.Need-returns
 returns c = c .report-at .ensures
 
 pub report-of-spec : {M : Type 1} → statement M
-report-of-spec = tie.close (tie.spec report-at-requires returns)
+report-of-spec = tie.close (tie.spec (λ c κs. search needs) returns)

@@ -1,4 +1,4 @@
-use borrow.Author.Tests.{le-leb, lt-leb, lt-ltb, le-ltb, eq-eqb, ne-eqb}
+use borrow.Author.Tests.{eq-eqb, ne-eqb}
 use Rattle.bench_turns.proofs.ballots.word_in.Statement.{statement}
 use Rattle.bench_turns.proofs.ballots.word_in.Tie as tie
 

@@ -2,10 +2,7 @@ use mathlib.Core.Path.{refl}
 use Rattle.cabinet_state.specs.Words.{headFrom}
 use Rattle.cabinet_state.proofs.writing.head_from.Statement.{statement}
 use Rattle.cabinet_state.proofs.writing.head_from.Tie as tie
-use Rattle.cabinet_state.proofs.writing.head_from.Reads as reads
-use Rattle.cabinet_state.proofs.writing.head_from.Lts as lts
 
--- src/writing.rt:34:1
 returns : tie.Need-returns
 unfolding headFrom
 returns c = refl

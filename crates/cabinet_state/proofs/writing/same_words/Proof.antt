@@ -1,6 +1,6 @@
 use Prim.Native.Nat.{ℕ, _≤_, _-_}
 use mathlib.Core.Bool.{true}
-use mathlib.Core.Path.{_≡_, refl, sym, ap, subst, _∙_}
+use mathlib.Core.Path.{_≡_, refl, sym, subst}
 use native.Mathlib.Omega.{arith}
 use lib.Dec.{eqb}
 use borrow.Author.Needs.{needs}
@@ -11,10 +11,6 @@ use Rattle.cabinet_state.specs.States.{sameWords}
 use Rattle.cabinet_state.specs.FillLaws.{all-next, not-all}
 use Rattle.cabinet_state.proofs.writing.same_words.Statement.{statement}
 use Rattle.cabinet_state.proofs.writing.same_words.Tie as tie
-use Rattle.cabinet_state.proofs.writing.same_words.Reads as reads
-use Rattle.cabinet_state.proofs.writing.same_words.Lts as lts
-use Rattle.cabinet_state.proofs.reading.word.Reads as word-reads
-use Rattle.cabinet_state.proofs.writing.with_check.Reads as with-check-reads
 
 abbrev Inv-loop : tie.InvT-loop
 Inv-loop check head ballots sets s k₀ k = (k ≤ stateWords) × (allBelow k (λ j. eqb (withCheck check (columnIn head ballots sets) j) (word s j)) ≡ true)
@@ -22,37 +18,17 @@ Inv-loop check head ballots sets s k₀ k = (k ≤ stateWords) × (allBelow k (�
 abbrev μ-loop : tie.MeasureT-loop
 μ-loop check head ballots sets s k₀ k = stateWords - k
 
--- src/writing.rt:138:5
 loop-holds : tie.Need-loop-holds Inv-loop μ-loop
 unfolding allBelow
 loop-holds c = (omega arith, refl)
 
--- src/writing.rt:139:12
-with-check-requires : tie.Need-with-check-requires Inv-loop μ-loop
-with-check-requires c κs = search needs
-
--- src/writing.rt:139:37
-word-requires : tie.Need-word-requires Inv-loop μ-loop
-word-requires c κs = search needs
-
--- src/writing.rt:140:13
 returns : tie.Need-returns Inv-loop μ-loop
 unfolding sameWords
 returns c = sym (not-all stateWords _ _ (c .before .before .before .loop-test .taken) (simp (← c .before .before .with-check .ensures, ← c .before .word .ensures, ne-eqb _ _ (c .if1 .taken))))
 
--- src/writing.rt:142:9
-add-k : tie.Need-add-k Inv-loop μ-loop
-add-k c = omega arith
-
--- src/writing.rt:138:5
-loop-less : tie.Need-loop-less Inv-loop μ-loop
-loop-less c = omega arith
-
--- src/writing.rt:138:5
 loop-again : tie.Need-loop-again Inv-loop μ-loop
 loop-again c = (omega arith, all-next _ _ (c .before .before .before .before .loop .inv .1) (simp (← c .before .before .with-check .ensures, ← c .before .word .ensures, eq-eqb _ _ (c .if1 .left))))
 
--- src/writing.rt:134:1
 returns-2 : tie.Need-returns-2 Inv-loop μ-loop
 unfolding sameWords
 returns-2 c =
@@ -67,10 +43,10 @@ same-words-spec =
     Inv-loop
     μ-loop
     loop-holds
-    with-check-requires
-    word-requires
+    (λ c κs. search needs)
+    (λ c κs. search needs)
     returns
-    add-k
-    loop-less
+    (λ c. omega arith)
+    (λ c. omega arith)
     loop-again
     returns-2)

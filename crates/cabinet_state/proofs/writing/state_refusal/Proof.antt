@@ -1,42 +1,26 @@
 use borrow.Author.Tests.{not-true, not-false}
 use Rattle.cabinet_state.specs.States.{stateRefusal}
-use borrow.Author.Tests.{le-leb, lt-leb, lt-ltb, le-ltb, eq-eqb, ne-eqb}
+use borrow.Author.Tests.{eq-eqb, ne-eqb}
 use borrow.Author.Needs.{needs}
 use Rattle.cabinet_state.proofs.writing.state_refusal.Statement.{statement}
 use Rattle.cabinet_state.proofs.writing.state_refusal.Tie as tie
-use Rattle.cabinet_state.proofs.writing.state_refusal.Reads as reads
-use Rattle.cabinet_state.proofs.writing.state_refusal.Lts as lts
-use Rattle.cabinet_state.proofs.reading.word.Reads as word-reads
-use Rattle.cabinet_state.proofs.writing.written_form.Reads as written-form-reads
 
--- src/writing.rt:161:9
 returns : tie.Need-returns
 unfolding stateRefusal
 returns c = simp (ne-eqb _ _ (c .if1 .taken))
 
--- src/writing.rt:163:8
-word-requires : tie.Need-word-requires
-word-requires c κs = search needs
-
--- src/writing.rt:164:9
 returns-2 : tie.Need-returns-2
 unfolding stateRefusal
 returns-2 c = simp (eq-eqb _ _ (c .before .before .if1 .left), ← c .before .word .ensures, ne-eqb _ _ (c .if2 .taken))
 
--- src/writing.rt:166:9
-written-form-requires : tie.Need-written-form-requires
-written-form-requires c κs = search needs
-
--- src/writing.rt:167:9
 returns-3 : tie.Need-returns-3
 unfolding stateRefusal
 returns-3 c = simp (eq-eqb _ _ (c .before .before .before .before .if1 .left), ← c .before .before .before .word .ensures, eq-eqb _ _ (c .before .before .if2 .left), ← c .before .written-form .ensures, not-true (c .before .written-form .result) (c .if3 .taken))
 
--- src/writing.rt:157:1
 returns-4 : tie.Need-returns-4
 unfolding stateRefusal
 returns-4 c = simp (eq-eqb _ _ (c .before .before .before .before .if1 .left), ← c .before .before .before .word .ensures, eq-eqb _ _ (c .before .before .if2 .left), ← c .before .written-form .ensures, not-false (c .before .written-form .result) (c .if3 .left))
 
 pub state-refusal-spec : {M : Type 1} → statement M
 state-refusal-spec =
-    tie.close (tie.spec returns word-requires returns-2 written-form-requires returns-3 returns-4)
+    tie.close (tie.spec returns (λ c κs. search needs) returns-2 (λ c κs. search needs) returns-3 returns-4)

@@ -3,38 +3,10 @@ use mathlib.Core.List.{List}
 use mathlib.Core.Path.{ap, _∙_}
 use Rattle.cabinet_state.specs.Tables.{tabulate}
 use Rattle.cabinet_state.specs.Words.{stateWords, checkPlace, checkTo, columnIn, withCheck, headOf, wordsOf}
-use borrow.Author.Tests.{le-leb, lt-leb, lt-ltb, le-ltb, eq-eqb, ne-eqb}
 use borrow.Author.Needs.{needs}
 use Rattle.cabinet_state.proofs.writing.write.Statement.{statement}
 use Rattle.cabinet_state.proofs.writing.write.Tie as tie
-use Rattle.cabinet_state.proofs.writing.write.Reads as reads
-use Rattle.cabinet_state.proofs.writing.write.Lts as lts
-use Rattle.cabinet_state.proofs.checks.check_of.Reads as check-of-reads
-use Rattle.cabinet_state.proofs.writing.ballots_of.Reads as ballots-of-reads
-use Rattle.cabinet_state.proofs.writing.fill.Reads as fill-reads
-use Rattle.cabinet_state.proofs.writing.head_of.Reads as head-of-reads
 
--- src/writing.rt:224:9
-head-of-requires : tie.Need-head-of-requires
-head-of-requires c κs = search needs
-
--- src/writing.rt:225:9
-ballots-of-requires : tie.Need-ballots-of-requires
-ballots-of-requires c κs = search needs
-
--- src/writing.rt:226:10
-check-of-requires : tie.Need-check-of-requires
-check-of-requires c κs = search needs
-
--- src/writing.rt:226:5
-fill-requires : tie.Need-fill-requires
-fill-requires c κs = search needs
-
--- src/writing.rt:218:1
-same-length : tie.Need-same-length
-same-length c = search needs
-
--- src/writing.rt:218:1
 returns : tie.Need-returns
 unfolding wordsOf
 returns c =
@@ -48,9 +20,9 @@ pub write-spec : {M : Type 1} → statement M
 write-spec =
     tie.close
     (tie.spec
-    head-of-requires
-    ballots-of-requires
-    check-of-requires
-    fill-requires
-    same-length
+    (λ c κs. search needs)
+    (λ c κs. search needs)
+    (λ c κs. search needs)
+    (λ c κs. search needs)
+    (λ c. search needs)
     returns)

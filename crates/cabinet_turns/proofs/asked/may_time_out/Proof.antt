@@ -1,14 +1,10 @@
-use borrow.Author.Tests.{not-true, not-false, le-leb, lt-leb, lt-ltb, le-ltb, eq-eqb, ne-eqb}
+use borrow.Author.Tests.{eq-eqb, ne-eqb}
 use Rattle.cabinet_turns.proofs.asked.may_time_out.Statement.{statement}
 use Rattle.cabinet_turns.proofs.asked.may_time_out.Tie as tie
-use Rattle.cabinet_turns.proofs.asked.may_time_out.Reads as reads
-use Rattle.cabinet_turns.proofs.asked.may_time_out.Lts as lts
 
--- src/asked.rt:95:9
 returns : tie.Need-returns
 returns c = simp (eq-eqb _ _ (c .if1 .taken))
 
--- src/asked.rt:91:1
 returns-2 : tie.Need-returns-2
 returns-2 c = simp (ne-eqb _ _ (c .if1 .left))
 

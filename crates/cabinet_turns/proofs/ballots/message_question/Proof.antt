@@ -8,24 +8,11 @@ use Rattle.cabinet_turns.specs.Ballots.{telegramAsked}
 use borrow.Author.Needs.{needs}
 use Rattle.cabinet_turns.proofs.ballots.message_question.Statement.{statement}
 use Rattle.cabinet_turns.proofs.ballots.message_question.Tie as tie
-use Rattle.cabinet_turns.proofs.ballots.message_question.Reads as reads
-use Rattle.cabinet_turns.proofs.ballots.message_question.Lts as lts
-use Rattle.cabinet_turns.proofs.ballots.contradiction.Reads as contradiction-reads
-use Rattle.controller.proofs.receive.Reads as receive-reads
 
--- src/ballots.rt:267:19
-receive-requires : tie.Need-receive-requires
-receive-requires c κs = search needs
-
--- src/ballots.rt:267:5
-contradiction-requires : tie.Need-contradiction-requires
-contradiction-requires c κs = search needs
-
--- src/ballots.rt:264:1
 returns : tie.Need-returns
 unfolding telegramAsked
 returns c =
     c .contradiction .ensures ∙ ap (λ (a : Answer). number (firstNo (ask 24 (not (isContradicted (a .reception))) ∷ []))) (c .before .receive .ensures)
 
 pub message-question-spec : {M : Type 1} → statement M
-message-question-spec = tie.close (tie.spec receive-requires contradiction-requires returns)
+message-question-spec = tie.close (tie.spec (λ c κs. search needs) (λ c κs. search needs) returns)

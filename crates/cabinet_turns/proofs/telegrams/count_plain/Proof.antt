@@ -3,56 +3,7 @@ use Rattle.cabinet_turns.proofs.Nth.{size-all}
 use borrow.Author.Needs.{needs}
 use Rattle.cabinet_turns.proofs.telegrams.count_plain.Statement.{statement}
 use Rattle.cabinet_turns.proofs.telegrams.count_plain.Tie as tie
-use Rattle.cabinet_turns.proofs.telegrams.count_plain.Reads as reads
-use Rattle.cabinet_turns.proofs.telegrams.count_plain.Lts as lts
-use Rattle.cabinet_state.proofs.wide.Reads as wide-reads
-use Rattle.ground.proofs.size.Reads as size-reads
 
--- src/telegrams.rt:60:10
-size-requires : tie.Need-size-requires
-size-requires c κs = search needs
-
--- src/telegrams.rt:60:5
-wide-requires : tie.Need-wide-requires
-wide-requires c κs = search needs
-
--- src/telegrams.rt:61:16
-size-requires-2 : tie.Need-size-requires-2
-size-requires-2 c κs = search needs
-
--- src/telegrams.rt:61:11
-wide-requires-2 : tie.Need-wide-requires-2
-wide-requires-2 c κs = search needs
-
--- src/telegrams.rt:60:5
-add-result : tie.Need-add-result
-add-result c = search needs
-
--- src/telegrams.rt:62:16
-size-requires-3 : tie.Need-size-requires-3
-size-requires-3 c κs = search needs
-
--- src/telegrams.rt:62:11
-wide-requires-3 : tie.Need-wide-requires-3
-wide-requires-3 c κs = search needs
-
--- src/telegrams.rt:60:5
-add-result-2 : tie.Need-add-result-2
-add-result-2 c = search needs
-
--- src/telegrams.rt:63:16
-size-requires-4 : tie.Need-size-requires-4
-size-requires-4 c κs = search needs
-
--- src/telegrams.rt:63:11
-wide-requires-4 : tie.Need-wide-requires-4
-wide-requires-4 c κs = search needs
-
--- src/telegrams.rt:60:5
-add-result-3 : tie.Need-add-result-3
-add-result-3 c = search needs
-
--- src/telegrams.rt:57:1
 returns : tie.Need-returns
 returns c =
     let x = c .before .before .before .before .before .before .before .before .args in
@@ -67,15 +18,15 @@ pub count-plain-spec : {M : Type 1} → statement M
 count-plain-spec =
     tie.close
     (tie.spec
-    size-requires
-    wide-requires
-    size-requires-2
-    wide-requires-2
-    add-result
-    size-requires-3
-    wide-requires-3
-    add-result-2
-    size-requires-4
-    wide-requires-4
-    add-result-3
+    (λ c κs. search needs)
+    (λ c κs. search needs)
+    (λ c κs. search needs)
+    (λ c κs. search needs)
+    (λ c. search needs)
+    (λ c κs. search needs)
+    (λ c κs. search needs)
+    (λ c. search needs)
+    (λ c κs. search needs)
+    (λ c κs. search needs)
+    (λ c. search needs)
     returns)

@@ -9,38 +9,7 @@ use Rattle.cabinet_turns.specs.Telegrams.{plainTelegram, ballotTelegram,
 use borrow.Author.Needs.{needs}
 use Rattle.cabinet_turns.proofs.telegrams.nth_telegram.Statement.{statement}
 use Rattle.cabinet_turns.proofs.telegrams.nth_telegram.Tie as tie
-use Rattle.cabinet_turns.proofs.telegrams.nth_telegram.Reads as reads
-use Rattle.cabinet_turns.proofs.telegrams.nth_telegram.Lts as lts
-use Rattle.cabinet_turns.proofs.telegrams.ballot_telegram.Reads as ballot-telegram-reads
-use Rattle.cabinet_turns.proofs.telegrams.count_plain.Reads as count-plain-reads
-use Rattle.cabinet_turns.proofs.telegrams.nth_of_ballots.Reads as nth-of-ballots-reads
-use Rattle.cabinet_turns.proofs.telegrams.plain_telegram.Reads as plain-telegram-reads
-use Rattle.cabinet_turns.proofs.telegrams.sends_of.Reads as sends-of-reads
-use Rattle.cabinet_state.proofs.wide.Reads as wide-reads
-use Rattle.controller.proofs.nth_message.Reads as nth-message-reads
-use Rattle.records.proofs.low_byte.Reads as low-byte-reads
 
--- src/telegrams.rt:212:9
-count-plain-requires : tie.Need-count-plain-requires
-count-plain-requires c κs = search needs
-
--- src/telegrams.rt:213:9
-wide-requires : tie.Need-wide-requires
-wide-requires c κs = search needs
-
--- src/telegrams.rt:215:49
-sends-of-requires : tie.Need-sends-of-requires
-sends-of-requires c κs = search needs
-
--- src/telegrams.rt:215:31
-nth-message-requires : tie.Need-nth-message-requires
-nth-message-requires c κs = search needs
-
--- src/telegrams.rt:215:9
-plain-telegram-requires : tie.Need-plain-telegram-requires
-plain-telegram-requires c κs = search needs
-
--- src/telegrams.rt:215:9
 returns : tie.Need-returns
 unfolding telegramsSent
 returns c =
@@ -51,19 +20,6 @@ returns c =
     ∙ ap plainTelegram (c .before .nth-message .ensures .answer ∙ ap (λ (z : Sends). nthOf (messagesOf (x .s .me) z) (x .k)) (c .before .before .sends-of .ensures))
     ∙ plain-here (messagesOf (x .s .me) (sendsOf (x .s .sent))) (map OfBallot (ballotsSent (x .s .me) (x .s .ballots))) (x .k) _ (c .before .before .before .before .before .count-plain .ensures) (omega (arith, w, t))
 
--- src/telegrams.rt:217:53
-low-byte-requires : tie.Need-low-byte-requires
-low-byte-requires c κs = search needs
-
--- src/telegrams.rt:217:21
-nth-of-ballots-requires : tie.Need-nth-of-ballots-requires
-nth-of-ballots-requires c κs = search needs
-
--- src/telegrams.rt:217:5
-ballot-telegram-requires : tie.Need-ballot-telegram-requires
-ballot-telegram-requires c κs = search needs
-
--- src/telegrams.rt:209:1
 returns-2 : tie.Need-returns-2
 unfolding telegramsSent
 returns-2 c =
@@ -81,13 +37,13 @@ pub nth-telegram-spec : {M : Type 1} → statement M
 nth-telegram-spec =
     tie.close
     (tie.spec
-    count-plain-requires
-    wide-requires
-    sends-of-requires
-    nth-message-requires
-    plain-telegram-requires
+    (λ c κs. search needs)
+    (λ c κs. search needs)
+    (λ c κs. search needs)
+    (λ c κs. search needs)
+    (λ c κs. search needs)
     returns
-    low-byte-requires
-    nth-of-ballots-requires
-    ballot-telegram-requires
+    (λ c κs. search needs)
+    (λ c κs. search needs)
+    (λ c κs. search needs)
     returns-2)

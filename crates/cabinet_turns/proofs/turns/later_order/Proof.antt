@@ -1,16 +1,12 @@
 use Rattle.cabinet_turns.specs.Turns.{laterOrder}
-use borrow.Author.Tests.{not-true, not-false, le-leb, lt-leb, lt-ltb, le-ltb, eq-eqb, ne-eqb}
+use borrow.Author.Tests.{le-leb, lt-leb}
 use Rattle.cabinet_turns.proofs.turns.later_order.Statement.{statement}
 use Rattle.cabinet_turns.proofs.turns.later_order.Tie as tie
-use Rattle.cabinet_turns.proofs.turns.later_order.Reads as reads
-use Rattle.cabinet_turns.proofs.turns.later_order.Lts as lts
 
--- src/turns.rt:162:9
 returns : tie.Need-returns
 unfolding laterOrder
 returns c = simp (le-leb _ _ (c .if1 .taken))
 
--- src/turns.rt:158:1
 returns-2 : tie.Need-returns-2
 unfolding laterOrder
 returns-2 c = simp (lt-leb _ _ (c .if1 .left))

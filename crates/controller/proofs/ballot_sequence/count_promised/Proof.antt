@@ -6,12 +6,6 @@ use borrow.Author.Needs.{needs}
 use Rattle.controller.proofs.ballot_sequence.count_promised.Statement.{statement}
 use Rattle.controller.proofs.ballot_sequence.count_promised.Tie as tie
 
-owner-requires : tie.Need-owner-requires
-owner-requires c κs = search needs
-
-count-others-requires : tie.Need-count-others-requires
-count-others-requires c κs = search needs
-
 returns : tie.Need-returns
 unfolding promised promiseSent ballotToOthers
 returns c = simp (c .before .before .before .before .if1 .taken, ← c .before .before .before .owner .ensures, eq-eqb _ _ (c .before .if2 .taken), length-map, c .count-others .ensures)
@@ -26,4 +20,4 @@ returns-3 c = simp (c .if1 .left)
 
 pub count-promised-spec : {M : Type 1} → statement M
 count-promised-spec =
-    tie.close (tie.spec owner-requires count-others-requires returns returns-2 returns-3)
+    tie.close (tie.spec (λ c κs. search needs) (λ c κs. search needs) returns returns-2 returns-3)

@@ -5,9 +5,6 @@ use borrow.Author.Needs.{needs}
 use Rattle.controller.proofs.ballot_sequence.count_proposed.Statement.{statement}
 use Rattle.controller.proofs.ballot_sequence.count_proposed.Tie as tie
 
-count-others-requires : tie.Need-count-others-requires
-count-others-requires c κs = search needs
-
 returns : tie.Need-returns
 unfolding proposed ballotToOthers
 returns c = simp (c .before .if1 .taken, length-map, c .count-others .ensures)
@@ -17,4 +14,4 @@ unfolding proposed
 returns-2 c = simp (c .if1 .left)
 
 pub count-proposed-spec : {M : Type 1} → statement M
-count-proposed-spec = tie.close (tie.spec count-others-requires returns returns-2)
+count-proposed-spec = tie.close (tie.spec (λ c κs. search needs) returns returns-2)

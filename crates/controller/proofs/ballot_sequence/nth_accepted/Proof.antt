@@ -5,18 +5,9 @@ use borrow.Author.Needs.{needs}
 use Rattle.controller.proofs.ballot_sequence.nth_accepted.Statement.{statement}
 use Rattle.controller.proofs.ballot_sequence.nth_accepted.Tie as tie
 
-owner-requires : tie.Need-owner-requires
-owner-requires c κs = search needs
-
 returns : tie.Need-returns
 unfolding acceptedBy nthBallotOf
 returns c = simp (c .before .before .before .if1 .taken, ← c .before .before .owner .ensures, eq-eqb _ _ (c .if2 .taken))
-
-ballot-to-requires : tie.Need-ballot-to-requires
-ballot-to-requires c κs = search needs
-
-nth-of-one-requires : tie.Need-nth-of-one-requires
-nth-of-one-requires c κs = search needs
 
 returns-2 : tie.Need-returns-2
 unfolding acceptedBy
@@ -29,4 +20,4 @@ returns-3 c = simp (c .if1 .left)
 pub nth-accepted-spec : {M : Type 1} → statement M
 nth-accepted-spec =
     tie.close
-    (tie.spec owner-requires returns ballot-to-requires nth-of-one-requires returns-2 returns-3)
+    (tie.spec (λ c κs. search needs) returns (λ c κs. search needs) (λ c κs. search needs) returns-2 returns-3)

@@ -4,7 +4,7 @@ use mathlib.Core.Path.{_≡_, refl, _∙_}
 use mathlib.Core.List.{_++_}
 use Rattle.protocol.specs.declared.Identity.{Identity}
 use Rattle.protocol.specs.declared.BallotAnswer.{BallotAnswer}
-use Rattle.protocol.specs.BallotCalls.{ballotMessages, nthBallotOf}
+use Rattle.protocol.specs.BallotCalls.{ballotMessages}
 use Rattle.controller.specs.BallotParts.{promised, proposed, acceptedBy}
 use Rattle.controller.proofs.BallotSequence.{here, past, both}
 use borrow.Author.Needs.{needs}
@@ -15,23 +15,11 @@ parts : (me : Identity) (b : ℕ) (x : BallotAnswer) → ballotMessages me b x �
 unfolding ballotMessages promised proposed acceptedBy
 parts me b x = refl
 
-count-promised-requires : tie.Need-count-promised-requires
-count-promised-requires c κs = search needs
-
-nth-promised-requires : tie.Need-nth-promised-requires
-nth-promised-requires c κs = search needs
-
 returns : tie.Need-returns
 returns c =
     let start = c .before .before .before .args in
     let me = start .me in
     both _ _ _ (c .nth-promised .ensures ∙ rw (parts me (start .b) (start .x)) (here (promised me (start .b) (start .x)) _ (start .k) _ (c .before .before .count-promised .ensures) (c .before .if1 .taken)))
-
-count-proposed-requires : tie.Need-count-proposed-requires
-count-proposed-requires c κs = search needs
-
-nth-proposed-requires : tie.Need-nth-proposed-requires
-nth-proposed-requires c κs = search needs
 
 returns-2 : tie.Need-returns-2
 returns-2 c =
@@ -40,9 +28,6 @@ returns-2 c =
     both _ _ _ (c .nth-proposed .ensures ∙ rw (parts me (start .b) (start .x))
     (here (proposed me (start .b) (start .x)) (acceptedBy me (start .b) (start .x)) _ _ (c .before .before .count-proposed .ensures) (c .before .if2 .taken)
     ∙ past (promised me (start .b) (start .x)) _ (start .k) _ (c .before .before .before .before .count-promised .ensures) (c .before .before .before .if1 .left)))
-
-nth-accepted-requires : tie.Need-nth-accepted-requires
-nth-accepted-requires c κs = search needs
 
 returns-3 : tie.Need-returns-3
 returns-3 c =
@@ -56,11 +41,11 @@ pub nth-ballot-message-spec : {M : Type 1} → statement M
 nth-ballot-message-spec =
     tie.close
     (tie.spec
-    count-promised-requires
-    nth-promised-requires
+    (λ c κs. search needs)
+    (λ c κs. search needs)
     returns
-    count-proposed-requires
-    nth-proposed-requires
+    (λ c κs. search needs)
+    (λ c κs. search needs)
     returns-2
-    nth-accepted-requires
+    (λ c κs. search needs)
     returns-3)

@@ -5,21 +5,9 @@ use borrow.Author.Needs.{needs}
 use Rattle.controller.proofs.ballot_sequence.nth_promised.Statement.{statement}
 use Rattle.controller.proofs.ballot_sequence.nth_promised.Tie as tie
 
-owner-requires : tie.Need-owner-requires
-owner-requires c κs = search needs
-
-nth-to-others-requires : tie.Need-nth-to-others-requires
-nth-to-others-requires c κs = search needs
-
 returns : tie.Need-returns
 unfolding promised promiseSent
 returns c = simp (c .before .before .before .before .if1 .taken, ← c .before .before .before .owner .ensures, eq-eqb _ _ (c .before .if2 .taken), c .nth-to-others .ensures)
-
-ballot-to-requires : tie.Need-ballot-to-requires
-ballot-to-requires c κs = search needs
-
-nth-of-one-requires : tie.Need-nth-of-one-requires
-nth-of-one-requires c κs = search needs
 
 returns-2 : tie.Need-returns-2
 unfolding promised promiseSent
@@ -33,10 +21,10 @@ pub nth-promised-spec : {M : Type 1} → statement M
 nth-promised-spec =
     tie.close
     (tie.spec
-    owner-requires
-    nth-to-others-requires
+    (λ c κs. search needs)
+    (λ c κs. search needs)
     returns
-    ballot-to-requires
-    nth-of-one-requires
+    (λ c κs. search needs)
+    (λ c κs. search needs)
     returns-2
     returns-3)

@@ -4,9 +4,6 @@ use borrow.Author.Needs.{needs}
 use Rattle.controller.proofs.ballot_sequence.nth_proposed.Statement.{statement}
 use Rattle.controller.proofs.ballot_sequence.nth_proposed.Tie as tie
 
-nth-to-others-requires : tie.Need-nth-to-others-requires
-nth-to-others-requires c κs = search needs
-
 returns : tie.Need-returns
 unfolding proposed
 returns c = simp (c .before .before .if1 .taken, c .nth-to-others .ensures)
@@ -16,4 +13,4 @@ unfolding proposed nthBallotOf
 returns-2 c = simp (c .if1 .left)
 
 pub nth-proposed-spec : {M : Type 1} → statement M
-nth-proposed-spec = tie.close (tie.spec nth-to-others-requires returns returns-2)
+nth-proposed-spec = tie.close (tie.spec (λ c κs. search needs) returns returns-2)

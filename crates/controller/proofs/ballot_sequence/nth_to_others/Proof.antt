@@ -9,9 +9,6 @@ use borrow.Author.Needs.{needs}
 use Rattle.controller.proofs.ballot_sequence.nth_to_others.Statement.{statement}
 use Rattle.controller.proofs.ballot_sequence.nth_to_others.Tie as tie
 
-count-others-requires : tie.Need-count-others-requires
-count-others-requires c κs = search needs
-
 returns : tie.Need-returns
 unfolding ballotToOthers
 returns c =
@@ -19,15 +16,6 @@ returns c =
     let me = start .me in
     let count : c .before .count-others .result ≡ length (members (me .n) (others (me .n) (me .id))) = c .before .count-others .ensures in
     sym (nth-end (ballotTo me (start .kind) (start .b) 0 (start .word)) (members (me .n) (others (me .n) (me .id))) (start .k) (omega arith))
-
-others-requires : tie.Need-others-requires
-others-requires c κs = search needs
-
-nth-member-requires : tie.Need-nth-member-requires
-nth-member-requires c κs = search needs
-
-ballot-to-requires : tie.Need-ballot-to-requires
-ballot-to-requires c κs = search needs
 
 returns-2 : tie.Need-returns-2
 unfolding ballotToOthers
@@ -43,9 +31,9 @@ pub nth-to-others-spec : {M : Type 1} → statement M
 nth-to-others-spec =
     tie.close
     (tie.spec
-    count-others-requires
+    (λ c κs. search needs)
     returns
-    others-requires
-    nth-member-requires
-    ballot-to-requires
+    (λ c κs. search needs)
+    (λ c κs. search needs)
+    (λ c κs. search needs)
     returns-2)

@@ -1,3 +1,4 @@
+-- `controller::addressed` of ballots meets its contract: the tests in the order of the definition, each passed but the last.
 use mathlib.Core.Path.{_≡_}
 use mathlib.Core.Bool.{Bool, true, _&&_}
 use borrow.Author.Tests.{eq-eqb, ne-eqb}
@@ -24,16 +25,21 @@ returns-3 c = simp (eq-eqb _ _ (c .before .before .before .before .before .befor
 
 returns-4 : tie.Need-returns-4
 unfolding ballotAddressed
-returns-4 c = simp (eq-eqb _ _ (c .before .before .before .before .before .before .before .before .before .if1 .left), eq-eqb _ _ (c .before .before .before .before .before .before .if2 .left), eq-eqb _ _ (c .before .before .before .if3 .left), ne-eqb _ _ (c .if4 .taken))
-
-different-controllers-requires : tie.Need-different-controllers-requires
-different-controllers-requires c κs = search needs
+returns-4 c =
+    let at-if3 = c .before .before .before in
+    let at-if2 = at-if3 .before .before .before in
+    let at-if1 = at-if2 .before .before .before in
+    simp (eq-eqb _ _ (at-if1 .if1 .left), eq-eqb _ _ (at-if2 .if2 .left), eq-eqb _ _ (at-if3 .if3 .left), ne-eqb _ _ (c .if4 .taken))
 
 returns-5 : tie.Need-returns-5
 unfolding ballotAddressed
-returns-5 c = fifth _ _ _ _ _ _ (eq-eqb _ _ (c .before .before .before .before .before .before .before .before .before .before .if1 .left)) (eq-eqb _ _ (c .before .before .before .before .before .before .before .if2 .left)) (eq-eqb _ _ (c .before .before .before .before .if3 .left)) (eq-eqb _ _ (c .before .if4 .left)) (c .different-controllers .ensures)
+returns-5 c =
+    let at-if3 = c .before .before .before .before in
+    let at-if2 = at-if3 .before .before .before in
+    let at-if1 = at-if2 .before .before .before in
+    fifth _ _ _ _ _ _ (eq-eqb _ _ (at-if1 .if1 .left)) (eq-eqb _ _ (at-if2 .if2 .left)) (eq-eqb _ _ (at-if3 .if3 .left)) (eq-eqb _ _ (c .before .if4 .left)) (c .different-controllers .ensures)
 
 pub addressed-spec : {M : Type 1} → statement M
 addressed-spec =
     tie.close
-    (tie.spec returns returns-2 returns-3 returns-4 different-controllers-requires returns-5)
+    (tie.spec returns returns-2 returns-3 returns-4 (λ c κs. search needs) returns-5)

@@ -4,15 +4,9 @@ use borrow.Author.Needs.{needs}
 use Rattle.controller.proofs.ballots.takes_part.Statement.{statement}
 use Rattle.controller.proofs.ballots.takes_part.Tie as tie
 
-valid-identity-requires : tie.Need-valid-identity-requires
-valid-identity-requires c κs = search needs
-
 returns : tie.Need-returns
 unfolding takesPart
 returns c = simp (← c .before .valid-identity .ensures, not-true (c .before .valid-identity .result) (c .if1 .taken))
-
-is-running-requires : tie.Need-is-running-requires
-is-running-requires c κs = search needs
 
 returns-2 : tie.Need-returns-2
 unfolding takesPart
@@ -24,4 +18,4 @@ returns-3 c = simp (← c .before .before .valid-identity .ensures, not-false (c
 
 pub takes-part-spec : {M : Type 1} → statement M
 takes-part-spec =
-    tie.close (tie.spec valid-identity-requires returns is-running-requires returns-2 returns-3)
+    tie.close (tie.spec (λ c κs. search needs) returns (λ c κs. search needs) returns-2 returns-3)

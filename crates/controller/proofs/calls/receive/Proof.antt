@@ -5,59 +5,43 @@ use borrow.Author.Needs.{needs}
 use Rattle.controller.proofs.calls.receive.Statement.{statement}
 use Rattle.controller.proofs.calls.receive.Tie as tie
 
-takes-part-requires : tie.Need-takes-part-requires
-takes-part-requires c κs = search needs
-
-passed-over-requires : tie.Need-passed-over-requires
-passed-over-requires c κs = search needs
-
 returns : tie.Need-returns
 unfolding receive
 returns c = simp (← c .before .before .takes-part .ensures, not-true (c .before .before .takes-part .result) (c .before .if1 .taken), c .passed-over .ensures)
-
-addressed-requires : tie.Need-addressed-requires
-addressed-requires c κs = search needs
-
-passed-over-requires-2 : tie.Need-passed-over-requires-2
-passed-over-requires-2 c κs = search needs
 
 returns-2 : tie.Need-returns-2
 unfolding receive
 returns-2 c = simp (← c .before .before .before .before .takes-part .ensures, not-false (c .before .before .before .before .takes-part .result) (c .before .before .before .if1 .left), ← c .before .before .addressed .ensures, not-true (c .before .before .addressed .result) (c .before .if2 .taken), c .passed-over2 .ensures)
 
-suits-requires : tie.Need-suits-requires
-suits-requires c κs = search needs
-
-passed-over-requires-3 : tie.Need-passed-over-requires-3
-passed-over-requires-3 c κs = search needs
-
 returns-3 : tie.Need-returns-3
 unfolding receive
-returns-3 c = simp (← c .before .before .before .before .before .before .takes-part .ensures, not-false (c .before .before .before .before .before .before .takes-part .result) (c .before .before .before .before .before .if1 .left), ← c .before .before .before .before .addressed .ensures, not-false (c .before .before .before .before .addressed .result) (c .before .before .before .if2 .left), ← c .before .before .suits .ensures, not-true (c .before .before .suits .result) (c .before .if3 .taken), c .passed-over3 .ensures)
-
-arrives-requires : tie.Need-arrives-requires
-arrives-requires c κs = search needs
-
-tested-requires : tie.Need-tested-requires
-tested-requires c κs = search needs
+returns-3 c =
+    let at-suits = c .before .before in
+    let at-addressed = at-suits .before .before in
+    let at-takes-part = at-addressed .before .before in
+    simp (← at-takes-part .takes-part .ensures, not-false (at-takes-part .takes-part .result) (at-addressed .before .if1 .left), ← at-addressed .addressed .ensures, not-false (at-addressed .addressed .result) (at-suits .before .if2 .left), ← at-suits .suits .ensures, not-true (at-suits .suits .result) (c .before .if3 .taken), c .passed-over3 .ensures)
 
 returns-4 : tie.Need-returns-4
 unfolding receive
-returns-4 c = simp (← c .before .before .before .before .before .before .before .before .takes-part .ensures, not-false (c .before .before .before .before .before .before .before .before .takes-part .result) (c .before .before .before .before .before .before .before .if1 .left), ← c .before .before .before .before .before .before .addressed .ensures, not-false (c .before .before .before .before .before .before .addressed .result) (c .before .before .before .before .before .if2 .left), ← c .before .before .before .before .suits .ensures, not-false (c .before .before .before .before .suits .result) (c .before .before .before .if3 .left), c .before .arrives .ensures, c .tested .ensures)
+returns-4 c =
+    let at-if3 = c .before .before .before in
+    let at-if2 = at-if3 .before .before in
+    let at-if1 = at-if2 .before .before in
+    simp (← at-if1 .before .takes-part .ensures, not-false (at-if1 .before .takes-part .result) (at-if1 .if1 .left), ← at-if2 .before .addressed .ensures, not-false (at-if2 .before .addressed .result) (at-if2 .if2 .left), ← at-if3 .before .suits .ensures, not-false (at-if3 .before .suits .result) (at-if3 .if3 .left), c .before .arrives .ensures, c .tested .ensures)
 
 pub receive-spec : {M : Type 1} → statement M
 receive-spec =
     tie.close
     (tie.spec
-    takes-part-requires
-    passed-over-requires
+    (λ c κs. search needs)
+    (λ c κs. search needs)
     returns
-    addressed-requires
-    passed-over-requires-2
+    (λ c κs. search needs)
+    (λ c κs. search needs)
     returns-2
-    suits-requires
-    passed-over-requires-3
+    (λ c κs. search needs)
+    (λ c κs. search needs)
     returns-3
-    arrives-requires
-    tested-requires
+    (λ c κs. search needs)
+    (λ c κs. search needs)
     returns-4)

@@ -4,18 +4,9 @@ use borrow.Author.Needs.{needs}
 use Rattle.controller.proofs.calls.tested.Statement.{statement}
 use Rattle.controller.proofs.calls.tested.Tie as tie
 
-is-taken-requires : tie.Need-is-taken-requires
-is-taken-requires c κs = search needs
-
 returns : tie.Need-returns
 unfolding tested
 returns c = simp (← c .before .is-taken .ensures, not-true (c .before .is-taken .result) (c .if1 .taken))
-
-contradicts-held-requires : tie.Need-contradicts-held-requires
-contradicts-held-requires c κs = search needs
-
-contradicted-requires : tie.Need-contradicted-requires
-contradicted-requires c κs = search needs
 
 returns-2 : tie.Need-returns-2
 unfolding tested
@@ -29,9 +20,9 @@ pub tested-spec : {M : Type 1} → statement M
 tested-spec =
     tie.close
     (tie.spec
-    is-taken-requires
+    (λ c κs. search needs)
     returns
-    contradicts-held-requires
-    contradicted-requires
+    (λ c κs. search needs)
+    (λ c κs. search needs)
     returns-2
     returns-3)

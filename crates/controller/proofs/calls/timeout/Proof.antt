@@ -4,35 +4,17 @@ use borrow.Author.Needs.{needs}
 use Rattle.controller.proofs.calls.timeout.Statement.{statement}
 use Rattle.controller.proofs.calls.timeout.Tie as tie
 
-takes-part-requires : tie.Need-takes-part-requires
-takes-part-requires c κs = search needs
-
-passed-over-requires : tie.Need-passed-over-requires
-passed-over-requires c κs = search needs
-
 returns : tie.Need-returns
 unfolding timeout
 returns c = simp (← c .before .before .takes-part .ensures, not-true (c .before .before .takes-part .result) (c .before .if1 .taken), c .passed-over .ensures)
-
-phase-in-requires : tie.Need-phase-in-requires
-phase-in-requires c κs = search needs
-
-first-timeout-requires : tie.Need-first-timeout-requires
-first-timeout-requires c κs = search needs
 
 returns-2 : tie.Need-returns-2
 unfolding timeout
 returns-2 c = simp (← c .before .before .before .before .takes-part .ensures, not-false (c .before .before .before .before .takes-part .result) (c .before .before .before .if1 .left), ← c .before .before .phase-in .ensures, eq-eqb _ _ (c .before .if2 .taken), c .first-timeout .ensures)
 
-second-timeout-requires : tie.Need-second-timeout-requires
-second-timeout-requires c κs = search needs
-
 returns-3 : tie.Need-returns-3
 unfolding timeout
 returns-3 c = simp (← c .before .before .before .before .before .takes-part .ensures, not-false (c .before .before .before .before .before .takes-part .result) (c .before .before .before .before .if1 .left), ← c .before .before .before .phase-in .ensures, ne-eqb _ _ (c .before .before .if2 .left), eq-eqb _ _ (c .before .if3 .taken), c .second-timeout .ensures)
-
-passed-over-requires-2 : tie.Need-passed-over-requires-2
-passed-over-requires-2 c κs = search needs
 
 returns-4 : tie.Need-returns-4
 unfolding timeout
@@ -42,13 +24,13 @@ pub timeout-spec : {M : Type 1} → statement M
 timeout-spec =
     tie.close
     (tie.spec
-    takes-part-requires
-    passed-over-requires
+    (λ c κs. search needs)
+    (λ c κs. search needs)
     returns
-    phase-in-requires
-    first-timeout-requires
+    (λ c κs. search needs)
+    (λ c κs. search needs)
     returns-2
-    second-timeout-requires
+    (λ c κs. search needs)
     returns-3
-    passed-over-requires-2
+    (λ c κs. search needs)
     returns-4)

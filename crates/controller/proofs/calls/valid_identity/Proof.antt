@@ -4,15 +4,9 @@ use borrow.Author.Needs.{needs}
 use Rattle.controller.proofs.calls.valid_identity.Statement.{statement}
 use Rattle.controller.proofs.calls.valid_identity.Tie as tie
 
-sizes-in-range-requires : tie.Need-sizes-in-range-requires
-sizes-in-range-requires c κs = search needs
-
 returns : tie.Need-returns
 unfolding validIdentity
 returns c = simp (← c .before .sizes-in-range .ensures, not-true (c .before .sizes-in-range .result) (c .if1 .taken))
-
-is-controller-requires : tie.Need-is-controller-requires
-is-controller-requires c κs = search needs
 
 returns-2 : tie.Need-returns-2
 unfolding validIdentity
@@ -23,4 +17,4 @@ unfolding validIdentity
 returns-3 c = simp (← c .before .before .before .before .sizes-in-range .ensures, not-false (c .before .before .before .before .sizes-in-range .result) (c .before .before .before .if1 .left), ← c .before .before .is-controller .ensures, not-false (c .before .before .is-controller .result) (c .before .if2 .left))
 
 pub valid-identity-spec : {M : Type 1} → statement M
-valid-identity-spec = tie.close (tie.spec sizes-in-range-requires returns is-controller-requires returns-2 returns-3)
+valid-identity-spec = tie.close (tie.spec (λ c κs. search needs) returns (λ c κs. search needs) returns-2 returns-3)

@@ -3,18 +3,9 @@ use borrow.Author.Needs.{needs}
 use Rattle.controller.proofs.lifecycle.awaits_decision.Statement.{statement}
 use Rattle.controller.proofs.lifecycle.awaits_decision.Tie as tie
 
-is-standby-requires : tie.Need-is-standby-requires
-is-standby-requires c κs = search needs
-
 returns : tie.Need-returns
 unfolding awaitsDecision
 returns c = simp (← c .before .is-standby .ensures, c .if1 .taken)
-
-is-running-requires : tie.Need-is-running-requires
-is-running-requires c κs = search needs
-
-phase-in-requires : tie.Need-phase-in-requires
-phase-in-requires c κs = search needs
 
 returns-2 : tie.Need-returns-2
 unfolding awaitsDecision
@@ -28,9 +19,9 @@ pub awaits-decision-spec : {M : Type 1} → statement M
 awaits-decision-spec =
     tie.close
     (tie.spec
-    is-standby-requires
+    (λ c κs. search needs)
     returns
-    is-running-requires
-    phase-in-requires
+    (λ c κs. search needs)
+    (λ c κs. search needs)
     returns-2
     returns-3)

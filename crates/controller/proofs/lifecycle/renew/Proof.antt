@@ -9,12 +9,6 @@ use borrow.Author.Needs.{needs}
 use Rattle.controller.proofs.lifecycle.renew.Statement.{statement}
 use Rattle.controller.proofs.lifecycle.renew.Tie as tie
 
-renewed-condition-requires : tie.Need-renewed-condition-requires
-renewed-condition-requires c κs = search needs
-
-cleared-requires : tie.Need-cleared-requires
-cleared-requires c κs = search needs
-
 -- either way the condition alone differs
 either : (stopped : Bool) (c : Controller) → cleared (cond stopped Stopped (inPhase 0 None)) c ≡ cond stopped (cleared Stopped c) (cleared (inPhase 0 None) c)
 either true c = refl
@@ -25,4 +19,4 @@ unfolding renew
 returns c = simp (c .before .renewed-condition .ensures, c .cleared .ensures, either (isStopped (c .before .before .args .c .condition)) (c .before .before .args .c))
 
 pub renew-spec : {M : Type 1} → statement M
-renew-spec = tie.close (tie.spec renewed-condition-requires cleared-requires returns)
+renew-spec = tie.close (tie.spec (λ c κs. search needs) (λ c κs. search needs) returns)

@@ -4,12 +4,6 @@ use borrow.Author.Needs.{needs}
 use Rattle.controller.proofs.lifecycle.save.Statement.{statement}
 use Rattle.controller.proofs.lifecycle.save.Tie as tie
 
-is-present-requires : tie.Need-is-present-requires
-is-present-requires c κs = search needs
-
-checkpoint-of-requires : tie.Need-checkpoint-of-requires
-checkpoint-of-requires c κs = search needs
-
 returns : tie.Need-returns
 unfolding save
 returns c = save-of _ _ _ (simp (← c .before .before .is-present .ensures, c .before .if1 .taken, c .checkpoint-of .ensures))
@@ -19,4 +13,4 @@ unfolding save
 returns-2 c = save-of _ _ _ (simp (← c .before .is-present .ensures, c .if1 .left))
 
 pub save-spec : {M : Type 1} → statement M
-save-spec = tie.close (tie.spec is-present-requires checkpoint-of-requires returns returns-2)
+save-spec = tie.close (tie.spec (λ c κs. search needs) (λ c κs. search needs) returns returns-2)

@@ -3,21 +3,9 @@ use borrow.Author.Needs.{needs}
 use Rattle.controller.proofs.lifecycle.stop.Statement.{statement}
 use Rattle.controller.proofs.lifecycle.stop.Tie as tie
 
-is-present-requires : tie.Need-is-present-requires
-is-present-requires c κs = search needs
-
-cleared-requires : tie.Need-cleared-requires
-cleared-requires c κs = search needs
-
-becomes-requires : tie.Need-becomes-requires
-becomes-requires c κs = search needs
-
 returns : tie.Need-returns
 unfolding stop
 returns c = simp (← c .before .before .before .is-present .ensures, c .before .before .if1 .taken, c .before .cleared .ensures, c .becomes .ensures)
-
-passed-over-requires : tie.Need-passed-over-requires
-passed-over-requires c κs = search needs
 
 returns-2 : tie.Need-returns-2
 unfolding stop
@@ -27,9 +15,9 @@ pub stop-spec : {M : Type 1} → statement M
 stop-spec =
     tie.close
     (tie.spec
-    is-present-requires
-    cleared-requires
-    becomes-requires
+    (λ c κs. search needs)
+    (λ c κs. search needs)
+    (λ c κs. search needs)
     returns
-    passed-over-requires
+    (λ c κs. search needs)
     returns-2)

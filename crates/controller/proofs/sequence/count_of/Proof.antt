@@ -5,15 +5,6 @@ use Rattle.protocol.specs.SequenceLaws.{members-size}
 use Rattle.controller.proofs.sequence.count_of.Statement.{statement}
 use Rattle.controller.proofs.sequence.count_of.Tie as tie
 
-enum-told : tie.Need-enum-told
-enum-told c = search needs
-
-enum-known-send : tie.Need-enum-known-send
-enum-known-send c = search needs
-
-size-requires : tie.Need-size-requires
-size-requires c κs = search needs
-
 returns : tie.Need-returns
 unfolding messagesOfKind
 returns c = simp (c .enum-told .given .1)
@@ -23,4 +14,4 @@ unfolding messagesOfKind
 returns-2 c = simp (c .before .before .send .given .1, c .size .ensures, length-map, members-size)
 
 pub count-of-spec : {M : Type 1} → statement M
-count-of-spec = tie.close (tie.spec enum-told enum-known-send size-requires returns returns-2)
+count-of-spec = tie.close (tie.spec (λ c. search needs) (λ c. search needs) (λ c κs. search needs) returns returns-2)

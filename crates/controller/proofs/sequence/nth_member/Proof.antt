@@ -22,12 +22,6 @@ loop-holds : tie.Need-loop-holds Inv-loop μ-loop
 unfolding countTo
 loop-holds c = (omega arith, omega arith)
 
-add-at : tie.Need-add-at Inv-loop μ-loop
-add-at c = search needs
-
-size-requires : tie.Need-size-requires Inv-loop μ-loop
-size-requires c κs = search needs
-
 returns : tie.Need-returns Inv-loop μ-loop
 returns c =
     let start = c .before .before .before .before .args in
@@ -36,9 +30,6 @@ returns c =
     let size : c .before .size .result ≡ countTo (at + 1) (has (start .set)) = c .before .size .ensures in
     let size′ : c .before .size .result ≡ countTo (suc at) (has (start .set)) = (rw add-one at size) in
     rw add-one (sym (member-at (start .n) (start .set) (start .k) at (omega arith) low (omega arith)))
-
-loop-less : tie.Need-loop-less Inv-loop μ-loop
-loop-less c = search needs
 
 loop-again : tie.Need-loop-again Inv-loop μ-loop
 loop-again c = (omega arith, omega arith)
@@ -58,9 +49,9 @@ nth-member-spec =
     Inv-loop
     μ-loop
     loop-holds
-    add-at
-    size-requires
+    (λ c. search needs)
+    (λ c κs. search needs)
     returns
-    loop-less
+    (λ c. search needs)
     loop-again
     returns-2)

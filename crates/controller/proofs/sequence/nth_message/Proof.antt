@@ -41,22 +41,10 @@ module _ (me : Identity) (s : Sends) where
   unfolding messagesOf
   past-votes k v e h = past votes (acks ++ (calls ++ answers)) k v e h
 
-count-of-requires : tie.Need-count-of-requires
-count-of-requires c κs = search needs
-
-nth-of-kind-requires : tie.Need-nth-of-kind-requires
-nth-of-kind-requires c κs = search needs
-
 returns : tie.Need-returns
 returns c =
     let start = c .before .before .before .args in
     nth-message-of _ _ _ _ (c .nth-of-kind .ensures ∙ in-votes (start .me) (start .sends) (start .k) _ (c .before .before .count-of .ensures) (c .before .if1 .taken))
-
-count-of-requires-2 : tie.Need-count-of-requires-2
-count-of-requires-2 c κs = search needs
-
-nth-of-kind-requires-2 : tie.Need-nth-of-kind-requires-2
-nth-of-kind-requires-2 c κs = search needs
 
 returns-2 : tie.Need-returns-2
 returns-2 c =
@@ -65,43 +53,40 @@ returns-2 c =
     ∙ here (acks (start .me) (start .sends)) (calls (start .me) (start .sends) ++ answers (start .me) (start .sends)) _ _ (c .before .before .count-of2 .ensures) (c .before .if2 .taken)
     ∙ past-votes (start .me) (start .sends) (start .k) _ (c .before .before .before .before .count-of .ensures) (c .before .before .before .if1 .left))
 
-count-of-requires-3 : tie.Need-count-of-requires-3
-count-of-requires-3 c κs = search needs
-
-nth-of-kind-requires-3 : tie.Need-nth-of-kind-requires-3
-nth-of-kind-requires-3 c κs = search needs
-
 returns-3 : tie.Need-returns-3
 returns-3 c =
-    let start = c .before .before .before .before .before .before .before .args in
+    let at-count-of3 = c .before .before in
+    let at-count-of2 = at-count-of3 .before .before in
+    let at-count-of = at-count-of2 .before .before in
+    let start = at-count-of .before .args in
     nth-message-of _ _ _ _ (c .nth-of-kind3 .ensures
-    ∙ here (calls (start .me) (start .sends)) (answers (start .me) (start .sends)) _ _ (c .before .before .count-of3 .ensures) (c .before .if3 .taken)
-    ∙ past (acks (start .me) (start .sends)) (calls (start .me) (start .sends) ++ answers (start .me) (start .sends)) _ _ (c .before .before .before .before .count-of2 .ensures) (c .before .before .before .if2 .left)
-    ∙ past-votes (start .me) (start .sends) (start .k) _ (c .before .before .before .before .before .before .count-of .ensures) (c .before .before .before .before .before .if1 .left))
-
-nth-of-kind-requires-4 : tie.Need-nth-of-kind-requires-4
-nth-of-kind-requires-4 c κs = search needs
+    ∙ here (calls (start .me) (start .sends)) (answers (start .me) (start .sends)) _ _ (at-count-of3 .count-of3 .ensures) (c .before .if3 .taken)
+    ∙ past (acks (start .me) (start .sends)) (calls (start .me) (start .sends) ++ answers (start .me) (start .sends)) _ _ (at-count-of2 .count-of2 .ensures) (at-count-of3 .before .if2 .left)
+    ∙ past-votes (start .me) (start .sends) (start .k) _ (at-count-of .count-of .ensures) (at-count-of2 .before .if1 .left))
 
 returns-4 : tie.Need-returns-4
 returns-4 c =
-    let start = c .before .before .before .before .before .before .before .args in
+    let at-count-of3 = c .before .before in
+    let at-count-of2 = at-count-of3 .before .before in
+    let at-count-of = at-count-of2 .before .before in
+    let start = at-count-of .before .args in
     nth-message-of _ _ _ _ (c .nth-of-kind4 .ensures
-    ∙ past (calls (start .me) (start .sends)) (answers (start .me) (start .sends)) _ _ (c .before .before .count-of3 .ensures) (c .before .if3 .left)
-    ∙ past (acks (start .me) (start .sends)) (calls (start .me) (start .sends) ++ answers (start .me) (start .sends)) _ _ (c .before .before .before .before .count-of2 .ensures) (c .before .before .before .if2 .left)
-    ∙ past-votes (start .me) (start .sends) (start .k) _ (c .before .before .before .before .before .before .count-of .ensures) (c .before .before .before .before .before .if1 .left))
+    ∙ past (calls (start .me) (start .sends)) (answers (start .me) (start .sends)) _ _ (at-count-of3 .count-of3 .ensures) (c .before .if3 .left)
+    ∙ past (acks (start .me) (start .sends)) (calls (start .me) (start .sends) ++ answers (start .me) (start .sends)) _ _ (at-count-of2 .count-of2 .ensures) (at-count-of3 .before .if2 .left)
+    ∙ past-votes (start .me) (start .sends) (start .k) _ (at-count-of .count-of .ensures) (at-count-of2 .before .if1 .left))
 
 pub nth-message-spec : {M : Type 1} → statement M
 nth-message-spec =
     tie.close
     (tie.spec
-    count-of-requires
-    nth-of-kind-requires
+    (λ c κs. search needs)
+    (λ c κs. search needs)
     returns
-    count-of-requires-2
-    nth-of-kind-requires-2
+    (λ c κs. search needs)
+    (λ c κs. search needs)
     returns-2
-    count-of-requires-3
-    nth-of-kind-requires-3
+    (λ c κs. search needs)
+    (λ c κs. search needs)
     returns-3
-    nth-of-kind-requires-4
+    (λ c κs. search needs)
     returns-4)

@@ -10,9 +10,6 @@ use Rattle.protocol.specs.SequenceLaws.{members-size, nth-map, nth-end}
 use Rattle.controller.proofs.sequence.nth_to.Statement.{statement}
 use Rattle.controller.proofs.sequence.nth_to.Tie as tie
 
-size-requires : tie.Need-size-requires
-size-requires c κs = search needs
-
 returns : tie.Need-returns
 unfolding messagesOfKind
 returns c =
@@ -20,12 +17,6 @@ returns c =
     let size : c .before .size .result ≡ countTo (start .me .n) (has (start .receivers)) = c .before .size .ensures in
     let sized : length (members (start .me .n) (start .receivers)) ≡ countTo (start .me .n) (has (start .receivers)) = members-size (start .me .n) (start .receivers) in
     sym (nth-end (messageTo (start .me) (start .kind) (start .votes)) (members (start .me .n) (start .receivers)) (start .k) (omega arith))
-
-nth-member-requires : tie.Need-nth-member-requires
-nth-member-requires c κs = search needs
-
-message-to-requires : tie.Need-message-to-requires
-message-to-requires c κs = search needs
 
 returns-2 : tie.Need-returns-2
 unfolding messagesOfKind
@@ -38,4 +29,4 @@ returns-2 c =
 
 pub nth-to-spec : {M : Type 1} → statement M
 nth-to-spec =
-    tie.close (tie.spec size-requires returns nth-member-requires message-to-requires returns-2)
+    tie.close (tie.spec (λ c κs. search needs) returns (λ c κs. search needs) (λ c κs. search needs) returns-2)

@@ -42,21 +42,6 @@ loop-holds : tie.Need-loop-holds Inv-loop μ-loop
 unfolding allTo
 loop-holds c = (omega arith, refl)
 
-cast-at : tie.Need-cast-at Inv-loop μ-loop
-cast-at c = search needs
-
-mul-s : tie.Need-mul-s Inv-loop μ-loop
-mul-s c = search needs
-
-array-copy-out-s : tie.Need-array-copy-out-s Inv-loop μ-loop
-array-copy-out-s c = search needs
-
-add-j : tie.Need-add-j Inv-loop μ-loop
-add-j c = search needs
-
-held-complete-requires : tie.Need-held-complete-requires Inv-loop μ-loop
-held-complete-requires c κs = search needs
-
 returns-2 : tie.Need-returns-2 Inv-loop μ-loop
 unfolding backupsComplete nth
 returns-2 c =
@@ -64,9 +49,6 @@ returns-2 c =
     let j = c .before .before .before .before .loop .j in
     let no = sym (c .before .held-complete .ensures) ∙ not-true (c .before .held-complete .result) (c .if2 .taken) in
     sym (all-no (start .f) (held (start .n) (start .c .acks .from) (start .c .acks .sets)) (suc j) (omega arith) (omega arith) (rw add-one at no))
-
-loop-less : tie.Need-loop-less Inv-loop μ-loop
-loop-less c = search needs
 
 loop-again : tie.Need-loop-again Inv-loop μ-loop
 unfolding allTo nth
@@ -89,12 +71,12 @@ backups-complete-spec =
     μ-loop
     returns
     loop-holds
-    cast-at
-    mul-s
-    array-copy-out-s
-    add-j
-    held-complete-requires
+    (λ c. search needs)
+    (λ c. search needs)
+    (λ c. search needs)
+    (λ c. search needs)
+    (λ c κs. search needs)
     returns-2
-    loop-less
+    (λ c. search needs)
     loop-again
     returns-3)

@@ -15,18 +15,6 @@ returns c =
     let fits : start .c .acks .from < 2 ^ 32 = search needs in
     simp (has-past 32 (start .c .acks .from) (suc (start .f)) fits (omega arith))
 
-mul-s : tie.Need-mul-s
-mul-s c = search needs
-
-array-copy-out-s : tie.Need-array-copy-out-s
-array-copy-out-s c = search needs
-
-add-held-complete : tie.Need-add-held-complete
-add-held-complete c = search needs
-
-held-complete-requires : tie.Need-held-complete-requires
-held-complete-requires c κs = search needs
-
 returns-2 : tie.Need-returns-2
 unfolding secondKnows nth
 returns-2 c = simp (c .held-complete .ensures, add-one)
@@ -34,4 +22,4 @@ returns-2 c = simp (c .held-complete .ensures, add-one)
 pub second-knows-spec : {M : Type 1} → statement M
 second-knows-spec =
     tie.close
-    (tie.spec returns mul-s array-copy-out-s add-held-complete held-complete-requires returns-2)
+    (tie.spec returns (λ c. search needs) (λ c. search needs) (λ c. search needs) (λ c κs. search needs) returns-2)

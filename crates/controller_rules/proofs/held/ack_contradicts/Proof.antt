@@ -2,15 +2,6 @@ use borrow.Author.Needs.{needs}
 use Rattle.controller_rules.proofs.held.ack_contradicts.Statement.{statement}
 use Rattle.controller_rules.proofs.held.ack_contradicts.Tie as tie
 
-has-requires : tie.Need-has-requires
-has-requires c κs = search needs
-
-set-of-requires : tie.Need-set-of-requires
-set-of-requires c κs = search needs
-
-contradicts-requires : tie.Need-contradicts-requires
-contradicts-requires c κs = search needs
-
 returns : tie.Need-returns
 returns c = simp (← c .before .before .before .before .has .ensures, c .before .before .before .if1 .taken, ← c .before .set-of .ensures, c .contradicts .ensures)
 
@@ -19,4 +10,4 @@ returns-2 c = simp (← c .before .has .ensures, c .if1 .left)
 
 pub ack-contradicts-spec : {M : Type 1} → statement M
 ack-contradicts-spec =
-    tie.close (tie.spec has-requires set-of-requires contradicts-requires returns returns-2)
+    tie.close (tie.spec (λ c κs. search needs) (λ c κs. search needs) (λ c κs. search needs) returns returns-2)

@@ -30,21 +30,12 @@ loop-holds : tie.Need-loop-holds Inv-loop μ-loop
 unfolding anyTo
 loop-holds c = (omega arith, refl)
 
-add-j : tie.Need-add-j Inv-loop μ-loop
-add-j c = search needs
-
-ack-contradicts-requires : tie.Need-ack-contradicts-requires Inv-loop μ-loop
-ack-contradicts-requires c κs = search needs
-
 returns : tie.Need-returns Inv-loop μ-loop
 returns c =
     let start = c .before .before .before .before .args in
     let j = c .before .before .before .loop .j in
     let yes = sym (c .before .ack-contradicts .ensures) ∙ c .if1 .taken in
     sym (any-of (start .n) (against (start .a) (start .s)) (suc j) (omega arith) (omega arith) (rw add-one at yes))
-
-loop-less : tie.Need-loop-less Inv-loop μ-loop
-loop-less c = search needs
 
 loop-again : tie.Need-loop-again Inv-loop μ-loop
 unfolding anyTo
@@ -65,9 +56,9 @@ any-ack-contradicts-spec =
     Inv-loop
     μ-loop
     loop-holds
-    add-j
-    ack-contradicts-requires
+    (λ c. search needs)
+    (λ c κs. search needs)
     returns
-    loop-less
+    (λ c. search needs)
     loop-again
     returns-2)

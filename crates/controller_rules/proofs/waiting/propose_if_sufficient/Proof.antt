@@ -3,15 +3,6 @@ use borrow.Author.Needs.{needs}
 use Rattle.controller_rules.proofs.waiting.propose_if_sufficient.Statement.{statement}
 use Rattle.controller_rules.proofs.waiting.propose_if_sufficient.Tie as tie
 
-sufficient-requires : tie.Need-sufficient-requires
-sufficient-requires c κs = search needs
-
-answers-verdict-requires : tie.Need-answers-verdict-requires
-answers-verdict-requires c κs = search needs
-
-proposing-requires : tie.Need-proposing-requires
-proposing-requires c κs = search needs
-
 returns : tie.Need-returns
 unfolding proposeIfSufficient
 returns c = simp (← c .before .before .before .sufficient .ensures, c .before .before .if1 .taken, c .before .answers-verdict .ensures, c .proposing .ensures)
@@ -24,8 +15,8 @@ pub propose-if-sufficient-spec : {M : Type 1} → statement M
 propose-if-sufficient-spec =
     tie.close
     (tie.spec
-    sufficient-requires
-    answers-verdict-requires
-    proposing-requires
+    (λ c κs. search needs)
+    (λ c κs. search needs)
+    (λ c κs. search needs)
     returns
     returns-2)

@@ -3,9 +3,6 @@ use borrow.Author.Needs.{needs}
 use Rattle.controller_rules.proofs.waiting.sufficient.Statement.{statement}
 use Rattle.controller_rules.proofs.waiting.sufficient.Tie as tie
 
-counts-suffice-requires : tie.Need-counts-suffice-requires
-counts-suffice-requires c κs = search needs
-
 returns : tie.Need-returns
 unfolding sufficient
 returns c = simp (c .before .before .before .if1 .taken, c .counts-suffice .ensures)
@@ -15,4 +12,4 @@ unfolding sufficient
 returns-2 c = simp (c .if1 .left)
 
 pub sufficient-spec : {M : Type 1} → statement M
-sufficient-spec = tie.close (tie.spec counts-suffice-requires returns returns-2)
+sufficient-spec = tie.close (tie.spec (λ c κs. search needs) returns returns-2)

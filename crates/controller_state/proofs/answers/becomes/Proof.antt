@@ -3,15 +3,9 @@ use borrow.Author.Needs.{needs}
 use Rattle.controller_state.proofs.answers.becomes.Statement.{statement}
 use Rattle.controller_state.proofs.answers.becomes.Tie as tie
 
-nothing-requires : tie.Need-nothing-requires
-nothing-requires c κs = search needs
-
-sending-requires : tie.Need-sending-requires
-sending-requires c κs = search needs
-
 returns : tie.Need-returns
 unfolding becomes
 returns c = simp (c .before .nothing .ensures, c .sending .ensures)
 
 pub becomes-spec : {M : Type 1} → statement M
-becomes-spec = tie.close (tie.spec nothing-requires sending-requires returns)
+becomes-spec = tie.close (tie.spec (λ c κs. search needs) (λ c κs. search needs) returns)

@@ -3,15 +3,9 @@ use borrow.Author.Needs.{needs}
 use Rattle.controller_state.proofs.changes.advance.Statement.{statement}
 use Rattle.controller_state.proofs.changes.advance.Tie as tie
 
-outcome-in-requires : tie.Need-outcome-in-requires
-outcome-in-requires c κs = search needs
-
-in-phase-requires : tie.Need-in-phase-requires
-in-phase-requires c κs = search needs
-
 returns : tie.Need-returns
 unfolding advance
 returns c = simp (c .before .before .before .before .before .before .outcome-in .ensures, c .before .before .before .before .before .in-phase .ensures)
 
 pub advance-spec : {M : Type 1} → statement M
-advance-spec = tie.close (tie.spec outcome-in-requires in-phase-requires returns)
+advance-spec = tie.close (tie.spec (λ c κs. search needs) (λ c κs. search needs) returns)

@@ -3,12 +3,9 @@ use borrow.Author.Needs.{needs}
 use Rattle.controller_state.proofs.changes.cleared.Statement.{statement}
 use Rattle.controller_state.proofs.changes.cleared.Tie as tie
 
-blank-requires : tie.Need-blank-requires
-blank-requires c κs = search needs
-
 returns : tie.Need-returns
 unfolding cleared
 returns c = simp (c .blank .ensures)
 
 pub cleared-spec : {M : Type 1} → statement M
-cleared-spec = tie.close (tie.spec blank-requires returns)
+cleared-spec = tie.close (tie.spec (λ c κs. search needs) returns)

@@ -2,9 +2,6 @@ use borrow.Author.Needs.{needs}
 use Rattle.controller_state.proofs.conditions.landing.Statement.{statement}
 use Rattle.controller_state.proofs.conditions.landing.Tie as tie
 
-moves-in-requires : tie.Need-moves-in-requires
-moves-in-requires c κs = search needs
-
 returns : tie.Need-returns
 returns c = simp (← c .before .moves-in .ensures, c .if1 .taken)
 
@@ -12,4 +9,4 @@ returns-2 : tie.Need-returns-2
 returns-2 c = simp (← c .before .moves-in .ensures, c .if1 .left)
 
 pub landing-spec : {M : Type 1} → statement M
-landing-spec = tie.close (tie.spec moves-in-requires returns returns-2)
+landing-spec = tie.close (tie.spec (λ c κs. search needs) returns returns-2)

@@ -5,9 +5,6 @@ use borrow.Author.Needs.{needs}
 use Rattle.controller_state.proofs.conditions.phase_after_vote.Statement.{statement}
 use Rattle.controller_state.proofs.conditions.phase_after_vote.Tie as tie
 
-add-if1 : tie.Need-add-if1
-add-if1 c = search needs
-
 returns : tie.Need-returns
 returns c = simp (le-leb (c .before .args .i) (suc (c .before .args .f)) (omega arith))
 
@@ -15,4 +12,4 @@ returns-2 : tie.Need-returns-2
 returns-2 c = simp (lt-leb (c .before .args .i) (suc (c .before .args .f)) (omega arith))
 
 pub phase-after-vote-spec : {M : Type 1} → statement M
-phase-after-vote-spec = tie.close (tie.spec add-if1 returns returns-2)
+phase-after-vote-spec = tie.close (tie.spec (λ c. search needs) returns returns-2)

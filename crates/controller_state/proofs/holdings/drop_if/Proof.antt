@@ -8,18 +8,9 @@ use borrow.Author.Needs.{needs}
 use Rattle.controller_state.proofs.holdings.drop_if.Statement.{statement}
 use Rattle.controller_state.proofs.holdings.drop_if.Tie as tie
 
-has-requires : tie.Need-has-requires
-has-requires c κs = search needs
-
 returns : tie.Need-returns
 unfolding dropIf
 returns c = rw (sym (c .before .has .ensures) ∙ not-true _ (c .if1 .taken))
-
-set-of-requires : tie.Need-set-of-requires
-set-of-requires c κs = search needs
-
-contradicts-requires : tie.Need-contradicts-requires
-contradicts-requires c κs = search needs
 
 returns-2 : tie.Need-returns-2
 unfolding dropIf
@@ -29,12 +20,6 @@ returns-2 c =
       sym (c .before .before .before .before .before .has .ensures) ∙ not-false _ (c .before .before .before .before .if1 .left),
       ap (λ (x : VoteSet). contradicts x (start .s)) (sym (c .before .before .set-of .ensures)) ∙ sym (c .before .contradicts .ensures) ∙ not-true _ (c .if2 .taken),
     )
-
-remove-requires : tie.Need-remove-requires
-remove-requires c κs = search needs
-
-lower-requires : tie.Need-lower-requires
-lower-requires c κs = search needs
 
 returns-3 : tie.Need-returns-3
 unfolding dropIf
@@ -51,11 +36,11 @@ pub drop-if-spec : {M : Type 1} → statement M
 drop-if-spec =
     tie.close
     (tie.spec
-    has-requires
+    (λ c κs. search needs)
     returns
-    set-of-requires
-    contradicts-requires
+    (λ c κs. search needs)
+    (λ c κs. search needs)
     returns-2
-    remove-requires
-    lower-requires
+    (λ c κs. search needs)
+    (λ c κs. search needs)
     returns-3)

@@ -18,15 +18,6 @@ loop-holds : tie.Need-loop-holds Inv-loop μ-loop
 unfolding dropTo
 loop-holds c = (omega arith, refl)
 
-add-j : tie.Need-add-j Inv-loop μ-loop
-add-j c = omega arith
-
-drop-if-requires : tie.Need-drop-if-requires Inv-loop μ-loop
-drop-if-requires c κs = search needs
-
-loop-less : tie.Need-loop-less Inv-loop μ-loop
-loop-less c = omega arith
-
 loop-again : tie.Need-loop-again Inv-loop μ-loop
 unfolding dropTo
 loop-again c = (omega arith, c .drop-if .ensures ∙ rw (add-one, c .before .before .loop .inv .1))
@@ -40,4 +31,4 @@ returns c =
 pub drop-to-spec : {M : Type 1} → statement M
 drop-to-spec =
     tie.close
-    (tie.spec Inv-loop μ-loop loop-holds add-j drop-if-requires loop-less loop-again returns)
+    (tie.spec Inv-loop μ-loop loop-holds (λ c. omega arith) (λ c κs. search needs) (λ c. omega arith) loop-again returns)

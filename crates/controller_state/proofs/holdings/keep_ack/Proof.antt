@@ -3,18 +3,9 @@ use borrow.Author.Needs.{needs}
 use Rattle.controller_state.proofs.holdings.keep_ack.Statement.{statement}
 use Rattle.controller_state.proofs.holdings.keep_ack.Tie as tie
 
-placed-requires : tie.Need-placed-requires
-placed-requires c κs = search needs
-
-insert-requires : tie.Need-insert-requires
-insert-requires c κs = search needs
-
-bump-requires : tie.Need-bump-requires
-bump-requires c κs = search needs
-
 returns : tie.Need-returns
 unfolding keepAck
 returns c = simp (c .before .before .placed .ensures, c .before .insert .ensures, c .bump .ensures)
 
 pub keep-ack-spec : {M : Type 1} → statement M
-keep-ack-spec = tie.close (tie.spec placed-requires insert-requires bump-requires returns)
+keep-ack-spec = tie.close (tie.spec (λ c κs. search needs) (λ c κs. search needs) (λ c κs. search needs) returns)

@@ -9,9 +9,6 @@ use borrow.Author.Needs.{needs}
 use Rattle.controller_state.proofs.holdings.placed.Statement.{statement}
 use Rattle.controller_state.proofs.holdings.placed.Tie as tie
 
-place-requires : tie.Need-place-requires
-place-requires c κs = search needs
-
 returns : tie.Need-returns
 unfolding put
 returns c =
@@ -19,15 +16,9 @@ returns c =
     let held : length (start .sets) ≡ limit = c .before .before .good .0 .1 .0 .1 in
     simp (set-out (start .sets) (start .j - 1) (start .s) (omega arith))
 
-mul-next : tie.Need-mul-next
-mul-next c = search needs
-
-array-set-from-next : tie.Need-array-set-from-next
-array-set-from-next c = search needs
-
 returns-2 : tie.Need-returns-2
 unfolding put
 returns-2 c = simp (c .before .place .ensures)
 
 pub placed-spec : {M : Type 1} → statement M
-placed-spec = tie.close (tie.spec place-requires returns mul-next array-set-from-next returns-2)
+placed-spec = tie.close (tie.spec (λ c κs. search needs) returns (λ c. search needs) (λ c. search needs) returns-2)

@@ -6,30 +6,9 @@ use borrow.Author.Needs.{needs}
 use Rattle.dues.proofs.output.write_answer.Statement.{statement}
 use Rattle.dues.proofs.output.write_answer.Tie as tie
 
-enum-known-answer : tie.Need-enum-known-answer
-enum-known-answer c = search needs
-
-write-totals-requires : tie.Need-write-totals-requires
-write-totals-requires c κs = search needs
-
-enum-known-answer-2 : tie.Need-enum-known-answer-2
-enum-known-answer-2 c = search needs
-
-cast-write-refusal : tie.Need-cast-write-refusal
-cast-write-refusal c = search needs
-
-write-refusal-requires : tie.Need-write-refusal-requires
-write-refusal-requires c κs = search needs
-
-same-length : tie.Need-same-length
-same-length c = search needs
-
 returns : tie.Need-returns
 unfolding answerLine
 returns c = same-fitted _ (ap answerLine (sym (c .before .before .before .before .before .answer .given .1))) (c .before .before .write-totals .ensures)
-
-same-length-2 : tie.Need-same-length-2
-same-length-2 c = search needs
 
 returns-2 : tie.Need-returns-2
 unfolding answerLine
@@ -39,12 +18,12 @@ pub write-answer-spec : {M : Type 1} → statement M
 write-answer-spec =
     tie.close
     (tie.spec
-    enum-known-answer
-    write-totals-requires
-    enum-known-answer-2
-    cast-write-refusal
-    write-refusal-requires
-    same-length
+    (λ c. search needs)
+    (λ c κs. search needs)
+    (λ c. search needs)
+    (λ c. search needs)
+    (λ c κs. search needs)
+    (λ c. search needs)
     returns
-    same-length-2
+    (λ c. search needs)
     returns-2)

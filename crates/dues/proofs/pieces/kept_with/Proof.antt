@@ -3,11 +3,8 @@ use borrow.Author.Needs.{needs}
 use Rattle.dues.proofs.pieces.kept_with.Statement.{statement}
 use Rattle.dues.proofs.pieces.kept_with.Tie as tie
 
-listed-too-requires : tie.Need-listed-too-requires
-listed-too-requires c κs = search needs
-
 returns : tie.Need-returns
 returns c = simp (c .listed-too .ensures)
 
 pub kept-with-spec : {M : Type 1} → statement M
-kept-with-spec = tie.close (tie.spec listed-too-requires returns)
+kept-with-spec = tie.close (tie.spec (λ c κs. search needs) returns)

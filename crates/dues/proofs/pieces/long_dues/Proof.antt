@@ -9,9 +9,6 @@ returns : tie.Need-returns
 unfolding longDues
 returns c = simp (ne-eqb _ _ (c .if1 .taken))
 
-listed-too-requires : tie.Need-listed-too-requires
-listed-too-requires c κs = search needs
-
 returns-2 : tie.Need-returns-2
 unfolding longDues
 returns-2 c = simp (eq-eqb _ _ (c .before .before .if1 .left), ← c .before .listed-too .ensures, c .if2 .taken)
@@ -21,4 +18,4 @@ unfolding longDues
 returns-3 c = simp (eq-eqb _ _ (c .before .before .if1 .left), ← c .before .listed-too .ensures, c .if2 .left)
 
 pub long-dues-spec : {M : Type 1} → statement M
-long-dues-spec = tie.close (tie.spec returns listed-too-requires returns-2 returns-3)
+long-dues-spec = tie.close (tie.spec returns (λ c κs. search needs) returns-2 returns-3)

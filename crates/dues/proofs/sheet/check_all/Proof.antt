@@ -22,30 +22,6 @@ loop-holds : tie.Need-loop-holds Inv-loop μ-loop
 unfolding every lockagesTo
 loop-holds c = (omega arith, refl, refl)
 
-mul-lockage-at : tie.Need-mul-lockage-at Inv-loop μ-loop
-mul-lockage-at c = omega arith
-
-lockage-at-requires : tie.Need-lockage-at-requires Inv-loop μ-loop
-lockage-at-requires c κs = omega arith
-
-listed-requires : tie.Need-listed-requires Inv-loop μ-loop
-listed-requires c κs = search needs
-
-both-requires : tie.Need-both-requires Inv-loop μ-loop
-both-requires c κs = search needs
-
-in-range-requires : tie.Need-in-range-requires Inv-loop μ-loop
-in-range-requires c κs = search needs
-
-both-requires-2 : tie.Need-both-requires-2 Inv-loop μ-loop
-both-requires-2 c κs = search needs
-
-add-k : tie.Need-add-k Inv-loop μ-loop
-add-k c = omega arith
-
-loop-less : tie.Need-loop-less Inv-loop μ-loop
-loop-less c = omega arith
-
 -- a flag after one lockage more
 one-more : (p : Lockage → Bool) (s : List ℕ) (k : ℕ) {all passes next : Bool} {l : Lockage} → l ≡ lockageAt s (k * 4) → all ≡ every p (lockagesTo s k)
     → passes ≡ p l → next ≡ (all && passes) → next ≡ every p (lockagesTo s (k + 1))
@@ -75,13 +51,13 @@ check-all-spec =
     Inv-loop
     μ-loop
     loop-holds
-    mul-lockage-at
-    lockage-at-requires
-    listed-requires
-    both-requires
-    in-range-requires
-    both-requires-2
-    add-k
-    loop-less
+    (λ c. omega arith)
+    (λ c κs. omega arith)
+    (λ c κs. search needs)
+    (λ c κs. search needs)
+    (λ c κs. search needs)
+    (λ c κs. search needs)
+    (λ c. omega arith)
+    (λ c. omega arith)
     loop-again
     returns)

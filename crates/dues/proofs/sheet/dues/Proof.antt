@@ -11,9 +11,6 @@ returns : tie.Need-returns
 unfolding duesFor questions firstNo unless
 returns c = dues-of _ _ (simp (ne-eqb _ _ (c .if1 .taken)))
 
-check-all-requires : tie.Need-check-all-requires
-check-all-requires c κs = search needs
-
 returns-2 : tie.Need-returns-2
 unfolding duesFor questions firstNo unless
 returns-2 c =
@@ -33,9 +30,6 @@ returns-4 c =
     let checks = listed .before .before in
     dues-of _ _ (simp (eq-eqb _ _ (checks .before .if1 .left), ← checks .check-all .ensures .0, not-false (checks .check-all .result .listed) (listed .if2 .left), le-leb _ _ (c .before .before .if3 .left), ← checks .check-all .ensures .1, not-true (checks .check-all .result .«in_range») (c .if4 .taken)))
 
-totals-requires : tie.Need-totals-requires
-totals-requires c κs = search needs
-
 returns-5 : tie.Need-returns-5
 unfolding duesFor questions firstNo unless
 returns-5 c =
@@ -46,4 +40,4 @@ returns-5 c =
 pub dues-spec : {M : Type 1} → statement M
 dues-spec =
     tie.close
-    (tie.spec returns check-all-requires returns-2 returns-3 returns-4 totals-requires returns-5)
+    (tie.spec returns (λ c κs. search needs) returns-2 returns-3 returns-4 (λ c κs. search needs) returns-5)

@@ -22,15 +22,6 @@ loop-holds : tie.Need-loop-holds Inv-loop μ-loop
 unfolding total lockagesTo
 loop-holds c = (omega arith, refl, refl)
 
-mul-lockage-at : tie.Need-mul-lockage-at Inv-loop μ-loop
-mul-lockage-at c = omega arith
-
-lockage-at-requires : tie.Need-lockage-at-requires Inv-loop μ-loop
-lockage-at-requires c κs = omega arith
-
-lockage-shares-requires : tie.Need-lockage-shares-requires Inv-loop μ-loop
-lockage-shares-requires c κs = search needs
-
 add-upper : tie.Need-add-upper Inv-loop μ-loop
 unfolding shared
 add-upper c =
@@ -44,12 +35,6 @@ add-lower c =
     let at = c .before .before .before .before .before in
     let u : c .before .before .lockage-shares .result .lower ≤ 1587 = rw (c .before .before .lockage-shares .ensures) (lower-most-of (c .before .before .before .lockage-at .result)) in
     omega (arith, lower-total-most (at .before .before .args .s .now) (at .loop .done))
-
-add-done : tie.Need-add-done Inv-loop μ-loop
-add-done c = omega arith
-
-loop-less : tie.Need-loop-less Inv-loop μ-loop
-loop-less c = omega arith
 
 loop-again : tie.Need-loop-again Inv-loop μ-loop
 unfolding shared
@@ -78,12 +63,12 @@ totals-spec =
     Inv-loop
     μ-loop
     loop-holds
-    mul-lockage-at
-    lockage-at-requires
-    lockage-shares-requires
+    (λ c. omega arith)
+    (λ c κs. omega arith)
+    (λ c κs. search needs)
     add-upper
     add-lower
-    add-done
-    loop-less
+    (λ c. omega arith)
+    (λ c. omega arith)
     loop-again
     returns)

@@ -4,51 +4,6 @@ use borrow.Author.Needs.{needs}
 use Rattle.event_record.proofs.event.event_fields.Statement.{statement}
 use Rattle.event_record.proofs.event.event_fields.Tie as tie
 
-enum-known-e : tie.Need-enum-known-e
-enum-known-e c = search needs
-
-flag-number-requires : tie.Need-flag-number-requires
-flag-number-requires c κs = search needs
-
-enum-known-e-2 : tie.Need-enum-known-e-2
-enum-known-e-2 c = search needs
-
-enum-known-e-3 : tie.Need-enum-known-e-3
-enum-known-e-3 c = search needs
-
-flag-number-requires-2 : tie.Need-flag-number-requires-2
-flag-number-requires-2 c κs = search needs
-
-enum-known-e-4 : tie.Need-enum-known-e-4
-enum-known-e-4 c = search needs
-
-kind-number-requires : tie.Need-kind-number-requires
-kind-number-requires c κs = search needs
-
-enum-known-e-5 : tie.Need-enum-known-e-5
-enum-known-e-5 c = search needs
-
-enum-known-e-6 : tie.Need-enum-known-e-6
-enum-known-e-6 c = search needs
-
-flag-number-requires-3 : tie.Need-flag-number-requires-3
-flag-number-requires-3 c κs = search needs
-
-enum-known-e-7 : tie.Need-enum-known-e-7
-enum-known-e-7 c = search needs
-
-enum-known-e-8 : tie.Need-enum-known-e-8
-enum-known-e-8 c = search needs
-
-enum-known-e-9 : tie.Need-enum-known-e-9
-enum-known-e-9 c = search needs
-
-enum-known-e-10 : tie.Need-enum-known-e-10
-enum-known-e-10 c = search needs
-
-ballot-fields-requires : tie.Need-ballot-fields-requires
-ballot-fields-requires c κs = search needs
-
 returns : tie.Need-returns
 unfolding eventFields
 returns c = simp (c .before .before .e .given .1, c .flag-number .ensures)
@@ -93,21 +48,21 @@ pub event-fields-spec : {M : Type 1} → statement M
 event-fields-spec =
     tie.close
     (tie.spec
-    enum-known-e
-    flag-number-requires
-    enum-known-e-2
-    enum-known-e-3
-    flag-number-requires-2
-    enum-known-e-4
-    kind-number-requires
-    enum-known-e-5
-    enum-known-e-6
-    flag-number-requires-3
-    enum-known-e-7
-    enum-known-e-8
-    enum-known-e-9
-    enum-known-e-10
-    ballot-fields-requires
+    (λ c. search needs)
+    (λ c κs. search needs)
+    (λ c. search needs)
+    (λ c. search needs)
+    (λ c κs. search needs)
+    (λ c. search needs)
+    (λ c κs. search needs)
+    (λ c. search needs)
+    (λ c. search needs)
+    (λ c κs. search needs)
+    (λ c. search needs)
+    (λ c. search needs)
+    (λ c. search needs)
+    (λ c. search needs)
+    (λ c κs. search needs)
     returns
     returns-2
     returns-3

@@ -4,21 +4,6 @@ use borrow.Author.Needs.{needs}
 use Rattle.event_record.proofs.event.fields_in.Statement.{statement}
 use Rattle.event_record.proofs.event.fields_in.Tie as tie
 
-shared-slice-read-t3 : tie.Need-shared-slice-read-t3
-shared-slice-read-t3 c = search needs
-
-shared-slice-read-t5 : tie.Need-shared-slice-read-t5
-shared-slice-read-t5 c = search needs
-
-shared-slice-read-t7 : tie.Need-shared-slice-read-t7
-shared-slice-read-t7 c = search needs
-
-shared-slice-read-t9 : tie.Need-shared-slice-read-t9
-shared-slice-read-t9 c = search needs
-
-number4-requires : tie.Need-number4-requires
-number4-requires c κs = search needs
-
 returns : tie.Need-returns
 unfolding fieldsIn
 returns c = simp (c .number4 .ensures)
@@ -27,9 +12,9 @@ pub fields-in-spec : {M : Type 1} → statement M
 fields-in-spec =
     tie.close
     (tie.spec
-    shared-slice-read-t3
-    shared-slice-read-t5
-    shared-slice-read-t7
-    shared-slice-read-t9
-    number4-requires
+    (λ c. search needs)
+    (λ c. search needs)
+    (λ c. search needs)
+    (λ c. search needs)
+    (λ c κs. search needs)
     returns)

@@ -9,17 +9,11 @@ use borrow.Author.Needs.{needs}
 use Rattle.event_record.proofs.event.read_event.Statement.{statement}
 use Rattle.event_record.proofs.event.read_event.Tie as tie
 
-frame-question-requires : tie.Need-frame-question-requires
-frame-question-requires c κs = search needs
-
 returns : tie.Need-returns
 returns c = frame-refused events _ tt refl 0x4C45 refl _ (c .before .frame-question .ensures) (c .if1 .taken)
 
 fields-in-requires : tie.Need-fields-in-requires
 fields-in-requires c κs = frame-length events (c .before .before .before .args .s .now) tt refl 0x4C45 refl _ (c .before .frame-question .ensures) (c .if1 .left)
-
-row-for-requires : tie.Need-row-for-requires
-row-for-requires c κs = search needs
 
 returns-2 : tie.Need-returns-2
 returns-2 c =
@@ -41,9 +35,9 @@ pub read-event-spec : {M : Type 1} → statement M
 read-event-spec =
     tie.close
     (tie.spec
-    frame-question-requires
+    (λ c κs. search needs)
     returns
     fields-in-requires
-    row-for-requires
+    (λ c κs. search needs)
     returns-2
     returns-3)

@@ -2,24 +2,6 @@ use borrow.Author.Needs.{needs}
 use Rattle.event_record.proofs.event.record_bytes.Statement.{statement}
 use Rattle.event_record.proofs.event.record_bytes.Tie as tie
 
-low-byte-requires : tie.Need-low-byte-requires
-low-byte-requires c κs = search needs
-
-low-byte-requires-2 : tie.Need-low-byte-requires-2
-low-byte-requires-2 c κs = search needs
-
-low-byte-requires-3 : tie.Need-low-byte-requires-3
-low-byte-requires-3 c κs = search needs
-
-low-byte-requires-4 : tie.Need-low-byte-requires-4
-low-byte-requires-4 c κs = search needs
-
-low-byte-requires-5 : tie.Need-low-byte-requires-5
-low-byte-requires-5 c κs = search needs
-
-low-byte-requires-6 : tie.Need-low-byte-requires-6
-low-byte-requires-6 c κs = search needs
-
 returns : tie.Need-returns
 returns c = simp (← c .before .before .before .before .before .before .before .before .low-byte .ensures, ← c .before .before .before .before .before .before .before .low-byte2 .ensures, ← c .before .before .before .before .before .low-byte3 .ensures, ← c .before .before .before .low-byte4 .ensures, ← c .before .low-byte5 .ensures, c .low-byte6 .ensures)
 
@@ -27,10 +9,10 @@ pub record-bytes-spec : {M : Type 1} → statement M
 record-bytes-spec =
     tie.close
     (tie.spec
-    low-byte-requires
-    low-byte-requires-2
-    low-byte-requires-3
-    low-byte-requires-4
-    low-byte-requires-5
-    low-byte-requires-6
+    (λ c κs. search needs)
+    (λ c κs. search needs)
+    (λ c κs. search needs)
+    (λ c κs. search needs)
+    (λ c κs. search needs)
+    (λ c κs. search needs)
     returns)

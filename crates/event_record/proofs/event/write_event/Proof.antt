@@ -7,18 +7,6 @@ use borrow.Author.Needs.{needs}
 use Rattle.event_record.proofs.event.write_event.Statement.{statement}
 use Rattle.event_record.proofs.event.write_event.Tie as tie
 
-event-bytes-requires : tie.Need-event-bytes-requires
-event-bytes-requires c κs = search needs
-
-slice-aggregate-write-record : tie.Need-slice-aggregate-write-record
-slice-aggregate-write-record c = search needs
-
-write-record-requires : tie.Need-write-record-requires
-write-record-requires c κs = search needs
-
-same-length : tie.Need-same-length
-same-length c = search needs
-
 returns : tie.Need-returns
 unfolding firstNo
 returns c =
@@ -30,8 +18,8 @@ pub write-event-spec : {M : Type 1} → statement M
 write-event-spec =
     tie.close
     (tie.spec
-    event-bytes-requires
-    slice-aggregate-write-record
-    write-record-requires
-    same-length
+    (λ c κs. search needs)
+    (λ c. search needs)
+    (λ c κs. search needs)
+    (λ c. search needs)
     returns)

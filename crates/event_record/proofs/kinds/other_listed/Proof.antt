@@ -3,9 +3,6 @@ use borrow.Author.Needs.{needs}
 use Rattle.event_record.proofs.kinds.other_listed.Statement.{statement}
 use Rattle.event_record.proofs.kinds.other_listed.Tie as tie
 
-rest-unused-requires : tie.Need-rest-unused-requires
-rest-unused-requires c κs = search needs
-
 returns : tie.Need-returns
 returns c = simp (eq-eqb _ _ (c .before .if1 .taken), c .rest-unused .ensures)
 
@@ -13,4 +10,4 @@ returns-2 : tie.Need-returns-2
 returns-2 c = simp (ne-eqb _ _ (c .if1 .left))
 
 pub other-listed-spec : {M : Type 1} → statement M
-other-listed-spec = tie.close (tie.spec rest-unused-requires returns returns-2)
+other-listed-spec = tie.close (tie.spec (λ c κs. search needs) returns returns-2)

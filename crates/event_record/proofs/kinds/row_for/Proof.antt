@@ -7,54 +7,6 @@ use borrow.Author.Needs.{needs}
 use Rattle.event_record.proofs.kinds.row_for.Statement.{statement}
 use Rattle.event_record.proofs.kinds.row_for.Tie as tie
 
-lock-listed-requires : tie.Need-lock-listed-requires
-lock-listed-requires c κs = search needs
-
-flag-of-requires : tie.Need-flag-of-requires
-flag-of-requires c κs = search needs
-
-order-listed-requires : tie.Need-order-listed-requires
-order-listed-requires c κs = search needs
-
-vote-listed-requires : tie.Need-vote-listed-requires
-vote-listed-requires c κs = search needs
-
-flag-of-requires-2 : tie.Need-flag-of-requires-2
-flag-of-requires-2 c κs = search needs
-
-delivery-listed-requires : tie.Need-delivery-listed-requires
-delivery-listed-requires c κs = search needs
-
-delivery-requires : tie.Need-delivery-requires
-delivery-requires c κs = search needs
-
-other-listed-requires : tie.Need-other-listed-requires
-other-listed-requires c κs = search needs
-
-decision-listed-requires : tie.Need-decision-listed-requires
-decision-listed-requires c κs = search needs
-
-flag-of-requires-3 : tie.Need-flag-of-requires-3
-flag-of-requires-3 c κs = search needs
-
-other-listed-requires-2 : tie.Need-other-listed-requires-2
-other-listed-requires-2 c κs = search needs
-
-other-listed-requires-3 : tie.Need-other-listed-requires-3
-other-listed-requires-3 c κs = search needs
-
-other-listed-requires-4 : tie.Need-other-listed-requires-4
-other-listed-requires-4 c κs = search needs
-
-step-back-listed-requires : tie.Need-step-back-listed-requires
-step-back-listed-requires c κs = search needs
-
-opening-listed-requires : tie.Need-opening-listed-requires
-opening-listed-requires c κs = search needs
-
-opening-requires : tie.Need-opening-requires
-opening-requires c κs = search needs
-
 returns : tie.Need-returns
 unfolding rowOf rows
 returns c = at-row _ 0 (c .before .before .match .keys1) (c .before .lock-listed .ensures) (rw (c .flag-of .ensures))
@@ -106,22 +58,22 @@ pub row-for-spec : {M : Type 1} → statement M
 row-for-spec =
     tie.close
     (tie.spec
-    lock-listed-requires
-    flag-of-requires
-    order-listed-requires
-    vote-listed-requires
-    flag-of-requires-2
-    delivery-listed-requires
-    delivery-requires
-    other-listed-requires
-    decision-listed-requires
-    flag-of-requires-3
-    other-listed-requires-2
-    other-listed-requires-3
-    other-listed-requires-4
-    step-back-listed-requires
-    opening-listed-requires
-    opening-requires
+    (λ c κs. search needs)
+    (λ c κs. search needs)
+    (λ c κs. search needs)
+    (λ c κs. search needs)
+    (λ c κs. search needs)
+    (λ c κs. search needs)
+    (λ c κs. search needs)
+    (λ c κs. search needs)
+    (λ c κs. search needs)
+    (λ c κs. search needs)
+    (λ c κs. search needs)
+    (λ c κs. search needs)
+    (λ c κs. search needs)
+    (λ c κs. search needs)
+    (λ c κs. search needs)
+    (λ c κs. search needs)
     returns
     returns-2
     returns-3

@@ -4,32 +4,17 @@ use Rattle.generator.specs.Drawing.{chosen}
 use Rattle.generator.proofs.drawing.chosen.Statement.{statement}
 use Rattle.generator.proofs.drawing.chosen.Tie as tie
 
-delivery-requires : tie.Need-delivery-requires
-delivery-requires c κs = search needs
-
 returns : tie.Need-returns
 unfolding chosen
 returns c = simp (lt-ltb _ _ (c .before .if1 .taken), c .delivery .ensures)
-
-timeout-requires : tie.Need-timeout-requires
-timeout-requires c κs = search needs
 
 returns-2 : tie.Need-returns-2
 unfolding chosen
 returns-2 c = simp (le-ltb _ _ (c .before .before .if1 .left), lt-ltb _ _ (c .before .if2 .taken), c .timeout .ensures)
 
-decision-requires : tie.Need-decision-requires
-decision-requires c κs = search needs
-
 returns-3 : tie.Need-returns-3
 unfolding chosen
 returns-3 c = simp (le-ltb _ _ (c .before .before .before .if1 .left), le-ltb _ _ (c .before .before .if2 .left), lt-ltb _ _ (c .before .if3 .taken), c .decision .ensures)
-
-draw-requires : tie.Need-draw-requires
-draw-requires c κs = search needs
-
-interrupted-requires : tie.Need-interrupted-requires
-interrupted-requires c κs = search needs
 
 returns-4 : tie.Need-returns-4
 unfolding chosen
@@ -39,12 +24,12 @@ pub chosen-spec : {M : Type 1} → statement M
 chosen-spec =
     tie.close
     (tie.spec
-    delivery-requires
+    (λ c κs. search needs)
     returns
-    timeout-requires
+    (λ c κs. search needs)
     returns-2
-    decision-requires
+    (λ c κs. search needs)
     returns-3
-    draw-requires
-    interrupted-requires
+    (λ c κs. search needs)
+    (λ c κs. search needs)
     returns-4)

@@ -1,3 +1,4 @@
+-- `generator::generate` meets its contract, at each of its returns: refused, of another length, or written (ReplyLaws).
 use mathlib.Core.Path.{sym, _∙_}
 use Rattle.generator.specs.FileLaws.{length-file}
 use Rattle.generator.specs.ReplyLaws.{not-refused, some-controllers, as-long, refused-reply, length-reply, written-reply}
@@ -6,14 +7,8 @@ use borrow.Author.Needs.{needs}
 use Rattle.generator.proofs.file.generate.Statement.{statement}
 use Rattle.generator.proofs.file.generate.Tie as tie
 
-refusal-of-requires : tie.Need-refusal-of-requires
-refusal-of-requires c κs = search needs
-
 returns : tie.Need-returns
 returns c = refused-reply _ _ _ _ _ _ (c .before .refusal-of .ensures) (c .if1 .taken)
-
-file-length-requires : tie.Need-file-length-requires
-file-length-requires c κs = search needs
 
 returns-2 : tie.Need-returns-2
 returns-2 c =
@@ -25,9 +20,6 @@ put-file-requires : tie.Need-put-file-requires
 put-file-requires c κs =
     let asking = c .before .before .before .before in
     some-controllers _ _ _ _ (not-refused _ _ _ _ _ (asking .refusal-of .ensures) (c .before .before .before .if1 .left))
-
-same-length : tie.Need-same-length
-same-length c = search needs
 
 returns-3 : tie.Need-returns-3
 returns-3 c =
@@ -41,10 +33,10 @@ pub generate-spec : {M : Type 1} → statement M
 generate-spec =
     tie.close
     (tie.spec
-    refusal-of-requires
+    (λ c κs. search needs)
     returns
-    file-length-requires
+    (λ c κs. search needs)
     returns-2
     put-file-requires
-    same-length
+    (λ c. search needs)
     returns-3)

@@ -1,3 +1,4 @@
+-- `generator::put_drawn` meets its contract. The invariant: what is written and what is left to draw are the whole (Remaining).
 use native.Mathlib.Omega.{arith}
 use borrow.Author.Needs.{needs}
 use Rattle.text.specs.WritingLaws.{put-length}
@@ -14,18 +15,6 @@ abbrev μ-loop : tie.MeasureT-loop
 
 loop-holds : tie.Need-loop-holds Inv-loop μ-loop
 loop-holds c = none-yet _ _ _ (omega arith) (omega arith)
-
-drawn-event-requires : tie.Need-drawn-event-requires Inv-loop μ-loop
-drawn-event-requires c κs = search needs
-
-put-record-requires : tie.Need-put-record-requires Inv-loop μ-loop
-put-record-requires c κs = search needs
-
-sub-left : tie.Need-sub-left Inv-loop μ-loop
-sub-left c = search needs
-
-loop-less : tie.Need-loop-less Inv-loop μ-loop
-loop-less c = omega arith
 
 loop-again : tie.Need-loop-again Inv-loop μ-loop
 loop-again c =
@@ -49,10 +38,10 @@ put-drawn-spec =
     Inv-loop
     μ-loop
     loop-holds
-    drawn-event-requires
-    put-record-requires
-    sub-left
-    loop-less
+    (λ c κs. search needs)
+    (λ c κs. search needs)
+    (λ c. search needs)
+    (λ c. omega arith)
     loop-again
     same-length
     returns)

@@ -4,21 +4,6 @@ use borrow.Author.Needs.{needs}
 use Rattle.generator.proofs.file.put_file.Statement.{statement}
 use Rattle.generator.proofs.file.put_file.Tie as tie
 
-put-record-requires : tie.Need-put-record-requires
-put-record-requires c κs = search needs
-
-put-record-requires-2 : tie.Need-put-record-requires-2
-put-record-requires-2 c κs = search needs
-
-put-votes-requires : tie.Need-put-votes-requires
-put-votes-requires c κs = search needs
-
-put-drawn-requires : tie.Need-put-drawn-requires
-put-drawn-requires c κs = search needs
-
-same-length : tie.Need-same-length
-same-length c = search needs
-
 returns : tie.Need-returns
 returns c =
     let drawing = c .before .before in
@@ -31,9 +16,9 @@ pub put-file-spec : {M : Type 1} → statement M
 put-file-spec =
     tie.close
     (tie.spec
-    put-record-requires
-    put-record-requires-2
-    put-votes-requires
-    put-drawn-requires
-    same-length
+    (λ c κs. search needs)
+    (λ c κs. search needs)
+    (λ c κs. search needs)
+    (λ c κs. search needs)
+    (λ c. search needs)
     returns)

@@ -5,9 +5,6 @@ use Rattle.generator.specs.File.{refusalOf}
 use Rattle.generator.proofs.file.refusal_of.Statement.{statement}
 use Rattle.generator.proofs.file.refusal_of.Tie as tie
 
-sizes-in-range-requires : tie.Need-sizes-in-range-requires
-sizes-in-range-requires c κs = search needs
-
 returns : tie.Need-returns
 unfolding refusalOf firstNo unless
 returns c = simp (← c .before .sizes-in-range .ensures, not-true (c .before .sizes-in-range .result) (c .if1 .taken))
@@ -25,4 +22,4 @@ unfolding refusalOf firstNo unless
 returns-4 c = simp (← c .before .before .before .sizes-in-range .ensures, not-false (c .before .before .before .sizes-in-range .result) (c .before .before .if1 .left), ne-eqb _ _ (c .before .if2 .left), le-leb _ _ (c .if3 .left))
 
 pub refusal-of-spec : {M : Type 1} → statement M
-refusal-of-spec = tie.close (tie.spec sizes-in-range-requires returns returns-2 returns-3 returns-4)
+refusal-of-spec = tie.close (tie.spec (λ c κs. search needs) returns returns-2 returns-3 returns-4)

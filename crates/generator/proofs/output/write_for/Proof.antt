@@ -7,42 +7,18 @@ use borrow.Author.Needs.{needs}
 use Rattle.generator.proofs.output.write_for.Statement.{statement}
 use Rattle.generator.proofs.output.write_for.Tie as tie
 
-refusal-of-requires : tie.Need-refusal-of-requires
-refusal-of-requires c κs = search needs
-
-cast-write-refusal : tie.Need-cast-write-refusal
-cast-write-refusal c = search needs
-
-write-refusal-requires : tie.Need-write-refusal-requires
-write-refusal-requires c κs = search needs
-
-same-length : tie.Need-same-length
-same-length c = search needs
-
 returns : tie.Need-returns
 returns c =
     let e = sym (refused-output _ _ _ _ _ (c .before .before .before .before .before .refusal-of .ensures) (c .before .before .before .before .if1 .taken)) in
     same-fitted _ e (c .before .before .write-refusal .ensures)
-
-file-length-requires : tie.Need-file-length-requires
-file-length-requires c κs = search needs
 
 returns-2 : tie.Need-returns-2
 returns-2 c =
     let asking = c .before .before .before in
     short-output _ _ _ _ _ _ _ (asking .refusal-of .ensures) (c .before .before .if1 .left) (c .before .file-length .ensures) (c .if2 .taken)
 
-slice-relend-prefix-generate : tie.Need-slice-relend-prefix-generate
-slice-relend-prefix-generate c = search needs
-
 slice-aggregate-generate : tie.Need-slice-aggregate-generate
 slice-aggregate-generate c = sym (length-take-le _ _ (c .before .if2 .left))
-
-generate-requires : tie.Need-generate-requires
-generate-requires c κs = search needs
-
-same-length-2 : tie.Need-same-length-2
-same-length-2 c = search needs
 
 returns-3 : tie.Need-returns-3
 returns-3 c =
@@ -55,15 +31,15 @@ pub write-for-spec : {M : Type 1} → statement M
 write-for-spec =
     tie.close
     (tie.spec
-    refusal-of-requires
-    cast-write-refusal
-    write-refusal-requires
-    same-length
+    (λ c κs. search needs)
+    (λ c. search needs)
+    (λ c κs. search needs)
+    (λ c. search needs)
     returns
-    file-length-requires
+    (λ c κs. search needs)
     returns-2
-    slice-relend-prefix-generate
+    (λ c. search needs)
     slice-aggregate-generate
-    generate-requires
-    same-length-2
+    (λ c κs. search needs)
+    (λ c. search needs)
     returns-3)

@@ -11,9 +11,6 @@ use Rattle.ground.proofs.mask.full_to.Tie as tie
 returns : tie.Need-returns
 returns c = sym (full-past 32 _ _ (c .before .fits .m .fits) (c .if1 .taken))
 
-power-requires : tie.Need-power-requires
-power-requires c κs = search needs
-
 sub-result : tie.Need-sub-result
 sub-result c = omega (arith, pow-pos (c .before .before .args .n))
 
@@ -24,4 +21,4 @@ returns-2 : tie.Need-returns-2
 returns-2 c = filled _ _ _ (c .power .ensures)
 
 pub full-to-spec : {M : Type 1} → statement M
-full-to-spec = tie.close (tie.spec returns power-requires sub-result sub-result-2 returns-2)
+full-to-spec = tie.close (tie.spec returns (λ c κs. search needs) sub-result sub-result-2 returns-2)

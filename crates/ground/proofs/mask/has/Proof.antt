@@ -15,14 +15,8 @@ returns c = let z : c .before .args .k ≡ 0 = omega arith in rw z
 returns-2 : tie.Need-returns-2
 returns-2 c = sym (has-past 32 _ _ (c .before .before .fits .m .fits) (c .if2 .taken))
 
-cast-result : tie.Need-cast-result
-cast-result c = search needs
-
-shr-result : tie.Need-shr-result
-shr-result c = search needs
-
 returns-3 : tie.Need-returns-3
 returns-3 c = sym (has-at _ _ (omega arith))
 
 pub has-spec : {M : Type 1} → statement M
-has-spec = tie.close (tie.spec returns returns-2 cast-result shr-result returns-3)
+has-spec = tie.close (tie.spec returns returns-2 (λ c. search needs) (λ c. search needs) returns-3)

@@ -13,14 +13,8 @@ returns c = let z : c .before .args .k ≡ 0 = omega arith in rw (z, insert-zero
 returns-2 : tie.Need-returns-2
 returns-2 c = sym (insert-past _ _ (c .if2 .taken))
 
-cast-result : tie.Need-cast-result
-cast-result c = search needs
-
-shl-result : tie.Need-shl-result
-shl-result c = search needs
-
 returns-3 : tie.Need-returns-3
 returns-3 c = inserted _ _ (omega arith) (omega arith)
 
 pub insert-spec : {M : Type 1} → statement M
-insert-spec = tie.close (tie.spec returns returns-2 cast-result shl-result returns-3)
+insert-spec = tie.close (tie.spec returns returns-2 (λ c. search needs) (λ c. search needs) returns-3)

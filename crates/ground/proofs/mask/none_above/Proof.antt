@@ -10,12 +10,9 @@ use Rattle.ground.proofs.mask.none_above.Tie as tie
 returns : tie.Need-returns
 returns c = sym (none-above-past 32 _ _ (c .before .fits .m .fits) (omega arith))
 
-power-requires : tie.Need-power-requires
-power-requires c κs = search needs
-
 returns-2 : tie.Need-returns-2
 unfolding noneAbove
 returns-2 c = rw (c .power .ensures)
 
 pub none-above-spec : {M : Type 1} → statement M
-none-above-spec = tie.close (tie.spec returns power-requires returns-2)
+none-above-spec = tie.close (tie.spec returns (λ c κs. search needs) returns-2)

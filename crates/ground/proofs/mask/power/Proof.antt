@@ -5,11 +5,8 @@ use borrow.Author.Needs.{needs}
 use Rattle.ground.proofs.mask.power.Statement.{statement}
 use Rattle.ground.proofs.mask.power.Tie as tie
 
-shl-result : tie.Need-shl-result
-shl-result c = search needs
-
 returns : tie.Need-returns
 returns c = shifted 64 (c .args .n) (omega arith)
 
 pub power-spec : {M : Type 1} → statement M
-power-spec = tie.close (tie.spec shl-result returns)
+power-spec = tie.close (tie.spec (λ c. search needs) returns)

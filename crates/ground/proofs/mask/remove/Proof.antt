@@ -4,12 +4,9 @@ use borrow.Author.Needs.{needs}
 use Rattle.ground.proofs.mask.remove.Statement.{statement}
 use Rattle.ground.proofs.mask.remove.Tie as tie
 
-insert-requires : tie.Need-insert-requires
-insert-requires c κs = search needs
-
 returns : tie.Need-returns
 unfolding remove
 returns c = simp (c .insert .ensures)
 
 pub remove-spec : {M : Type 1} → statement M
-remove-spec = tie.close (tie.spec insert-requires returns)
+remove-spec = tie.close (tie.spec (λ c κs. search needs) returns)

@@ -14,9 +14,6 @@ cast-result c = omega (arith, ones-le 32 (c .before .args .m) (c .before .fits .
 returns : tie.Need-returns
 returns c = counted-all _ _ (c .before .fits .m .fits) (omega arith)
 
-power-requires : tie.Need-power-requires
-power-requires c κs = search needs
-
 sub-low : tie.Need-sub-low
 sub-low c = omega (arith, pow-pos (c .before .before .args .n))
 
@@ -27,4 +24,4 @@ returns-2 : tie.Need-returns-2
 returns-2 c = counted _ _ _ (c .power .ensures)
 
 pub size-spec : {M : Type 1} → statement M
-size-spec = tie.close (tie.spec cast-result returns power-requires sub-low cast-result-2 returns-2)
+size-spec = tie.close (tie.spec cast-result returns (λ c κs. search needs) sub-low cast-result-2 returns-2)

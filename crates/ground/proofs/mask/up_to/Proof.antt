@@ -12,9 +12,6 @@ use Rattle.ground.proofs.mask.up_to.Tie as tie
 returns : tie.Need-returns
 returns c = sym (up-to-wide _ (c .if1 .taken))
 
-shl-result : tie.Need-shl-result
-shl-result c = search needs
-
 sub-result : tie.Need-sub-result
 sub-result c = rw (shifted 32 (c .before .args .n) (omega arith)) (omega (arith, pow-pos (c .before .args .n)))
 
@@ -22,4 +19,4 @@ returns-2 : tie.Need-returns-2
 returns-2 c = ap (λ (p : ℕ). p - 1) (shifted 32 (c .before .args .n) (omega arith)) ∙ sym (up-to-ones _ (omega arith))
 
 pub up-to-spec : {M : Type 1} → statement M
-up-to-spec = tie.close (tie.spec returns shl-result sub-result returns-2)
+up-to-spec = tie.close (tie.spec returns (λ c. search needs) sub-result returns-2)

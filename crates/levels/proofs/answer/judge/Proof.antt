@@ -1,3 +1,4 @@
+-- `levels::judge` meets its contract: each return is one case of `willingness` (HeightLaws), which is right of every pair of levels (`right-answer`).
 use borrow.Author.Needs.{needs}
 use borrow.Author.Tests.{not-true, not-false}
 use mathlib.Core.Path.{sym, _∙_}
@@ -6,21 +7,9 @@ use Rattle.levels.proofs.HeightLaws.{listed-true, above-outside, below-
 use Rattle.levels.proofs.answer.judge.Statement.{statement}
 use Rattle.levels.proofs.answer.judge.Tie as tie
 
-raised-range-requires : tie.Need-raised-range-requires
-raised-range-requires c κs = search needs
-
-raised-range-requires-2 : tie.Need-raised-range-requires-2
-raised-range-requires-2 c κs = search needs
-
-both-listed-requires : tie.Need-both-listed-requires
-both-listed-requires c κs = search needs
-
 returns : tie.Need-returns
 returns c =
     right-answer _ _ _ (above-outside _ _ _ _ (c .before .before .before .raised-range .ensures) (c .before .before .raised-range2 .ensures) (sym (c .before .both-listed .ensures) ∙ not-true _ (c .if1 .taken)))
-
-both-listed-requires-2 : tie.Need-both-listed-requires-2
-both-listed-requires-2 c κs = search needs
 
 returns-2 : tie.Need-returns-2
 returns-2 c =
@@ -28,28 +17,42 @@ returns-2 c =
 
 returns-3 : tie.Need-returns-3
 returns-3 c =
-    right-answer _ _ _ (above-crossed _ _ _ _ (c .before .before .before .before .before .before .before .raised-range .ensures) (c .before .before .before .before .before .before .raised-range2 .ensures) (sym (c .before .before .before .before .before .both-listed .ensures) ∙ not-false _ (c .before .before .before .before .if1 .left)) (sym (c .before .before .before .both-listed2 .ensures) ∙ not-false _ (c .before .before .if2 .left)) (c .if3 .taken))
+    let at-if2 = c .before .before in
+    let at-if1 = at-if2 .before .before in
+    let at-raised-range2 = at-if1 .before .before in
+    right-answer _ _ _ (above-crossed _ _ _ _ (at-raised-range2 .before .raised-range .ensures) (at-raised-range2 .raised-range2 .ensures) (sym (at-if1 .before .both-listed .ensures) ∙ not-false _ (at-if1 .if1 .left)) (sym (at-if2 .before .both-listed2 .ensures) ∙ not-false _ (at-if2 .if2 .left)) (c .if3 .taken))
 
 returns-4 : tie.Need-returns-4
 returns-4 c =
-    right-answer _ _ _ (below-crossed _ _ _ _ (c .before .before .before .before .before .before .before .before .before .raised-range .ensures) (c .before .before .before .before .before .before .before .before .raised-range2 .ensures) (sym (c .before .before .before .before .before .before .before .both-listed .ensures) ∙ not-false _ (c .before .before .before .before .before .before .if1 .left)) (sym (c .before .before .before .before .before .both-listed2 .ensures) ∙ not-false _ (c .before .before .before .before .if2 .left)) (c .before .before .if3 .left) (c .if4 .taken))
+    let at-if3 = c .before .before in
+    let at-if2 = at-if3 .before .before in
+    let at-if1 = at-if2 .before .before in
+    let at-raised-range2 = at-if1 .before .before in
+    right-answer _ _ _ (below-crossed _ _ _ _ (at-raised-range2 .before .raised-range .ensures) (at-raised-range2 .raised-range2 .ensures) (sym (at-if1 .before .both-listed .ensures) ∙ not-false _ (at-if1 .if1 .left)) (sym (at-if2 .before .both-listed2 .ensures) ∙ not-false _ (at-if2 .if2 .left)) (at-if3 .if3 .left) (c .if4 .taken))
 
 by-heights-requires : tie.Need-by-heights-requires
-by-heights-requires c κs = (listed-true _ (sym (c .before .before .before .before .before .before .before .both-listed .ensures) ∙ not-false _ (c .before .before .before .before .before .before .if1 .left)), listed-true _ (sym (c .before .before .before .before .before .both-listed2 .ensures) ∙ not-false _ (c .before .before .before .before .if2 .left)))
+by-heights-requires c κs =
+    let at-if2 = c .before .before .before .before in
+    let at-if1 = at-if2 .before .before in
+    (listed-true _ (sym (at-if1 .before .both-listed .ensures) ∙ not-false _ (at-if1 .if1 .left)), listed-true _ (sym (at-if2 .before .both-listed2 .ensures) ∙ not-false _ (at-if2 .if2 .left)))
 
 returns-5 : tie.Need-returns-5
 returns-5 c =
-    right-answer _ _ _ (c .by-heights .ensures ∙ answered _ _ _ _ (c .before .before .before .before .before .before .before .before .before .before .raised-range .ensures) (c .before .before .before .before .before .before .before .before .before .raised-range2 .ensures) (sym (c .before .before .before .before .before .before .before .before .both-listed .ensures) ∙ not-false _ (c .before .before .before .before .before .before .before .if1 .left)) (sym (c .before .before .before .before .before .before .both-listed2 .ensures) ∙ not-false _ (c .before .before .before .before .before .if2 .left)) (c .before .before .before .if3 .left) (c .before .if4 .left))
+    let at-if3 = c .before .before .before in
+    let at-if2 = at-if3 .before .before in
+    let at-if1 = at-if2 .before .before in
+    let at-raised-range2 = at-if1 .before .before in
+    right-answer _ _ _ (c .by-heights .ensures ∙ answered _ _ _ _ (at-raised-range2 .before .raised-range .ensures) (at-raised-range2 .raised-range2 .ensures) (sym (at-if1 .before .both-listed .ensures) ∙ not-false _ (at-if1 .if1 .left)) (sym (at-if2 .before .both-listed2 .ensures) ∙ not-false _ (at-if2 .if2 .left)) (at-if3 .if3 .left) (c .before .if4 .left))
 
 pub judge-spec : {M : Type 1} → statement M
 judge-spec =
     tie.close
     (tie.spec
-    raised-range-requires
-    raised-range-requires-2
-    both-listed-requires
+    (λ c κs. search needs)
+    (λ c κs. search needs)
+    (λ c κs. search needs)
     returns
-    both-listed-requires-2
+    (λ c κs. search needs)
     returns-2
     returns-3
     returns-4

@@ -3,35 +3,8 @@ use borrow.Author.Needs.{needs}
 use Rattle.levels.proofs.answer.vote.Statement.{statement}
 use Rattle.levels.proofs.answer.vote.Tie as tie
 
-enum-told : tie.Need-enum-told
-enum-told c = search needs
-
-enum-told-2 : tie.Need-enum-told-2
-enum-told-2 c = search needs
-
-enum-told-3 : tie.Need-enum-told-3
-enum-told-3 c = search needs
-
-enum-told-4 : tie.Need-enum-told-4
-enum-told-4 c = search needs
-
-returns : tie.Need-returns
-unfolding votes
-returns c = simp (c .enum-told .given .1)
-
-returns-2 : tie.Need-returns-2
-unfolding votes
-returns-2 c = simp (c .enum-told2 .given .1)
-
-returns-3 : tie.Need-returns-3
-unfolding votes
-returns-3 c = simp (c .enum-told3 .given .1)
-
-returns-4 : tie.Need-returns-4
-unfolding votes
-returns-4 c = simp (c .enum-told4 .given .1)
-
 pub vote-spec : {M : Type 1} → statement M
+unfolding votes
 vote-spec =
     tie.close
-    (tie.spec enum-told enum-told-2 enum-told-3 enum-told-4 returns returns-2 returns-3 returns-4)
+    (tie.spec (λ c. search needs) (λ c. search needs) (λ c. search needs) (λ c. search needs) (λ c. simp (c .enum-told .given .1)) (λ c. simp (c .enum-told2 .given .1)) (λ c. simp (c .enum-told3 .given .1)) (λ c. simp (c .enum-told4 .given .1)))

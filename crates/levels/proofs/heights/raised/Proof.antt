@@ -3,11 +3,8 @@ use borrow.Author.Needs.{needs}
 use Rattle.levels.proofs.heights.raised.Statement.{statement}
 use Rattle.levels.proofs.heights.raised.Tie as tie
 
-wrapping-add-u32-requires : tie.Need-wrapping-add-u32-requires
-wrapping-add-u32-requires c κs = search needs
-
 returns : tie.Need-returns
 returns c = raised _ _ (c .before .fits .level .fits) (c .wrapping-add-u32 .ensures)
 
 pub raised-spec : {M : Type 1} → statement M
-raised-spec = tie.close (tie.spec wrapping-add-u32-requires returns)
+raised-spec = tie.close (tie.spec (λ c κs. search needs) returns)

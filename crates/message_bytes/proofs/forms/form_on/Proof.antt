@@ -8,9 +8,6 @@ returns : tie.Need-returns
 unfolding formFor
 returns c = simp (eq-eqb _ _ (c .if1 .taken))
 
-form-of-twenty-requires : tie.Need-form-of-twenty-requires
-form-of-twenty-requires c κs = search needs
-
 returns-2 : tie.Need-returns-2
 unfolding formFor
 returns-2 c = simp (ne-eqb _ _ (c .before .before .if1 .left), eq-eqb _ _ (c .before .if2 .taken), c .form-of-twenty .ensures)
@@ -20,4 +17,4 @@ unfolding formFor
 returns-3 c = simp (ne-eqb _ _ (c .before .if1 .left), ne-eqb _ _ (c .if2 .left))
 
 pub form-on-spec : {M : Type 1} → statement M
-form-on-spec = tie.close (tie.spec returns form-of-twenty-requires returns-2 returns-3)
+form-on-spec = tie.close (tie.spec returns (λ c κs. search needs) returns-2 returns-3)

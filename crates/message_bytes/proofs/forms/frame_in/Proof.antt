@@ -4,19 +4,10 @@ use borrow.Author.Needs.{needs}
 use Rattle.message_bytes.proofs.forms.frame_in.Statement.{statement}
 use Rattle.message_bytes.proofs.forms.frame_in.Tie as tie
 
-length-of-requires : tie.Need-length-of-requires
-length-of-requires c κs = search needs
-
-mark-of-requires : tie.Need-mark-of-requires
-mark-of-requires c κs = search needs
-
-frame-question-requires : tie.Need-frame-question-requires
-frame-question-requires c κs = search needs
-
 returns : tie.Need-returns
 returns c =
     let start = c .before .before .before .before .args in
     framed (start .form) (start .s .now) _ _ _ (c .before .before .length-of .ensures) (c .before .mark-of .ensures) (c .frame-question .ensures)
 
 pub frame-in-spec : {M : Type 1} → statement M
-frame-in-spec = tie.close (tie.spec length-of-requires mark-of-requires frame-question-requires returns)
+frame-in-spec = tie.close (tie.spec (λ c κs. search needs) (λ c κs. search needs) (λ c κs. search needs) returns)

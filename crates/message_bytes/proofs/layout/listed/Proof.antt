@@ -3,18 +3,6 @@ use borrow.Author.Needs.{needs}
 use Rattle.message_bytes.proofs.layout.listed.Statement.{statement}
 use Rattle.message_bytes.proofs.layout.listed.Tie as tie
 
-enum-told : tie.Need-enum-told
-enum-told c = search needs
-
-is-kind-requires : tie.Need-is-kind-requires
-is-kind-requires c κs = search needs
-
-enum-told-2 : tie.Need-enum-told-2
-enum-told-2 c = search needs
-
-ballot-listed-requires : tie.Need-ballot-listed-requires
-ballot-listed-requires c κs = search needs
-
 returns : tie.Need-returns
 unfolding listedIn
 returns c = simp (c .before .before .before .enum-told .given .1, ← c .before .before .is-kind .ensures, c .before .if1 .taken)
@@ -31,10 +19,10 @@ pub listed-spec : {M : Type 1} → statement M
 listed-spec =
     tie.close
     (tie.spec
-    enum-told
-    is-kind-requires
-    enum-told-2
-    ballot-listed-requires
+    (λ c. search needs)
+    (λ c κs. search needs)
+    (λ c. search needs)
+    (λ c κs. search needs)
     returns
     returns-2
     returns-3)

@@ -3,18 +3,6 @@ use borrow.Author.Needs.{needs}
 use Rattle.message_bytes.proofs.layout.telegram_of.Statement.{statement}
 use Rattle.message_bytes.proofs.layout.telegram_of.Tie as tie
 
-enum-told : tie.Need-enum-told
-enum-told c = search needs
-
-message-of-requires : tie.Need-message-of-requires
-message-of-requires c κs = search needs
-
-enum-told-2 : tie.Need-enum-told-2
-enum-told-2 c = search needs
-
-ballot-message-of-requires : tie.Need-ballot-message-of-requires
-ballot-message-of-requires c κs = search needs
-
 returns : tie.Need-returns
 unfolding telegramOf
 returns c = simp (c .before .enum-told .given .1, c .message-of .ensures)
@@ -27,9 +15,9 @@ pub telegram-of-spec : {M : Type 1} → statement M
 telegram-of-spec =
     tie.close
     (tie.spec
-    enum-told
-    message-of-requires
-    enum-told-2
-    ballot-message-of-requires
+    (λ c. search needs)
+    (λ c κs. search needs)
+    (λ c. search needs)
+    (λ c κs. search needs)
     returns
     returns-2)

@@ -4,26 +4,8 @@ use borrow.Author.Needs.{needs}
 use Rattle.message_bytes.proofs.writing.write_votes.Statement.{statement}
 use Rattle.message_bytes.proofs.writing.write_votes.Tie as tie
 
-enum-told : tie.Need-enum-told
-enum-told c = search needs
-
-write-short-requires : tie.Need-write-short-requires
-write-short-requires c κs = search needs
-
-enum-told-2 : tie.Need-enum-told-2
-enum-told-2 c = search needs
-
-write-long-requires : tie.Need-write-long-requires
-write-long-requires c κs = search needs
-
-same-length : tie.Need-same-length
-same-length c = search needs
-
 returns : tie.Need-returns
 returns c = let x = c .before .before .before .before .before .before .before .args in in-width Votes (x .width) _ (x .x) _ _ (x .refusal) _ (c .before .before .before .before .enum-told .given .1) (c .before .before .write-short .ensures)
-
-same-length-2 : tie.Need-same-length-2
-same-length-2 c = search needs
 
 returns-2 : tie.Need-returns-2
 returns-2 c = let x = c .before .before .before .before .before .before .before .args in in-width Votes (x .width) _ (x .x) _ _ (x .refusal) _ (c .before .before .before .before .enum-told2 .given .1) (c .before .before .write-long .ensures)
@@ -32,11 +14,11 @@ pub write-votes-spec : {M : Type 1} → statement M
 write-votes-spec =
     tie.close
     (tie.spec
-    enum-told
-    write-short-requires
-    enum-told-2
-    write-long-requires
-    same-length
+    (λ c. search needs)
+    (λ c κs. search needs)
+    (λ c. search needs)
+    (λ c κs. search needs)
+    (λ c. search needs)
     returns
-    same-length-2
+    (λ c. search needs)
     returns-2)

@@ -6,24 +6,12 @@ use borrow.Author.Needs.{needs}
 use Rattle.message_record.proofs.ballots.ballot_question.Statement.{statement}
 use Rattle.message_record.proofs.ballots.ballot_question.Tie as tie
 
-head-question-requires : tie.Need-head-question-requires
-head-question-requires c κs = search needs
-
 returns : tie.Need-returns
 returns c = ballot-stopped (c .before .before .args .b) _ (c .before .head-question .ensures) (c .if1 .taken)
-
-ballot-suits-requires : tie.Need-ballot-suits-requires
-ballot-suits-requires c κs = search needs
 
 returns-2 : tie.Need-returns-2
 unfolding aboutBallot firstNo unless
 returns-2 c = ballot-past (c .before .before .before .before .args .b) _ _ (c .before .before .before .head-question .ensures) (c .before .before .if1 .left) (simp (← c .before .ballot-suits .ensures, not-true (c .before .ballot-suits .result) (c .if2 .taken)))
-
-cast-is-ballot : tie.Need-cast-is-ballot
-cast-is-ballot c = search needs
-
-is-ballot-requires : tie.Need-is-ballot-requires
-is-ballot-requires c κs = search needs
 
 returns-3 : tie.Need-returns-3
 unfolding aboutBallot firstNo unless
@@ -37,11 +25,11 @@ pub ballot-question-spec : {M : Type 1} → statement M
 ballot-question-spec =
     tie.close
     (tie.spec
-    head-question-requires
+    (λ c κs. search needs)
     returns
-    ballot-suits-requires
+    (λ c κs. search needs)
     returns-2
-    cast-is-ballot
-    is-ballot-requires
+    (λ c. search needs)
+    (λ c κs. search needs)
     returns-3
     returns-4)

@@ -12,12 +12,9 @@ returns-2 : tie.Need-returns-2
 unfolding ballotSuits
 returns-2 c = simp (eq-eqb _ _ (c .before .before .if1 .left), ne-eqb _ _ (c .if2 .taken))
 
-tells-for-kind-requires : tie.Need-tells-for-kind-requires
-tells-for-kind-requires c κs = search needs
-
 returns-3 : tie.Need-returns-3
 unfolding ballotSuits
 returns-3 c = simp (eq-eqb _ _ (c .before .before .before .if1 .left), eq-eqb _ _ (c .before .if2 .left), c .tells-for-kind .ensures)
 
 pub ballot-suits-spec : {M : Type 1} → statement M
-ballot-suits-spec = tie.close (tie.spec returns returns-2 tells-for-kind-requires returns-3)
+ballot-suits-spec = tie.close (tie.spec returns returns-2 (λ c κs. search needs) returns-3)

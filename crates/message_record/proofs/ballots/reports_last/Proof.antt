@@ -4,15 +4,9 @@ use borrow.Author.Needs.{needs}
 use Rattle.message_record.proofs.ballots.reports_last.Statement.{statement}
 use Rattle.message_record.proofs.ballots.reports_last.Tie as tie
 
-is-none-requires : tie.Need-is-none-requires
-is-none-requires c κs = search needs
-
 returns : tie.Need-returns
 unfolding reportsLast
 returns c = simp (eq-eqb _ _ (c .before .if1 .taken), c .is-none .ensures)
-
-is-none-requires-2 : tie.Need-is-none-requires-2
-is-none-requires-2 c κs = search needs
 
 returns-2 : tie.Need-returns-2
 unfolding reportsLast
@@ -24,4 +18,4 @@ returns-3 c = simp (ne-eqb _ _ (c .before .before .if1 .left), ← c .before .is
 
 pub reports-last-spec : {M : Type 1} → statement M
 reports-last-spec =
-    tie.close (tie.spec is-none-requires returns is-none-requires-2 returns-2 returns-3)
+    tie.close (tie.spec (λ c κs. search needs) returns (λ c κs. search needs) returns-2 returns-3)

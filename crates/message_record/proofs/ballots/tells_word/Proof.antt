@@ -4,9 +4,6 @@ use borrow.Author.Needs.{needs}
 use Rattle.message_record.proofs.ballots.tells_word.Statement.{statement}
 use Rattle.message_record.proofs.ballots.tells_word.Tie as tie
 
-is-none-requires : tie.Need-is-none-requires
-is-none-requires c κs = search needs
-
 returns : tie.Need-returns
 unfolding tellsWord
 returns c = simp (eq-eqb _ _ (c .before .if1 .taken), c .is-none .ensures)
@@ -16,4 +13,4 @@ unfolding tellsWord
 returns-2 c = simp (ne-eqb _ _ (c .if1 .left))
 
 pub tells-word-spec : {M : Type 1} → statement M
-tells-word-spec = tie.close (tie.spec is-none-requires returns returns-2)
+tells-word-spec = tie.close (tie.spec (λ c κs. search needs) returns returns-2)

@@ -3,12 +3,6 @@ use Rattle.message_record.specs.Messages.{bitsInRange}
 use Rattle.message_record.proofs.questions.bits_in_range.Statement.{statement}
 use Rattle.message_record.proofs.questions.bits_in_range.Tie as tie
 
-none-above-requires : tie.Need-none-above-requires
-none-above-requires c κs = search needs
-
-none-above-requires-2 : tie.Need-none-above-requires-2
-none-above-requires-2 c κs = search needs
-
 returns : tie.Need-returns
 unfolding bitsInRange
 returns c = simp (← c .before .before .none-above .ensures, c .before .if1 .taken, c .none-above2 .ensures)
@@ -19,4 +13,4 @@ returns-2 c = simp (← c .before .none-above .ensures, c .if1 .left)
 
 pub bits-in-range-spec : {M : Type 1} → statement M
 bits-in-range-spec =
-    tie.close (tie.spec none-above-requires none-above-requires-2 returns returns-2)
+    tie.close (tie.spec (λ c κs. search needs) (λ c κs. search needs) returns returns-2)

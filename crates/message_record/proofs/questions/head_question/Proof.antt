@@ -4,15 +4,9 @@ use borrow.Author.Needs.{needs}
 use Rattle.message_record.proofs.questions.head_question.Statement.{statement}
 use Rattle.message_record.proofs.questions.head_question.Tie as tie
 
-sizes-in-range-requires : tie.Need-sizes-in-range-requires
-sizes-in-range-requires c κs = search needs
-
 returns : tie.Need-returns
 unfolding firstNo unless
 returns c = simp (← c .before .sizes-in-range .ensures, not-true (c .before .sizes-in-range .result) (c .if1 .taken))
-
-different-controllers-requires : tie.Need-different-controllers-requires
-different-controllers-requires c κs = search needs
 
 returns-2 : tie.Need-returns-2
 unfolding firstNo unless
@@ -30,9 +24,9 @@ pub head-question-spec : {M : Type 1} → statement M
 head-question-spec =
     tie.close
     (tie.spec
-    sizes-in-range-requires
+    (λ c κs. search needs)
     returns
-    different-controllers-requires
+    (λ c κs. search needs)
     returns-2
     returns-3
     returns-4)

@@ -6,21 +6,12 @@ use borrow.Author.Needs.{needs}
 use Rattle.message_record.proofs.questions.question.Statement.{statement}
 use Rattle.message_record.proofs.questions.question.Tie as tie
 
-head-question-requires : tie.Need-head-question-requires
-head-question-requires c κs = search needs
-
 returns : tie.Need-returns
 returns c = message-stopped (c .before .before .args .m) _ (c .before .head-question .ensures) (c .if1 .taken)
-
-suits-requires : tie.Need-suits-requires
-suits-requires c κs = search needs
 
 returns-2 : tie.Need-returns-2
 unfolding aboutMessage firstNo unless
 returns-2 c = message-past (c .before .before .before .before .args .m) _ _ (c .before .before .before .head-question .ensures) (c .before .before .if1 .left) (simp (← c .before .suits .ensures, not-true (c .before .suits .result) (c .if2 .taken)))
-
-route-requires : tie.Need-route-requires
-route-requires c κs = search needs
 
 returns-3 : tie.Need-returns-3
 unfolding aboutMessage firstNo unless
@@ -34,10 +25,10 @@ pub question-spec : {M : Type 1} → statement M
 question-spec =
     tie.close
     (tie.spec
-    head-question-requires
+    (λ c κs. search needs)
     returns
-    suits-requires
+    (λ c κs. search needs)
     returns-2
-    route-requires
+    (λ c κs. search needs)
     returns-3
     returns-4)

@@ -4,22 +4,13 @@ use Rattle.message_record.specs.Messages.{suits}
 use Rattle.message_record.proofs.questions.suits.Statement.{statement}
 use Rattle.message_record.proofs.questions.suits.Tie as tie
 
-bits-in-range-requires : tie.Need-bits-in-range-requires
-bits-in-range-requires c κs = search needs
-
 returns : tie.Need-returns
 unfolding suits
 returns c = simp (← c .before .bits-in-range .ensures, not-true (c .before .bits-in-range .result) (c .if1 .taken))
 
-within-requires : tie.Need-within-requires
-within-requires c κs = search needs
-
 returns-2 : tie.Need-returns-2
 unfolding suits
 returns-2 c = simp (← c .before .before .before .before .bits-in-range .ensures, not-false (c .before .before .before .before .bits-in-range .result) (c .before .before .before .if1 .left), ← c .before .within .ensures, not-true (c .before .within .result) (c .if2 .taken))
-
-knows-for-kind-requires : tie.Need-knows-for-kind-requires
-knows-for-kind-requires c κs = search needs
 
 returns-3 : tie.Need-returns-3
 unfolding suits
@@ -29,9 +20,9 @@ pub suits-spec : {M : Type 1} → statement M
 suits-spec =
     tie.close
     (tie.spec
-    bits-in-range-requires
+    (λ c κs. search needs)
     returns
-    within-requires
+    (λ c κs. search needs)
     returns-2
-    knows-for-kind-requires
+    (λ c κs. search needs)
     returns-3)

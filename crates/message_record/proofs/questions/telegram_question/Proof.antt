@@ -2,18 +2,6 @@ use borrow.Author.Needs.{needs}
 use Rattle.message_record.proofs.questions.telegram_question.Statement.{statement}
 use Rattle.message_record.proofs.questions.telegram_question.Tie as tie
 
-enum-known-t : tie.Need-enum-known-t
-enum-known-t c = search needs
-
-question-requires : tie.Need-question-requires
-question-requires c κs = search needs
-
-enum-known-t-2 : tie.Need-enum-known-t-2
-enum-known-t-2 c = search needs
-
-ballot-question-requires : tie.Need-ballot-question-requires
-ballot-question-requires c κs = search needs
-
 returns : tie.Need-returns
 returns c = simp (c .before .before .t .given .1, c .question .ensures)
 
@@ -24,9 +12,9 @@ pub telegram-question-spec : {M : Type 1} → statement M
 telegram-question-spec =
     tie.close
     (tie.spec
-    enum-known-t
-    question-requires
-    enum-known-t-2
-    ballot-question-requires
+    (λ c. search needs)
+    (λ c κs. search needs)
+    (λ c. search needs)
+    (λ c κs. search needs)
     returns
     returns-2)

@@ -3,14 +3,8 @@ use borrow.Author.Needs.{needs}
 use Rattle.model.proofs.ranges.different_controllers.Statement.{statement}
 use Rattle.model.proofs.ranges.different_controllers.Tie as tie
 
-is-controller-requires : tie.Need-is-controller-requires
-is-controller-requires c κs = search needs
-
 returns : tie.Need-returns
 returns c = simp (← c .before .is-controller .ensures, not-true (c .before .is-controller .result) (c .if1 .taken))
-
-is-controller-requires-2 : tie.Need-is-controller-requires-2
-is-controller-requires-2 c κs = search needs
 
 returns-2 : tie.Need-returns-2
 returns-2 c = simp (← c .before .before .before .is-controller .ensures, not-false (c .before .before .before .is-controller .result) (c .before .before .if1 .left), ← c .before .is-controller2 .ensures, not-true (c .before .is-controller2 .result) (c .if2 .taken))
@@ -20,4 +14,4 @@ returns-3 c = simp (← c .before .before .before .is-controller .ensures, not-f
 
 pub different-controllers-spec : {M : Type 1} → statement M
 different-controllers-spec =
-    tie.close (tie.spec is-controller-requires returns is-controller-requires-2 returns-2 returns-3)
+    tie.close (tie.spec (λ c κs. search needs) returns (λ c κs. search needs) returns-2 returns-3)

@@ -5,26 +5,8 @@ use borrow.Author.Needs.{needs}
 use Rattle.model.proofs.routes.ack_recipients.Statement.{statement}
 use Rattle.model.proofs.routes.ack_recipients.Tie as tie
 
-is-backup-requires : tie.Need-is-backup-requires
-is-backup-requires c κs = search needs
-
-up-to-requires : tie.Need-up-to-requires
-up-to-requires c κs = search needs
-
-others-requires : tie.Need-others-requires
-others-requires c κs = search needs
-
 returns : tie.Need-returns
 returns c = c .others .ensures ∙ rw (c .before .up-to .ensures) (backup-acks _ _ _ (sym (c .before .before .before .is-backup .ensures) ∙ c .before .before .if1 .taken))
-
-is-second-backup-requires : tie.Need-is-second-backup-requires
-is-second-backup-requires c κs = search needs
-
-up-to-requires-2 : tie.Need-up-to-requires-2
-up-to-requires-2 c κs = search needs
-
-others-requires-2 : tie.Need-others-requires-2
-others-requires-2 c κs = search needs
 
 returns-2 : tie.Need-returns-2
 returns-2 c = c .others2 .ensures ∙ rw (c .before .up-to2 .ensures) (second-acks _ _ _ (sym (c .before .before .before .before .before .is-backup .ensures) ∙ c .before .before .before .before .if1 .left) (sym (c .before .before .before .is-second-backup .ensures) ∙ c .before .before .if2 .taken))
@@ -36,12 +18,12 @@ pub ack-recipients-spec : {M : Type 1} → statement M
 ack-recipients-spec =
     tie.close
     (tie.spec
-    is-backup-requires
-    up-to-requires
-    others-requires
+    (λ c κs. search needs)
+    (λ c κs. search needs)
+    (λ c κs. search needs)
     returns
-    is-second-backup-requires
-    up-to-requires-2
-    others-requires-2
+    (λ c κs. search needs)
+    (λ c κs. search needs)
+    (λ c κs. search needs)
     returns-2
     returns-3)

@@ -6,15 +6,6 @@ use borrow.Author.Needs.{needs}
 use Rattle.model.proofs.routes.help_recipients.Statement.{statement}
 use Rattle.model.proofs.routes.help_recipients.Tie as tie
 
-up-to-requires : tie.Need-up-to-requires
-up-to-requires c κs = search needs
-
-up-to-requires-2 : tie.Need-up-to-requires-2
-up-to-requires-2 c κs = search needs
-
-others-requires : tie.Need-others-requires
-others-requires c κs = search needs
-
 returns : tie.Need-returns
 returns c = c .others .ensures ∙ rw (c .before .before .up-to .ensures, c .before .up-to2 .ensures) (helps _ _ _ (lt-ltb _ _ (c .before .before .before .if1 .taken)))
 
@@ -23,4 +14,4 @@ returns-2 c = no-helps _ _ _ (le-ltb _ _ (c .if1 .left))
 
 pub help-recipients-spec : {M : Type 1} → statement M
 help-recipients-spec =
-    tie.close (tie.spec up-to-requires up-to-requires-2 others-requires returns returns-2)
+    tie.close (tie.spec (λ c κs. search needs) (λ c κs. search needs) (λ c κs. search needs) returns returns-2)

@@ -6,15 +6,9 @@ use borrow.Author.Needs.{needs}
 use Rattle.model.proofs.routes.others.Statement.{statement}
 use Rattle.model.proofs.routes.others.Tie as tie
 
-up-to-requires : tie.Need-up-to-requires
-up-to-requires c κs = search needs
-
-remove-requires : tie.Need-remove-requires
-remove-requires c κs = search needs
-
 returns : tie.Need-returns
 unfolding othersOf
 returns c = c .remove .ensures ∙ rw (c .before .up-to .ensures) (others-are _ _ _)
 
 pub others-spec : {M : Type 1} → statement M
-others-spec = tie.close (tie.spec up-to-requires remove-requires returns)
+others-spec = tie.close (tie.spec (λ c κs. search needs) (λ c κs. search needs) returns)

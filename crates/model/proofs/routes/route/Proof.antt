@@ -4,30 +4,6 @@ use Rattle.model.specs.Routes.{route}
 use Rattle.model.proofs.routes.route.Statement.{statement}
 use Rattle.model.proofs.routes.route.Tie as tie
 
-enum-told : tie.Need-enum-told
-enum-told c = search needs
-
-vote-route-requires : tie.Need-vote-route-requires
-vote-route-requires c κs = search needs
-
-enum-told-2 : tie.Need-enum-told-2
-enum-told-2 c = search needs
-
-ack-route-requires : tie.Need-ack-route-requires
-ack-route-requires c κs = search needs
-
-enum-told-3 : tie.Need-enum-told-3
-enum-told-3 c = search needs
-
-help-route-requires : tie.Need-help-route-requires
-help-route-requires c κs = search needs
-
-enum-told-4 : tie.Need-enum-told-4
-enum-told-4 c = search needs
-
-help-route-requires-2 : tie.Need-help-route-requires-2
-help-route-requires-2 c κs = search needs
-
 returns : tie.Need-returns
 unfolding route
 returns c = simp (c .before .enum-told .given .1, c .vote-route .ensures)
@@ -48,14 +24,14 @@ pub route-spec : {M : Type 1} → statement M
 route-spec =
     tie.close
     (tie.spec
-    enum-told
-    vote-route-requires
-    enum-told-2
-    ack-route-requires
-    enum-told-3
-    help-route-requires
-    enum-told-4
-    help-route-requires-2
+    (λ c. search needs)
+    (λ c κs. search needs)
+    (λ c. search needs)
+    (λ c κs. search needs)
+    (λ c. search needs)
+    (λ c κs. search needs)
+    (λ c. search needs)
+    (λ c κs. search needs)
     returns
     returns-2
     returns-3

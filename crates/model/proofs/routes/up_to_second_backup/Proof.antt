@@ -7,21 +7,12 @@ use borrow.Author.Needs.{needs}
 use Rattle.model.proofs.routes.up_to_second_backup.Statement.{statement}
 use Rattle.model.proofs.routes.up_to_second_backup.Tie as tie
 
-up-to-requires : tie.Need-up-to-requires
-up-to-requires c κs = search needs
-
 returns : tie.Need-returns
 returns c = c .up-to .ensures ∙ past-bits _ (c .before .if1 .taken)
-
-add-up-to : tie.Need-add-up-to
-add-up-to c = search needs
-
-up-to-requires-2 : tie.Need-up-to-requires-2
-up-to-requires-2 c κs = search needs
 
 returns-2 : tie.Need-returns-2
 returns-2 c = c .up-to2 .ensures ∙ ap upTo (add-one _)
 
 pub up-to-second-backup-spec : {M : Type 1} → statement M
 up-to-second-backup-spec =
-    tie.close (tie.spec up-to-requires returns add-up-to up-to-requires-2 returns-2)
+    tie.close (tie.spec (λ c κs. search needs) returns (λ c. search needs) (λ c κs. search needs) returns-2)

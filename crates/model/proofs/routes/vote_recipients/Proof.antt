@@ -5,23 +5,8 @@ use borrow.Author.Needs.{needs}
 use Rattle.model.proofs.routes.vote_recipients.Statement.{statement}
 use Rattle.model.proofs.routes.vote_recipients.Tie as tie
 
-is-backup-requires : tie.Need-is-backup-requires
-is-backup-requires c κs = search needs
-
-up-to-second-backup-requires : tie.Need-up-to-second-backup-requires
-up-to-second-backup-requires c κs = search needs
-
-others-requires : tie.Need-others-requires
-others-requires c κs = search needs
-
 returns : tie.Need-returns
 returns c = c .others .ensures ∙ rw (c .before .up-to-second-backup .ensures) (backup-votes _ _ _ (sym (c .before .before .before .is-backup .ensures) ∙ c .before .before .if1 .taken))
-
-up-to-requires : tie.Need-up-to-requires
-up-to-requires c κs = search needs
-
-others-requires-2 : tie.Need-others-requires-2
-others-requires-2 c κs = search needs
 
 returns-2 : tie.Need-returns-2
 returns-2 c = c .others2 .ensures ∙ rw (c .before .up-to .ensures) (other-votes _ _ _ (sym (c .before .before .before .is-backup .ensures) ∙ c .before .before .if1 .left))
@@ -30,10 +15,10 @@ pub vote-recipients-spec : {M : Type 1} → statement M
 vote-recipients-spec =
     tie.close
     (tie.spec
-    is-backup-requires
-    up-to-second-backup-requires
-    others-requires
+    (λ c κs. search needs)
+    (λ c κs. search needs)
+    (λ c κs. search needs)
     returns
-    up-to-requires
-    others-requires-2
+    (λ c κs. search needs)
+    (λ c κs. search needs)
     returns-2)

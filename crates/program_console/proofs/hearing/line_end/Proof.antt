@@ -4,14 +4,8 @@ use borrow.Author.Needs.{needs}
 use Rattle.program_console.proofs.hearing.line_end.Statement.{statement}
 use Rattle.program_console.proofs.hearing.line_end.Tie as tie
 
-returns : tie.Need-returns
-returns c = search needs
-
-end-of-run-requires : tie.Need-end-of-run-requires
-end-of-run-requires c κs = search needs
-
 returns-2 : tie.Need-returns-2
 returns-2 c = c .end-of-run .ensures .high (omega arith)
 
 pub line-end-spec : {M : Type 1} → statement M
-line-end-spec = tie.close (tie.spec returns end-of-run-requires returns-2)
+line-end-spec = tie.close (tie.spec (λ c. search needs) (λ c κs. search needs) returns-2)

@@ -9,9 +9,6 @@ returns : tie.Need-returns
 unfolding firstNo unless
 returns c = simp (ne-eqb _ _ (c .if1 .taken))
 
-number2-requires : tie.Need-number2-requires
-number2-requires c κs = search needs
-
 returns-2 : tie.Need-returns-2
 unfolding firstNo unless
 returns-2 c = simp (eq-eqb _ _ (c .before .before .if1 .left), ← c .before .number2 .ensures, ne-eqb _ _ (c .if2 .taken))
@@ -21,4 +18,4 @@ unfolding firstNo unless
 returns-3 c = simp (eq-eqb _ _ (c .before .before .if1 .left), ← c .before .number2 .ensures, eq-eqb _ _ (c .if2 .left))
 
 pub frame-question-spec : {M : Type 1} → statement M
-frame-question-spec = tie.close (tie.spec returns number2-requires returns-2 returns-3)
+frame-question-spec = tie.close (tie.spec returns (λ c κs. search needs) returns-2 returns-3)

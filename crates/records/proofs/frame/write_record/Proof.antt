@@ -15,12 +15,6 @@ returns-2 : tie.Need-returns-2
 unfolding writeNumber bufferAfter
 returns-2 c = simp (eq-eqb _ _ (c .before .if1 .left), ne-eqb _ _ (c .if2 .taken)) (refl, refl)
 
-copy-requires : tie.Need-copy-requires
-copy-requires c κs = search needs
-
-same-length : tie.Need-same-length
-same-length c = search needs
-
 returns-3 : tie.Need-returns-3
 unfolding writeNumber bufferAfter
 returns-3 c =
@@ -28,4 +22,4 @@ returns-3 c =
     simp (eq-eqb _ _ (asked .before .if1 .left), eq-eqb _ _ (asked .if2 .left)) (sym (asked .if2 .left), filled _ _ _ _ (c .before .before .copy .ensures .1) refl (asked .before .if1 .left))
 
 pub write-record-spec : {M : Type 1} → statement M
-write-record-spec = tie.close (tie.spec returns returns-2 copy-requires same-length returns-3)
+write-record-spec = tie.close (tie.spec returns returns-2 (λ c κs. search needs) (λ c. search needs) returns-3)

@@ -4,21 +4,6 @@ use Rattle.records.specs.ByteLaws.{plus-none, plus-three}
 use Rattle.records.proofs.number.number4.Statement.{statement}
 use Rattle.records.proofs.number.number4.Tie as tie
 
-byte-after-requires : tie.Need-byte-after-requires
-byte-after-requires c κs = search needs
-
-byte-after-requires-2 : tie.Need-byte-after-requires-2
-byte-after-requires-2 c κs = search needs
-
-byte-after-requires-3 : tie.Need-byte-after-requires-3
-byte-after-requires-3 c κs = search needs
-
-byte-after-requires-4 : tie.Need-byte-after-requires-4
-byte-after-requires-4 c κs = search needs
-
-of-four-requires : tie.Need-of-four-requires
-of-four-requires c κs = search needs
-
 returns : tie.Need-returns
 returns c = simp (c .of-four .ensures, c .before .byte-after4 .ensures, c .before .before .byte-after3 .ensures, c .before .before .before .byte-after2 .ensures, c .before .before .before .before .byte-after .ensures, plus-none, plus-three)
 
@@ -26,9 +11,9 @@ pub number4-spec : {M : Type 1} → statement M
 number4-spec =
     tie.close
     (tie.spec
-    byte-after-requires
-    byte-after-requires-2
-    byte-after-requires-3
-    byte-after-requires-4
-    of-four-requires
+    (λ c κs. search needs)
+    (λ c κs. search needs)
+    (λ c κs. search needs)
+    (λ c κs. search needs)
+    (λ c κs. search needs)
     returns)

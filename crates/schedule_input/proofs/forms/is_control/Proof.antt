@@ -1,5 +1,4 @@
 -- `schedule_input::is_control` meets its contract.
-use native.Mathlib.Omega.{arith}
 use borrow.Author.Tests.{lt-ltb, le-ltb, eq-eqb, ne-eqb}
 use Rattle.schedule_input.specs.Input.{isControl}
 use Rattle.schedule_input.proofs.forms.is_control.Statement.{statement}

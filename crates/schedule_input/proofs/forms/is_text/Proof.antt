@@ -6,19 +6,13 @@ use borrow.Author.Needs.{needs}
 use Rattle.schedule_input.proofs.forms.is_text.Statement.{statement}
 use Rattle.schedule_input.proofs.forms.is_text.Tie as tie
 
-marked-requires : tie.Need-marked-requires
-marked-requires c κs = search needs
-
 returns : tie.Need-returns
 unfolding isText
 returns c = rw (← c .before .marked .ensures, c .if1 .taken)
-
-has-control-requires : tie.Need-has-control-requires
-has-control-requires c κs = search needs
 
 returns-2 : tie.Need-returns-2
 unfolding isText
 returns-2 c = rw (← c .before .before .marked .ensures, c .before .if1 .left) (ap not (c .has-control .ensures))
 
 pub is-text-spec : {M : Type 1} → statement M
-is-text-spec = tie.close (tie.spec marked-requires returns has-control-requires returns-2)
+is-text-spec = tie.close (tie.spec (λ c κs. search needs) returns (λ c κs. search needs) returns-2)

@@ -5,39 +5,29 @@ use borrow.Author.Needs.{needs}
 use Rattle.schedule_input.proofs.forms.records_in.Statement.{statement}
 use Rattle.schedule_input.proofs.forms.records_in.Tie as tie
 
-is-text-requires : tie.Need-is-text-requires
-is-text-requires c κs = search needs
-
-read-requires : tie.Need-read-requires
-read-requires c κs = search needs
-
-same-length : tie.Need-same-length
-same-length c = search needs
-
 returns : tie.Need-returns
 returns c = same-answer _ (of-text (c .before .before .before .before .before .before .before .before .args .s .now) (sym (c .before .before .before .before .before .is-text .ensures) ∙ c .before .before .before .before .if1 .taken)) (c .before .before .read .ensures)
 
 returns-2 : tie.Need-returns-2
 returns-2 c = same-answer _ (of-records (c .before .before .before .before .before .args .s .now) (sym (c .before .before .is-text .ensures) ∙ c .before .if1 .left)) (no-room-for (c .before .before .before .before .before .args .s .now) _ (c .if2 .taken))
 
-put-bytes-requires : tie.Need-put-bytes-requires
-put-bytes-requires c κs = search needs
-
-same-length-2 : tie.Need-same-length-2
-same-length-2 c = search needs
-
 returns-3 : tie.Need-returns-3
-returns-3 c = same-answer _ (of-records (c .before .before .before .before .before .before .before .before .before .args .s .now) (sym (c .before .before .before .before .before .before .is-text .ensures) ∙ c .before .before .before .before .before .if1 .left)) (copied (c .before .before .before .before .before .before .before .before .before .args .s .now) _ _ _ (c .before .before .before .before .if2 .left) (c .before .before .put-bytes .ensures))
+returns-3 c =
+    let at-put-bytes = c .before .before in
+    let at-if2 = at-put-bytes .before .before in
+    let at-is-text = at-if2 .before .before in
+    let start = at-is-text .before .before .before in
+    same-answer _ (of-records (start .args .s .now) (sym (at-is-text .is-text .ensures) ∙ at-if2 .before .if1 .left)) (copied (start .args .s .now) _ _ _ (at-if2 .if2 .left) (at-put-bytes .put-bytes .ensures))
 
 pub records-in-spec : {M : Type 1} → statement M
 records-in-spec =
     tie.close
     (tie.spec
-    is-text-requires
-    read-requires
-    same-length
+    (λ c κs. search needs)
+    (λ c κs. search needs)
+    (λ c. search needs)
     returns
     returns-2
-    put-bytes-requires
-    same-length-2
+    (λ c κs. search needs)
+    (λ c. search needs)
     returns-3)

@@ -13,83 +13,72 @@ use Rattle.schedule_input.proofs.output.render_records.Tie as tie
 abbrev of : List ℕ → List ℕ
 of r = r
 
-write-refusal-requires : tie.Need-write-refusal-requires
-write-refusal-requires c κs = search needs
-
-same-length : tie.Need-same-length
-same-length c = search needs
-
 returns : tie.Need-returns
 returns c = rendered _ _ (same-fitted _ (text-too-long of (c .before .before .before .before .before .before .before .args .s .now) (c .before .before .before .before .if1 .taken)) (c .before .before .write-refusal .ensures))
 
-slice-aggregate-records-in : tie.Need-slice-aggregate-records-in
-slice-aggregate-records-in c = search needs
-
-records-in-requires : tie.Need-records-in-requires
-records-in-requires c κs = search needs
-
-enum-known-n : tie.Need-enum-known-n
-enum-known-n c = search needs
-
 array-share-prefix-records : tie.Need-array-share-prefix-records
-array-share-prefix-records c = done-within of (c .before .before .before .before .before .before .before .before .before .before .args .s .now) _ (length-replicate {A = ℕ} 40960 0) (c .before .before .before .before .before .before .before .if1 .left) (c .before .before .before .before .before .records-in .ensures) _ (c .before .before .n .given .1)
+array-share-prefix-records c =
+    let at-n = c .before .before in
+    let at-records-in = at-n .before .before .before in
+    let at-if1 = at-records-in .before .before in
+    let start = at-if1 .before .before .before in
+    done-within of (start .args .s .now) _ (length-replicate {A = ℕ} 40960 0) (at-if1 .if1 .left) (at-records-in .records-in .ensures) _ (at-n .n .given .1)
 
 slice-aggregate-write-bytes : tie.Need-slice-aggregate-write-bytes
-slice-aggregate-write-bytes c = sym (length-take-le _ _ (done-within of (c .before .before .before .before .before .before .before .before .before .before .before .args .s .now) _ (length-replicate {A = ℕ} 40960 0) (c .before .before .before .before .before .before .before .before .if1 .left) (c .before .before .before .before .before .before .records-in .ensures) _ (c .before .before .before .n .given .1)))
-
-write-bytes-requires : tie.Need-write-bytes-requires
-write-bytes-requires c κs = search needs
-
-enum-known-at : tie.Need-enum-known-at
-enum-known-at c = search needs
-
-write-refused-line-requires : tie.Need-write-refused-line-requires
-write-refused-line-requires c κs = search needs
-
-enum-told : tie.Need-enum-told
-enum-told c = search needs
-
-write-refusal-requires-2 : tie.Need-write-refusal-requires-2
-write-refusal-requires-2 c κs = search needs
-
-same-length-2 : tie.Need-same-length-2
-same-length-2 c = search needs
+slice-aggregate-write-bytes c =
+    let at-n = c .before .before .before in
+    let at-records-in = at-n .before .before .before in
+    let at-if1 = at-records-in .before .before in
+    let start = at-if1 .before .before .before in
+    sym (length-take-le _ _ (done-within of (start .args .s .now) _ (length-replicate {A = ℕ} 40960 0) (at-if1 .if1 .left) (at-records-in .records-in .ensures) _ (at-n .n .given .1)))
 
 returns-2 : tie.Need-returns-2
-returns-2 c = rendered _ _ (same-fitted _ (done-output of (c .before .before .before .before .before .before .before .before .before .before .before .before .before .before .args .s .now) _ (length-replicate {A = ℕ} 40960 0) (c .before .before .before .before .before .before .before .before .before .before .before .if1 .left) (c .before .before .before .before .before .before .before .before .before .records-in .ensures) _ (c .before .before .before .before .before .before .n .given .1)) (c .before .before .write-bytes .ensures))
-
-same-length-3 : tie.Need-same-length-3
-same-length-3 c = search needs
+returns-2 c =
+    let at-write-bytes = c .before .before in
+    let at-n = at-write-bytes .before .before .before .before in
+    let at-records-in = at-n .before .before .before in
+    let at-if1 = at-records-in .before .before in
+    let start = at-if1 .before .before .before in
+    rendered _ _ (same-fitted _ (done-output of (start .args .s .now) _ (length-replicate {A = ℕ} 40960 0) (at-if1 .if1 .left) (at-records-in .records-in .ensures) _ (at-n .n .given .1)) (at-write-bytes .write-bytes .ensures))
 
 returns-3 : tie.Need-returns-3
-returns-3 c = rendered _ _ (same-fitted _ (refused-output of (c .before .before .before .before .before .before .before .before .before .before .before .before .before .args .s .now) _ (length-replicate {A = ℕ} 40960 0) (c .before .before .before .before .before .before .before .before .before .before .if1 .left) (c .before .before .before .before .before .before .before .before .records-in .ensures) _ _ (c .before .before .before .before .before .at .given .1)) (c .before .before .write-refused-line .ensures))
-
-same-length-4 : tie.Need-same-length-4
-same-length-4 c = search needs
+returns-3 c =
+    let at-write-refused-line = c .before .before in
+    let at-at = at-write-refused-line .before .before .before in
+    let at-records-in = at-at .before .before .before in
+    let at-if1 = at-records-in .before .before in
+    let start = at-if1 .before .before .before in
+    rendered _ _ (same-fitted _ (refused-output of (start .args .s .now) _ (length-replicate {A = ℕ} 40960 0) (at-if1 .if1 .left) (at-records-in .records-in .ensures) _ _ (at-at .at .given .1)) (at-write-refused-line .write-refused-line .ensures))
 
 returns-4 : tie.Need-returns-4
-returns-4 c = rendered _ _ (same-fitted _ (no-room-output of (c .before .before .before .before .before .before .before .before .before .before .before .before .args .s .now) _ (length-replicate {A = ℕ} 40960 0) (c .before .before .before .before .before .before .before .before .before .if1 .left) (c .before .before .before .before .before .before .before .records-in .ensures) (c .before .before .before .before .enum-told .given .1)) (c .before .before .write-refusal2 .ensures))
+returns-4 c =
+    let at-write-refusal2 = c .before .before in
+    let at-enum-told = at-write-refusal2 .before .before in
+    let at-records-in = at-enum-told .before .before .before in
+    let at-if1 = at-records-in .before .before in
+    let start = at-if1 .before .before .before in
+    rendered _ _ (same-fitted _ (no-room-output of (start .args .s .now) _ (length-replicate {A = ℕ} 40960 0) (at-if1 .if1 .left) (at-records-in .records-in .ensures) (at-enum-told .enum-told .given .1)) (at-write-refusal2 .write-refusal2 .ensures))
 
 pub render-records-spec : {M : Type 1} → statement M
 render-records-spec =
     tie.close
     (tie.spec
-    write-refusal-requires
-    same-length
+    (λ c κs. search needs)
+    (λ c. search needs)
     returns
-    slice-aggregate-records-in
-    records-in-requires
-    enum-known-n
+    (λ c. search needs)
+    (λ c κs. search needs)
+    (λ c. search needs)
     array-share-prefix-records
     slice-aggregate-write-bytes
-    write-bytes-requires
-    enum-known-at
-    write-refused-line-requires
-    enum-told
-    write-refusal-requires-2
-    same-length-2
+    (λ c κs. search needs)
+    (λ c. search needs)
+    (λ c κs. search needs)
+    (λ c. search needs)
+    (λ c κs. search needs)
+    (λ c. search needs)
     returns-2
-    same-length-3
+    (λ c. search needs)
     returns-3
-    same-length-4
+    (λ c. search needs)
     returns-4)

@@ -8,35 +8,14 @@ use borrow.Author.Needs.{needs}
 use Rattle.schedule_input.proofs.refusals.put_shown.Statement.{statement}
 use Rattle.schedule_input.proofs.refusals.put_shown.Tie as tie
 
-slice-aggregate-put-bytes : tie.Need-slice-aggregate-put-bytes
-slice-aggregate-put-bytes c = search needs
-
-put-bytes-requires : tie.Need-put-bytes-requires
-put-bytes-requires c κs = search needs
-
-same-length : tie.Need-same-length
-same-length c = search needs
-
 returns : tie.Need-returns
 returns c = put-text (c .before .before .put-bytes .ensures) (shown-none (c .before .before .before .before .before .before .before .before .args .w .now) (c .before .before .before .before .before .if1 .taken))
-
-put-bytes-requires-2 : tie.Need-put-bytes-requires-2
-put-bytes-requires-2 c κs = search needs
-
-same-length-2 : tie.Need-same-length-2
-same-length-2 c = search needs
 
 returns-2 : tie.Need-returns-2
 returns-2 c = put-text (c .before .before .put-bytes2 .ensures) (shown-short (c .before .before .before .before .before .before .before .before .args .w .now) (omega arith) (c .before .before .before .before .if2 .taken))
 
 slice-aggregate-put-bytes-2 : tie.Need-slice-aggregate-put-bytes-2
 slice-aggregate-put-bytes-2 c = sym (length-take-le 40 (c .before .before .before .before .before .before .args .w .now) (omega arith))
-
-put-bytes-requires-3 : tie.Need-put-bytes-requires-3
-put-bytes-requires-3 c κs = search needs
-
-same-length-3 : tie.Need-same-length-3
-same-length-3 c = search needs
 
 returns-3 : tie.Need-returns-3
 returns-3 c = put-text (c .before .before .put-bytes3 .ensures) (shown-long (c .before .before .before .before .before .before .before .before .before .args .w .now) (omega arith))
@@ -45,14 +24,14 @@ pub put-shown-spec : {M : Type 1} → statement M
 put-shown-spec =
     tie.close
     (tie.spec
-    slice-aggregate-put-bytes
-    put-bytes-requires
-    same-length
+    (λ c. search needs)
+    (λ c κs. search needs)
+    (λ c. search needs)
     returns
-    put-bytes-requires-2
-    same-length-2
+    (λ c κs. search needs)
+    (λ c. search needs)
     returns-2
     slice-aggregate-put-bytes-2
-    put-bytes-requires-3
-    same-length-3
+    (λ c κs. search needs)
+    (λ c. search needs)
     returns-3)

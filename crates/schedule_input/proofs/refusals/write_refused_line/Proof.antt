@@ -5,17 +5,8 @@ use borrow.Author.Needs.{needs}
 use Rattle.schedule_input.proofs.refusals.write_refused_line.Statement.{statement}
 use Rattle.schedule_input.proofs.refusals.write_refused_line.Tie as tie
 
-slice-aggregate-put-refused-line : tie.Need-slice-aggregate-put-refused-line
-slice-aggregate-put-refused-line c = search needs
-
-put-refused-line-requires : tie.Need-put-refused-line-requires
-put-refused-line-requires c κs = search needs
-
 write-front-requires : tie.Need-write-front-requires
 write-front-requires c κs = in-array _ (refused-line-length _ _ _) (c .before .before .put-refused-line .ensures) .0
-
-same-length : tie.Need-same-length
-same-length c = search needs
 
 returns : tie.Need-returns
 returns c = same-fitted _ (in-array _ (refused-line-length _ _ _) (c .before .before .before .before .before .put-refused-line .ensures) .1) (c .before .before .write-front .ensures)
@@ -24,8 +15,8 @@ pub write-refused-line-spec : {M : Type 1} → statement M
 write-refused-line-spec =
     tie.close
     (tie.spec
-    slice-aggregate-put-refused-line
-    put-refused-line-requires
+    (λ c. search needs)
+    (λ c κs. search needs)
     write-front-requires
-    same-length
+    (λ c. search needs)
     returns)

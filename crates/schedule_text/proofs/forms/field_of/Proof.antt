@@ -1,128 +1,38 @@
+-- `schedule_text::field_of` meets its contract, slot by slot: both are the same table.
 use Rattle.schedule_text.specs.Forms.{fieldOf}
-use borrow.Author.Tests.{le-leb, lt-leb, lt-ltb, le-ltb, eq-eqb, ne-eqb}
 use borrow.Author.Needs.{needs}
 use Rattle.schedule_text.proofs.forms.field_of.Statement.{statement}
 use Rattle.schedule_text.proofs.forms.field_of.Tie as tie
 
-enum-told : tie.Need-enum-told
-enum-told c = search needs
-
-cast-result : tie.Need-cast-result
-cast-result c = search needs
-
-enum-told-2 : tie.Need-enum-told-2
-enum-told-2 c = search needs
-
-cast-result-2 : tie.Need-cast-result-2
-cast-result-2 c = search needs
-
-enum-told-3 : tie.Need-enum-told-3
-enum-told-3 c = search needs
-
-cast-result-3 : tie.Need-cast-result-3
-cast-result-3 c = search needs
-
-enum-told-4 : tie.Need-enum-told-4
-enum-told-4 c = search needs
-
-enum-told-5 : tie.Need-enum-told-5
-enum-told-5 c = search needs
-
-enum-told-6 : tie.Need-enum-told-6
-enum-told-6 c = search needs
-
-cast-result-4 : tie.Need-cast-result-4
-cast-result-4 c = search needs
-
-enum-told-7 : tie.Need-enum-told-7
-enum-told-7 c = search needs
-
-cast-result-5 : tie.Need-cast-result-5
-cast-result-5 c = search needs
-
-enum-told-8 : tie.Need-enum-told-8
-enum-told-8 c = search needs
-
-cast-result-6 : tie.Need-cast-result-6
-cast-result-6 c = search needs
-
-enum-told-9 : tie.Need-enum-told-9
-enum-told-9 c = search needs
-
-cast-result-7 : tie.Need-cast-result-7
-cast-result-7 c = search needs
-
-enum-told-10 : tie.Need-enum-told-10
-enum-told-10 c = search needs
-
-returns : tie.Need-returns
-unfolding fieldOf
-returns c = simp (c .before .enum-told .given .1)
-
-returns-2 : tie.Need-returns-2
-unfolding fieldOf
-returns-2 c = simp (c .before .enum-told2 .given .1)
-
-returns-3 : tie.Need-returns-3
-unfolding fieldOf
-returns-3 c = simp (c .before .enum-told3 .given .1)
-
-returns-4 : tie.Need-returns-4
-unfolding fieldOf
-returns-4 c = simp (c .enum-told4 .given .1)
-
-returns-5 : tie.Need-returns-5
-unfolding fieldOf
-returns-5 c = simp (c .enum-told5 .given .1)
-
-returns-6 : tie.Need-returns-6
-unfolding fieldOf
-returns-6 c = simp (c .before .enum-told6 .given .1)
-
-returns-7 : tie.Need-returns-7
-unfolding fieldOf
-returns-7 c = simp (c .before .enum-told7 .given .1)
-
-returns-8 : tie.Need-returns-8
-unfolding fieldOf
-returns-8 c = simp (c .before .enum-told8 .given .1)
-
-returns-9 : tie.Need-returns-9
-unfolding fieldOf
-returns-9 c = simp (c .before .enum-told9 .given .1)
-
-returns-10 : tie.Need-returns-10
-unfolding fieldOf
-returns-10 c = simp (c .enum-told10 .given .1)
-
 pub field-of-spec : {M : Type 1} → statement M
+unfolding fieldOf
 field-of-spec =
     tie.close
     (tie.spec
-    enum-told
-    cast-result
-    enum-told-2
-    cast-result-2
-    enum-told-3
-    cast-result-3
-    enum-told-4
-    enum-told-5
-    enum-told-6
-    cast-result-4
-    enum-told-7
-    cast-result-5
-    enum-told-8
-    cast-result-6
-    enum-told-9
-    cast-result-7
-    enum-told-10
-    returns
-    returns-2
-    returns-3
-    returns-4
-    returns-5
-    returns-6
-    returns-7
-    returns-8
-    returns-9
-    returns-10)
+    (λ c. search needs)
+    (λ c. search needs)
+    (λ c. search needs)
+    (λ c. search needs)
+    (λ c. search needs)
+    (λ c. search needs)
+    (λ c. search needs)
+    (λ c. search needs)
+    (λ c. search needs)
+    (λ c. search needs)
+    (λ c. search needs)
+    (λ c. search needs)
+    (λ c. search needs)
+    (λ c. search needs)
+    (λ c. search needs)
+    (λ c. search needs)
+    (λ c. search needs)
+    (λ c. simp (c .before .enum-told .given .1))
+    (λ c. simp (c .before .enum-told2 .given .1))
+    (λ c. simp (c .before .enum-told3 .given .1))
+    (λ c. simp (c .enum-told4 .given .1))
+    (λ c. simp (c .enum-told5 .given .1))
+    (λ c. simp (c .before .enum-told6 .given .1))
+    (λ c. simp (c .before .enum-told7 .given .1))
+    (λ c. simp (c .before .enum-told8 .given .1))
+    (λ c. simp (c .before .enum-told9 .given .1))
+    (λ c. simp (c .enum-told10 .given .1)))

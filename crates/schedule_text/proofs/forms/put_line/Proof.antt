@@ -5,15 +5,6 @@ use borrow.Author.Needs.{needs}
 use Rattle.schedule_text.proofs.forms.put_line.Statement.{statement}
 use Rattle.schedule_text.proofs.forms.put_line.Tie as tie
 
-put-verb-requires : tie.Need-put-verb-requires
-put-verb-requires c κs = search needs
-
-put-rest-requires : tie.Need-put-rest-requires
-put-rest-requires c κs = search needs
-
-same-length : tie.Need-same-length
-same-length c = search needs
-
 returns : tie.Need-returns
 unfolding lineOf
 returns c =
@@ -22,4 +13,4 @@ returns c =
     put-then (first .put-verb .ensures) (second .put-rest .ensures)
 
 pub put-line-spec : {M : Type 1} → statement M
-put-line-spec = tie.close (tie.spec put-verb-requires put-rest-requires same-length returns)
+put-line-spec = tie.close (tie.spec (λ c κs. search needs) (λ c κs. search needs) (λ c. search needs) returns)

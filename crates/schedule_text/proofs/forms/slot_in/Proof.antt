@@ -1,5 +1,5 @@
 use Rattle.schedule_text.specs.Forms.{slotIn}
-use borrow.Author.Tests.{le-leb, lt-leb, lt-ltb, le-ltb, eq-eqb, ne-eqb}
+use borrow.Author.Tests.{eq-eqb, ne-eqb}
 use Rattle.schedule_text.proofs.forms.slot_in.Statement.{statement}
 use Rattle.schedule_text.proofs.forms.slot_in.Tie as tie
 

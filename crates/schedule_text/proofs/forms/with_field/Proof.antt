@@ -1,76 +1,46 @@
+-- `schedule_text::with_field` meets its contract, slot by slot. A value that the slot has room for fits the field's type (`in-byte`, `in-four` of FormLaws).
 use Prim.Native.Nat.{_^_, _<_}
 use Rattle.schedule_text.specs.Forms.{withField, room}
 use Rattle.schedule_text.specs.FormLaws.{in-byte, in-four}
-use borrow.Author.Tests.{le-leb, lt-leb, lt-ltb, le-ltb, eq-eqb, ne-eqb}
 use borrow.Author.Needs.{needs}
 use Rattle.schedule_text.proofs.forms.with_field.Statement.{statement}
 use Rattle.schedule_text.proofs.forms.with_field.Tie as tie
-
-enum-told : tie.Need-enum-told
-enum-told c = search needs
 
 cast-t5 : tie.Need-cast-t5
 unfolding room
 cast-t5 c = let h : c .before .before .args .v < 2 ^ 8 = in-byte (c .before .before .args .slot) (c .before .before .args .v) (rw (c .enum-told .given .1)) (c .before .before .pre) in search needs
 
-enum-told-2 : tie.Need-enum-told-2
-enum-told-2 c = search needs
-
 cast-t10 : tie.Need-cast-t10
 unfolding room
 cast-t10 c = let h : c .before .before .args .v < 2 ^ 8 = in-byte (c .before .before .args .slot) (c .before .before .args .v) (rw (c .enum-told2 .given .1)) (c .before .before .pre) in search needs
-
-enum-told-3 : tie.Need-enum-told-3
-enum-told-3 c = search needs
 
 cast-t15 : tie.Need-cast-t15
 unfolding room
 cast-t15 c = let h : c .before .before .args .v < 2 ^ 8 = in-byte (c .before .before .args .slot) (c .before .before .args .v) (rw (c .enum-told3 .given .1)) (c .before .before .pre) in search needs
 
-enum-told-4 : tie.Need-enum-told-4
-enum-told-4 c = search needs
-
 cast-t20 : tie.Need-cast-t20
 unfolding room
 cast-t20 c = let h : c .before .before .args .v < 2 ^ 32 = in-four (c .before .before .args .slot) (c .before .before .args .v) (rw (c .enum-told4 .given .1)) (c .before .before .pre) in search needs
-
-enum-told-5 : tie.Need-enum-told-5
-enum-told-5 c = search needs
 
 cast-t25 : tie.Need-cast-t25
 unfolding room
 cast-t25 c = let h : c .before .before .args .v < 2 ^ 32 = in-four (c .before .before .args .slot) (c .before .before .args .v) (rw (c .enum-told5 .given .1)) (c .before .before .pre) in search needs
 
-enum-told-6 : tie.Need-enum-told-6
-enum-told-6 c = search needs
-
 cast-t30 : tie.Need-cast-t30
 unfolding room
 cast-t30 c = let h : c .before .before .args .v < 2 ^ 8 = in-byte (c .before .before .args .slot) (c .before .before .args .v) (rw (c .enum-told6 .given .1)) (c .before .before .pre) in search needs
-
-enum-told-7 : tie.Need-enum-told-7
-enum-told-7 c = search needs
 
 cast-t35 : tie.Need-cast-t35
 unfolding room
 cast-t35 c = let h : c .before .before .args .v < 2 ^ 8 = in-byte (c .before .before .args .slot) (c .before .before .args .v) (rw (c .enum-told7 .given .1)) (c .before .before .pre) in search needs
 
-enum-told-8 : tie.Need-enum-told-8
-enum-told-8 c = search needs
-
 cast-t40 : tie.Need-cast-t40
 unfolding room
 cast-t40 c = let h : c .before .before .args .v < 2 ^ 8 = in-byte (c .before .before .args .slot) (c .before .before .args .v) (rw (c .enum-told8 .given .1)) (c .before .before .pre) in search needs
 
-enum-told-9 : tie.Need-enum-told-9
-enum-told-9 c = search needs
-
 cast-t45 : tie.Need-cast-t45
 unfolding room
 cast-t45 c = let h : c .before .before .args .v < 2 ^ 8 = in-byte (c .before .before .args .slot) (c .before .before .args .v) (rw (c .enum-told9 .given .1)) (c .before .before .pre) in search needs
-
-enum-told-10 : tie.Need-enum-told-10
-enum-told-10 c = search needs
 
 returns : tie.Need-returns
 unfolding withField
@@ -116,25 +86,25 @@ pub with-field-spec : {M : Type 1} → statement M
 with-field-spec =
     tie.close
     (tie.spec
-    enum-told
+    (λ c. search needs)
     cast-t5
-    enum-told-2
+    (λ c. search needs)
     cast-t10
-    enum-told-3
+    (λ c. search needs)
     cast-t15
-    enum-told-4
+    (λ c. search needs)
     cast-t20
-    enum-told-5
+    (λ c. search needs)
     cast-t25
-    enum-told-6
+    (λ c. search needs)
     cast-t30
-    enum-told-7
+    (λ c. search needs)
     cast-t35
-    enum-told-8
+    (λ c. search needs)
     cast-t40
-    enum-told-9
+    (λ c. search needs)
     cast-t45
-    enum-told-10
+    (λ c. search needs)
     returns
     returns-2
     returns-3

@@ -12,49 +12,37 @@ use borrow.Author.Needs.{needs}
 use Rattle.schedule_text.proofs.reading.line_at.Statement.{statement}
 use Rattle.schedule_text.proofs.reading.line_at.Tie as tie
 
-end-of-run-requires : tie.Need-end-of-run-requires
-end-of-run-requires c κs = search needs
-
-sub-line : tie.Need-sub-line
-sub-line c = search needs
-
-part-line-start : tie.Need-part-line-start
-part-line-start c = search needs
-
 part-line-end : tie.Need-part-line-end
 part-line-end c = c .end-of-run .ensures .high (c .before .before .pre)
-
-end-of-run-requires-2 : tie.Need-end-of-run-requires-2
-end-of-run-requires-2 c κs = search needs
 
 slice-aggregate-read-line : tie.Need-slice-aggregate-read-line
 slice-aggregate-read-line c = sym (length-take-le _ _ (c .before .end-of-run2 .ensures .high (omega arith)))
 
-read-line-requires : tie.Need-read-line-requires
-read-line-requires c κs = search needs
-
 returns : tie.Need-returns
 returns c =
-    let end = c .before .before .before .before .end-of-run .ensures in
-    let shown = c .before .before .end-of-run2 .ensures in
-    let a = c .before .before .before .before .before .before .args in
-    let line = take (c .before .before .before .before .end-of-run .result - a .at) (drop (a .at) (a .text .now)) in
+    let at-end-of-run2 = c .before .before in
+    let at-end-of-run = at-end-of-run2 .before .before in
+    let start = at-end-of-run .before .before in
+    let end = at-end-of-run .end-of-run .ensures in
+    let shown = at-end-of-run2 .end-of-run2 .ensures in
+    let a = start .args in
+    let line = take (at-end-of-run .end-of-run .result - a .at) (drop (a .at) (a .text .now)) in
     record {
       ends = end .is;
       line = c .read-line .ensures ∙ ap (λ (k : ℕ). readLine (take k line)) (shown .is ∙ zero-add (run Shown line));
       low = end .low;
-      high = end .high (c .before .before .before .before .before .before .pre);
+      high = end .high (start .pre);
     }
 
 pub line-at-spec : {M : Type 1} → statement M
 line-at-spec =
     tie.close
     (tie.spec
-    end-of-run-requires
-    sub-line
-    part-line-start
+    (λ c κs. search needs)
+    (λ c. search needs)
+    (λ c. search needs)
     part-line-end
-    end-of-run-requires-2
+    (λ c κs. search needs)
     slice-aggregate-read-line
-    read-line-requires
+    (λ c κs. search needs)
     returns)

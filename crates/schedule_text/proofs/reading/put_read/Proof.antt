@@ -8,23 +8,8 @@ use borrow.Author.Needs.{needs}
 use Rattle.schedule_text.proofs.reading.put_read.Statement.{statement}
 use Rattle.schedule_text.proofs.reading.put_read.Tie as tie
 
-enum-known-read : tie.Need-enum-known-read
-enum-known-read c = search needs
-
 returns : tie.Need-returns
 returns c = put-text (put-nothing _ _ (omega arith) (omega arith)) (no-record (c .before .before .args .read) (c .match .keys2))
-
-record-bytes-requires : tie.Need-record-bytes-requires
-record-bytes-requires c κs = search needs
-
-slice-aggregate-put-bytes : tie.Need-slice-aggregate-put-bytes
-slice-aggregate-put-bytes c = search needs
-
-put-bytes-requires : tie.Need-put-bytes-requires
-put-bytes-requires c κs = search needs
-
-same-length : tie.Need-same-length
-same-length c = search needs
 
 returns-2 : tie.Need-returns-2
 returns-2 c = put-text (c .before .before .put-bytes .ensures) (c .before .before .before .before .before .record-bytes .ensures ∙ ap bytesOfRead (sym (c .before .before .before .before .before .before .before .read .given .1)))
@@ -33,10 +18,10 @@ pub put-read-spec : {M : Type 1} → statement M
 put-read-spec =
     tie.close
     (tie.spec
-    enum-known-read
+    (λ c. search needs)
     returns
-    record-bytes-requires
-    slice-aggregate-put-bytes
-    put-bytes-requires
-    same-length
+    (λ c κs. search needs)
+    (λ c. search needs)
+    (λ c κs. search needs)
+    (λ c. search needs)
     returns-2)

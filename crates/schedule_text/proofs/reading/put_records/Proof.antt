@@ -24,12 +24,6 @@ abbrev μ-loop : tie.MeasureT-loop
 loop-holds : tie.Need-loop-holds Inv-loop μ-loop
 loop-holds c = (omega arith, omega arith, ([], put-nothing _ 0 (omega arith) (omega arith), text-begun _))
 
-line-at-requires : tie.Need-line-at-requires Inv-loop μ-loop
-line-at-requires c κs = search needs
-
-enum-known-read : tie.Need-enum-known-read Inv-loop μ-loop
-enum-known-read c = search needs
-
 same-length : tie.Need-same-length Inv-loop μ-loop
 same-length c = put-length (c .before .before .before .before .before .loop .inv .2 .1)
 
@@ -39,27 +33,27 @@ returns c =
     let t = c .before .before .before .before .before .before .before .before .args .text .now in
     turns-refused _ (l .line) (c .before .read .given .0 .0) _ _ (sym (line-refused t (l .at) (c .before .before .before .before .loop-test .taken) (c .before .before .before .line-at .ensures) (l .line) (l .inv .2 .0) (c .before .read .given .0 .0) (c .before .read .given .1)) ∙ l .inv .2 .2)
 
-put-read-requires : tie.Need-put-read-requires Inv-loop μ-loop
-put-read-requires c κs = search needs
-
 add-at : tie.Need-add-at Inv-loop μ-loop
 add-at c = omega (arith, c .before .before .before .before .before .before .line-at .ensures .high)
 
-add-line : tie.Need-add-line Inv-loop μ-loop
-add-line c = omega arith
-
 loop-less : tie.Need-loop-less Inv-loop μ-loop
-loop-less c = omega (arith, c .before .before .before .before .before .before .line-at .ensures .low, c .before .before .before .before .before .before .line-at .ensures .high)
+loop-less c =
+    let at-line-at = c .before .before .before .before .before .before in
+    omega (arith, at-line-at .line-at .ensures .low, at-line-at .line-at .ensures .high)
 
 loop-again : tie.Need-loop-again Inv-loop μ-loop
 loop-again c =
-    let l = c .before .before .before .before .before .before .before .before .loop in
-    let t = c .before .before .before .before .before .before .before .before .before .before .before .args .text .now in
-    let met = c .before .before .before .before .before .before .line-at .ensures in
-    let read = c .before .before .before .before .before .before .line-at .result .read in (
+    let at-put-read = c .before .before .before in
+    let at-match = at-put-read .before .before in
+    let at-loop-test = at-match .before .before in
+    let start = at-loop-test .before .before .before .before in
+    let l = at-loop-test .before .loop in
+    let t = start .args .text .now in
+    let met = at-match .before .line-at .ensures in
+    let read = at-match .before .line-at .result .read in (
       omega (arith, met .high),
       omega (arith, met .low),
-      (l .inv .2 .0 ++ bytesOfRead read, put-then (l .inv .2 .1) (c .before .before .before .put-read .ensures), sym (line-read t (l .at) (c .before .before .before .before .before .before .before .loop-test .taken) met (l .line) (l .inv .2 .0) (expected read (c .before .before .before .before .before .match .keys2))) ∙ l .inv .2 .2),
+      (l .inv .2 .0 ++ bytesOfRead read, put-then (l .inv .2 .1) (at-put-read .put-read .ensures), sym (line-read t (l .at) (at-loop-test .loop-test .taken) met (l .line) (l .inv .2 .0) (expected read (at-match .match .keys2))) ∙ l .inv .2 .2),
     )
 
 same-length-2 : tie.Need-same-length-2 Inv-loop μ-loop
@@ -77,13 +71,13 @@ put-records-spec =
     Inv-loop
     μ-loop
     loop-holds
-    line-at-requires
-    enum-known-read
+    (λ c κs. search needs)
+    (λ c. search needs)
     same-length
     returns
-    put-read-requires
+    (λ c κs. search needs)
     add-at
-    add-line
+    (λ c. omega arith)
     loop-less
     loop-again
     same-length-2

@@ -25,18 +25,6 @@ loop-holds : tie.Need-loop-holds Inv-loop μ-loop
 unfolding readLine
 loop-holds c = (omega arith, omega arith, refl)
 
-row-of-requires : tie.Need-row-of-requires Inv-loop μ-loop
-row-of-requires c κs = search needs
-
-slot-in-requires : tie.Need-slot-in-requires Inv-loop μ-loop
-slot-in-requires c κs = search needs
-
-next-word-requires : tie.Need-next-word-requires Inv-loop μ-loop
-next-word-requires c κs = search needs
-
-ended-requires : tie.Need-ended-requires Inv-loop μ-loop
-ended-requires c κs = search needs
-
 returns : tie.Need-returns Inv-loop μ-loop
 returns c =
     let m = c .before .before .before .before .before .loop in
@@ -44,50 +32,46 @@ returns c =
     let s = (c .before .before .before .slot-in .ensures ∙ ap (λ (r : Row). slotIn r (m .i)) (c .before .before .before .before .row-of .ensures)) in
     c .ended .ensures ∙ ended-here (m .i) (m .x) s (no-next l (m .at) (c .before .before .next-word .ensures) (c .before .if1 .taken)) ∙ m .inv .2
 
-sub-value-in : tie.Need-sub-value-in Inv-loop μ-loop
-sub-value-in c = search needs
-
-part-value-in-start : tie.Need-part-value-in-start Inv-loop μ-loop
-part-value-in-start c = search needs
-
 part-value-in-end : tie.Need-part-value-in-end Inv-loop μ-loop
 part-value-in-end c = c .before .next-word .ensures .high (c .before .before .before .before .loop .inv .0)
 
-value-in-requires : tie.Need-value-in-requires Inv-loop μ-loop
-value-in-requires c κs = search needs
-
-enum-known-found : tie.Need-enum-known-found Inv-loop μ-loop
-enum-known-found c = search needs
-
-enum-told : tie.Need-enum-told Inv-loop μ-loop
-enum-told c = search needs
-
 returns-2 : tie.Need-returns-2 Inv-loop μ-loop
 returns-2 c =
-    let m = c .before .before .before .before .before .before .before .before .loop in
-    let l = c .before .before .before .before .before .before .before .before .before .before .args .l .now in
-    let s = (c .before .before .before .before .before .before .slot-in .ensures ∙ ap (λ (r : Row). slotIn r (m .i)) (c .before .before .before .before .before .before .before .row-of .ensures)) in
-    not-expected (m .i) (m .x) s (next l (m .at) (c .before .before .before .before .before .next-word .ensures) (c .before .before .before .before .if1 .left)) (sym (c .enum-told .given .1) ∙ c .before .before .value-in .ensures) ∙ m .inv .2
+    let at-value-in = c .before .before in
+    let at-if1 = at-value-in .before .before in
+    let at-slot-in = at-if1 .before .before in
+    let at-loop = at-slot-in .before .before in
+    let start = at-loop .before .before in
+    let m = at-loop .loop in
+    let l = start .args .l .now in
+    let s = (at-slot-in .slot-in .ensures ∙ ap (λ (r : Row). slotIn r (m .i)) (at-slot-in .before .row-of .ensures)) in
+    not-expected (m .i) (m .x) s (next l (m .at) (at-if1 .before .next-word .ensures) (at-if1 .if1 .left)) (sym (c .enum-told .given .1) ∙ at-value-in .value-in .ensures) ∙ m .inv .2
 
 with-field-requires : tie.Need-with-field-requires Inv-loop μ-loop
 with-field-requires c κs = fits-field _ _ _ (sym (c .before .found .given .1) ∙ c .before .before .before .value-in .ensures)
 
-add-i : tie.Need-add-i Inv-loop μ-loop
-add-i c = omega arith
-
 loop-less : tie.Need-loop-less Inv-loop μ-loop
-loop-less c = omega (arith, c .before .before .before .before .before .before .before .next-word .ensures .high (c .before .before .before .before .before .before .before .before .before .before .loop .inv .0))
+loop-less c =
+    let at-next-word = c .before .before .before .before .before .before .before in
+    let at-loop = at-next-word .before .before .before in
+    omega (arith, at-next-word .next-word .ensures .high (at-loop .loop .inv .0))
 
 loop-again : tie.Need-loop-again Inv-loop μ-loop
 loop-again c =
-    let m = c .before .before .before .before .before .before .before .before .before .before .loop in
-    let l = c .before .before .before .before .before .before .before .before .before .before .before .before .args .l .now in
-    let n = c .before .before .before .before .before .before .before .next-word .ensures in
-    let s = (c .before .before .before .before .before .before .before .before .slot-in .ensures ∙ ap (λ (r : Row). slotIn r (m .i)) (c .before .before .before .before .before .before .before .before .before .row-of .ensures)) in
-    let e = word-taken (m .i) (m .x) s (c .before .before .found .given .0 .0) (next l (m .at) n (c .before .before .before .before .before .before .if1 .left)) (sym (c .before .before .found .given .1) ∙ c .before .before .before .before .value-in .ensures) in (
+    let at-found = c .before .before in
+    let at-value-in = at-found .before .before in
+    let at-if1 = at-value-in .before .before in
+    let at-slot-in = at-if1 .before .before in
+    let at-loop = at-slot-in .before .before in
+    let start = at-loop .before .before in
+    let m = at-loop .loop in
+    let l = start .args .l .now in
+    let n = at-if1 .before .next-word .ensures in
+    let s = (at-slot-in .slot-in .ensures ∙ ap (λ (r : Row). slotIn r (m .i)) (at-slot-in .before .row-of .ensures)) in
+    let e = word-taken (m .i) (m .x) s (at-found .found .given .0 .0) (next l (m .at) n (at-if1 .if1 .left)) (sym (at-found .found .given .1) ∙ at-value-in .value-in .ensures) in (
       n .high (m .inv .0),
       omega arith,
-      ap (λ (y : Fields). readWords (m .i + 1) y (wordsOf (drop (c .before .before .before .before .before .before .before .next-word .result .to) l))) (c .with-field .ensures) ∙ sym e ∙ m .inv .2,
+      ap (λ (y : Fields). readWords (m .i + 1) y (wordsOf (drop (at-if1 .before .next-word .result .to) l))) (c .with-field .ensures) ∙ sym e ∙ m .inv .2,
     )
 
 pub read-line-spec : {M : Type 1} → statement M
@@ -97,19 +81,19 @@ read-line-spec =
     Inv-loop
     μ-loop
     loop-holds
-    row-of-requires
-    slot-in-requires
-    next-word-requires
-    ended-requires
+    (λ c κs. search needs)
+    (λ c κs. search needs)
+    (λ c κs. search needs)
+    (λ c κs. search needs)
     returns
-    sub-value-in
-    part-value-in-start
+    (λ c. search needs)
+    (λ c. search needs)
     part-value-in-end
-    value-in-requires
-    enum-known-found
-    enum-told
+    (λ c κs. search needs)
+    (λ c. search needs)
+    (λ c. search needs)
     returns-2
     with-field-requires
-    add-i
+    (λ c. omega arith)
     loop-less
     loop-again)

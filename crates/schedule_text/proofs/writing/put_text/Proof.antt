@@ -24,21 +24,6 @@ abbrev μ-loop : tie.MeasureT-loop
 loop-holds : tie.Need-loop-holds Inv-loop μ-loop
 loop-holds c = (omega arith, ([], put-nothing _ 0 (omega arith) (omega arith), records-begun _))
 
-record-at-requires : tie.Need-record-at-requires Inv-loop μ-loop
-record-at-requires c κs = search needs
-
-enum-known-read : tie.Need-enum-known-read Inv-loop μ-loop
-enum-known-read c = search needs
-
-enum-told : tie.Need-enum-told Inv-loop μ-loop
-enum-told c = search needs
-
-answer-of-requires : tie.Need-answer-of-requires Inv-loop μ-loop
-answer-of-requires c κs = search needs
-
-cast-t11 : tie.Need-cast-t11 Inv-loop μ-loop
-cast-t11 c = search needs
-
 same-length : tie.Need-same-length Inv-loop μ-loop
 same-length c = put-length (c .before .before .before .before .before .loop .inv .1 .1)
 
@@ -49,29 +34,19 @@ returns c =
     let e = refused-as _ _ _ (c .before .enum-told .given .1) (c .answer-of .ensures) in
     turns-refused _ (l .k) (c .answer-of .result) _ _ (sym (record-refused (l .k) s (l .at) (c .before .before .before .before .loop-test .taken) (l .inv .1 .0) (c .answer-of .result) (sym (c .before .before .before .record-at .ensures) ∙ e)) ∙ l .inv .1 .2)
 
-fields-of-requires : tie.Need-fields-of-requires Inv-loop μ-loop
-fields-of-requires c κs = search needs
-
-put-line-requires : tie.Need-put-line-requires Inv-loop μ-loop
-put-line-requires c κs = search needs
-
-add-at : tie.Need-add-at Inv-loop μ-loop
-add-at c = omega arith
-
-add-k : tie.Need-add-k Inv-loop μ-loop
-add-k c = omega arith
-
-loop-less : tie.Need-loop-less Inv-loop μ-loop
-loop-less c = omega arith
-
 loop-again : tie.Need-loop-again Inv-loop μ-loop
 loop-again c =
-    let l = c .before .before .before .before .before .before .before .before .before .before .loop in
-    let s = c .before .before .before .before .before .before .before .before .before .before .before .before .before .args .s .now in
-    let act = c .before .before .before .before .before .before .read .given .0 .0 in
-    let line = put-text (c .before .before .put-line .ensures) (ap lineOf (c .before .before .before .fields-of .ensures)) in (
+    let at-put-line = c .before .before in
+    let at-read = at-put-line .before .before .before .before in
+    let at-record-at = at-read .before .before in
+    let at-loop = at-record-at .before .before in
+    let start = at-loop .before .before .before in
+    let l = at-loop .loop in
+    let s = start .args .s .now in
+    let act = at-read .read .given .0 .0 in
+    let line = put-text (at-put-line .put-line .ensures) (ap lineOf (at-put-line .before .fields-of .ensures)) in (
       omega arith,
-      (l .inv .1 .0 ++ lineOf (fieldsOf act), put-then (l .inv .1 .1) line, sym (record-read (l .k) s (l .at) (c .before .before .before .before .before .before .before .before .before .loop-test .taken) (l .inv .1 .0) act (sym (c .before .before .before .before .before .before .before .before .record-at .ensures) ∙ c .before .before .before .before .before .before .read .given .1)) ∙ l .inv .1 .2),
+      (l .inv .1 .0 ++ lineOf (fieldsOf act), put-then (l .inv .1 .1) line, sym (record-read (l .k) s (l .at) (at-record-at .before .loop-test .taken) (l .inv .1 .0) act (sym (at-record-at .record-at .ensures) ∙ at-read .read .given .1)) ∙ l .inv .1 .2),
     )
 
 same-length-2 : tie.Need-same-length-2 Inv-loop μ-loop
@@ -89,18 +64,18 @@ put-text-spec =
     Inv-loop
     μ-loop
     loop-holds
-    record-at-requires
-    enum-known-read
-    enum-told
-    answer-of-requires
-    cast-t11
+    (λ c κs. search needs)
+    (λ c. search needs)
+    (λ c. search needs)
+    (λ c κs. search needs)
+    (λ c. search needs)
     same-length
     returns
-    fields-of-requires
-    put-line-requires
-    add-at
-    add-k
-    loop-less
+    (λ c κs. search needs)
+    (λ c κs. search needs)
+    (λ c. omega arith)
+    (λ c. omega arith)
+    (λ c. omega arith)
     loop-again
     same-length-2
     returns-2)

@@ -7,39 +7,30 @@ use borrow.Author.Needs.{needs}
 use Rattle.schedule_text.proofs.writing.write.Statement.{statement}
 use Rattle.schedule_text.proofs.writing.write.Tie as tie
 
-slice-aggregate-put-text : tie.Need-slice-aggregate-put-text
-slice-aggregate-put-text c = search needs
-
-put-text-requires : tie.Need-put-text-requires
-put-text-requires c κs = search needs
-
-enum-known-measured : tie.Need-enum-known-measured
-enum-known-measured c = search needs
-
 returns : tie.Need-returns
 returns c = refused-then (writeText (c .before .before .before .before .before .before .args .s .now)) _ _ (c .before .before .put-text .result) _ (c .before .before .put-text .ensures) (not-done (c .before .before .put-text .result) (c .match .keys2))
 
 returns-2 : tie.Need-returns-2
 returns-2 c = no-room (writeText (c .before .before .before .before .before .before .before .before .before .args .s .now)) _ _ (c .before .before .before .before .before .put-text .result) _ (c .before .before .measured .given .0 .0) (c .before .before .before .before .before .put-text .ensures) (c .before .before .measured .given .1) (c .if1 .taken) (omega arith)
 
-put-text-requires-2 : tie.Need-put-text-requires-2
-put-text-requires-2 c κs = search needs
-
-same-length : tie.Need-same-length
-same-length c = search needs
-
 returns-3 : tie.Need-returns-3
-returns-3 c = turned (writeText (c .before .before .before .before .before .before .before .before .before .before .before .before .before .args .s .now)) _ _ (c .before .before .before .before .before .before .before .before .before .put-text .result) _ _ (c .before .before .put-text2 .result) (c .before .before .before .before .before .before .measured .given .0 .0) (c .before .before .before .before .before .before .before .before .before .put-text .ensures) (c .before .before .before .before .before .before .measured .given .1) (c .before .before .before .before .if1 .left) (omega arith) (c .before .before .put-text2 .ensures)
+returns-3 c =
+    let at-put-text2 = c .before .before in
+    let at-if1 = at-put-text2 .before .before in
+    let at-measured = at-if1 .before .before in
+    let at-put-text = at-measured .before .before .before in
+    let start = at-put-text .before .before .before .before in
+    turned (writeText (start .args .s .now)) _ _ (at-put-text .put-text .result) _ _ (at-put-text2 .put-text2 .result) (at-measured .measured .given .0 .0) (at-put-text .put-text .ensures) (at-measured .measured .given .1) (at-if1 .if1 .left) (omega arith) (at-put-text2 .put-text2 .ensures)
 
 pub write-spec : {M : Type 1} → statement M
 write-spec =
     tie.close
     (tie.spec
-    slice-aggregate-put-text
-    put-text-requires
-    enum-known-measured
+    (λ c. search needs)
+    (λ c κs. search needs)
+    (λ c. search needs)
     returns
     returns-2
-    put-text-requires-2
-    same-length
+    (λ c κs. search needs)
+    (λ c. search needs)
     returns-3)

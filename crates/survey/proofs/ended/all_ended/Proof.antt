@@ -1,6 +1,6 @@
 -- `survey::ended::all_ended` meets its contract. The invariant: the test is that over the first i controllers.
-use Prim.Native.Nat.{ℕ, suc, _+_, _-_, _≤_}
-use mathlib.Core.Bool.{Bool, true, _&&_}
+use Prim.Native.Nat.{ℕ, _+_, _-_, _≤_}
+use mathlib.Core.Bool.{Bool, _&&_}
 use mathlib.Core.List.{List}
 use mathlib.Core.Path.{_≡_, refl, _∙_, ap}
 use native.Mathlib.Numerals.{add-one}
@@ -24,24 +24,9 @@ Inv-loop moving n rows all₀ i₀ all i = (i ≤ n) × (all ≡ endedTo moving 
 abbrev μ-loop : tie.MeasureT-loop
 μ-loop moving n rows all₀ i₀ all i = n - i
 
-cast-n : tie.Need-cast-n Inv-loop μ-loop
-cast-n c = search needs
-
 loop-holds : tie.Need-loop-holds Inv-loop μ-loop
 unfolding allTo
 loop-holds c = (omega arith, refl)
-
-row-at-requires : tie.Need-row-at-requires Inv-loop μ-loop
-row-at-requires c κs = search needs
-
-all-with-requires : tie.Need-all-with-requires Inv-loop μ-loop
-all-with-requires c κs = search needs
-
-add-i : tie.Need-add-i Inv-loop μ-loop
-add-i c = omega arith
-
-loop-less : tie.Need-loop-less Inv-loop μ-loop
-loop-less c = omega arith
 
 -- one controller more
 one-more : (move : Bool) (rows : List Row) (i : ℕ) (row : Row) (all r : Bool) → row ≡ getD rows i blankRow → all ≡ endedTo move rows i → r ≡ (endedIf move row && all) → r ≡ endedTo move rows (i + 1)
@@ -69,11 +54,11 @@ all-ended-spec =
     (tie.spec
     Inv-loop
     μ-loop
-    cast-n
+    (λ c. search needs)
     loop-holds
-    row-at-requires
-    all-with-requires
-    add-i
-    loop-less
+    (λ c κs. search needs)
+    (λ c κs. search needs)
+    (λ c. omega arith)
+    (λ c. omega arith)
     loop-again
     returns)

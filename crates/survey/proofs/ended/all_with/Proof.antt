@@ -3,9 +3,6 @@ use borrow.Author.Needs.{needs}
 use Rattle.survey.proofs.ended.all_with.Statement.{statement}
 use Rattle.survey.proofs.ended.all_with.Tie as tie
 
-ended-if-requires : tie.Need-ended-if-requires
-ended-if-requires c κs = search needs
-
 returns : tie.Need-returns
 returns c = simp (← c .before .ended-if .ensures, c .if1 .taken)
 
@@ -13,4 +10,4 @@ returns-2 : tie.Need-returns-2
 returns-2 c = simp (← c .before .ended-if .ensures, c .if1 .left)
 
 pub all-with-spec : {M : Type 1} → statement M
-all-with-spec = tie.close (tie.spec ended-if-requires returns returns-2)
+all-with-spec = tie.close (tie.spec (λ c κs. search needs) returns returns-2)

@@ -1,5 +1,5 @@
 -- `survey::ended::any_present` meets its contract. The invariant: the test is that over the first i controllers.
-use Prim.Native.Nat.{ℕ, suc, _+_, _-_, _≤_}
+use Prim.Native.Nat.{ℕ, _+_, _-_, _≤_}
 use mathlib.Core.Bool.{Bool, _||_}
 use mathlib.Core.List.{List}
 use mathlib.Core.Path.{_≡_, refl, _∙_, ap}
@@ -24,24 +24,9 @@ Inv-loop n rows some₀ i₀ some i = (i ≤ n) × (some ≡ someTo rows i)
 abbrev μ-loop : tie.MeasureT-loop
 μ-loop n rows some₀ i₀ some i = n - i
 
-cast-n : tie.Need-cast-n Inv-loop μ-loop
-cast-n c = search needs
-
 loop-holds : tie.Need-loop-holds Inv-loop μ-loop
 unfolding anyTo
 loop-holds c = (omega arith, refl)
-
-row-at-requires : tie.Need-row-at-requires Inv-loop μ-loop
-row-at-requires c κs = search needs
-
-some-with-requires : tie.Need-some-with-requires Inv-loop μ-loop
-some-with-requires c κs = search needs
-
-add-i : tie.Need-add-i Inv-loop μ-loop
-add-i c = omega arith
-
-loop-less : tie.Need-loop-less Inv-loop μ-loop
-loop-less c = omega arith
 
 -- one controller more
 one-more : (rows : List Row) (i : ℕ) (row : Row) (some r : Bool) → row ≡ getD rows i blankRow → some ≡ someTo rows i → r ≡ (isPresent row || some) → r ≡ someTo rows (i + 1)
@@ -68,11 +53,11 @@ any-present-spec =
     (tie.spec
     Inv-loop
     μ-loop
-    cast-n
+    (λ c. search needs)
     loop-holds
-    row-at-requires
-    some-with-requires
-    add-i
-    loop-less
+    (λ c κs. search needs)
+    (λ c κs. search needs)
+    (λ c. omega arith)
+    (λ c. omega arith)
     loop-again
     returns)

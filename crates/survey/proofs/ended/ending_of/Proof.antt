@@ -5,15 +5,9 @@ use Rattle.survey.specs.Ended.{endingOf}
 use Rattle.survey.proofs.ended.ending_of.Statement.{statement}
 use Rattle.survey.proofs.ended.ending_of.Tie as tie
 
-any-present-requires : tie.Need-any-present-requires
-any-present-requires c κs = search needs
-
 returns : tie.Need-returns
 unfolding endingOf
 returns c = simp (← c .before .any-present .ensures, not-true (c .before .any-present .result) (c .if1 .taken))
-
-all-ended-requires : tie.Need-all-ended-requires
-all-ended-requires c κs = search needs
 
 returns-2 : tie.Need-returns-2
 unfolding endingOf
@@ -21,9 +15,6 @@ returns-2 c =
     let moved = c .before in
     let left = moved .before .before in
     simp (← left .any-present .ensures, not-false (left .any-present .result) (moved .before .if1 .left), ← moved .all-ended .ensures, c .if2 .taken)
-
-all-ended-requires-2 : tie.Need-all-ended-requires-2
-all-ended-requires-2 c κs = search needs
 
 returns-3 : tie.Need-returns-3
 unfolding endingOf
@@ -45,10 +36,10 @@ pub ending-of-spec : {M : Type 1} → statement M
 ending-of-spec =
     tie.close
     (tie.spec
-    any-present-requires
+    (λ c κs. search needs)
     returns
-    all-ended-requires
+    (λ c κs. search needs)
     returns-2
-    all-ended-requires-2
+    (λ c κs. search needs)
     returns-3
     returns-4)

@@ -3,9 +3,6 @@ use borrow.Author.Needs.{needs}
 use Rattle.survey.proofs.ended.some_with.Statement.{statement}
 use Rattle.survey.proofs.ended.some_with.Tie as tie
 
-is-present-requires : tie.Need-is-present-requires
-is-present-requires c κs = search needs
-
 returns : tie.Need-returns
 returns c = simp (← c .before .is-present .ensures, c .if1 .taken)
 
@@ -13,4 +10,4 @@ returns-2 : tie.Need-returns-2
 returns-2 c = simp (← c .before .is-present .ensures, c .if1 .left)
 
 pub some-with-spec : {M : Type 1} → statement M
-some-with-spec = tie.close (tie.spec is-present-requires returns returns-2)
+some-with-spec = tie.close (tie.spec (λ c κs. search needs) returns returns-2)

@@ -4,18 +4,6 @@ use borrow.Author.Needs.{needs}
 use Rattle.survey.proofs.page.put_endings.Statement.{statement}
 use Rattle.survey.proofs.page.put_endings.Tie as tie
 
-put-number-requires : tie.Need-put-number-requires
-put-number-requires c κs = search needs
-
-put-field-requires : tie.Need-put-field-requires
-put-field-requires c κs = search needs
-
-put-field-requires-2 : tie.Need-put-field-requires-2
-put-field-requires-2 c κs = search needs
-
-put-byte-requires : tie.Need-put-byte-requires
-put-byte-requires c κs = search needs
-
 returns : tie.Need-returns
 returns c =
     let fourth = c .before .before in
@@ -31,9 +19,9 @@ pub put-endings-spec : {M : Type 1} → statement M
 put-endings-spec =
     tie.close
     (tie.spec
-    put-number-requires
-    put-field-requires
-    put-field-requires-2
-    put-byte-requires
+    (λ c κs. search needs)
+    (λ c κs. search needs)
+    (λ c κs. search needs)
+    (λ c κs. search needs)
     same-length
     returns)

@@ -4,21 +4,6 @@ use borrow.Author.Needs.{needs}
 use Rattle.survey.proofs.page.put_messages.Statement.{statement}
 use Rattle.survey.proofs.page.put_messages.Tie as tie
 
-put-number-requires : tie.Need-put-number-requires
-put-number-requires c κs = search needs
-
-put-field-requires : tie.Need-put-field-requires
-put-field-requires c κs = search needs
-
-put-field-requires-2 : tie.Need-put-field-requires-2
-put-field-requires-2 c κs = search needs
-
-put-field-requires-3 : tie.Need-put-field-requires-3
-put-field-requires-3 c κs = search needs
-
-put-byte-requires : tie.Need-put-byte-requires
-put-byte-requires c κs = search needs
-
 returns : tie.Need-returns
 returns c =
     let fifth = c .before .before in
@@ -36,10 +21,10 @@ pub put-messages-spec : {M : Type 1} → statement M
 put-messages-spec =
     tie.close
     (tie.spec
-    put-number-requires
-    put-field-requires
-    put-field-requires-2
-    put-field-requires-3
-    put-byte-requires
+    (λ c κs. search needs)
+    (λ c κs. search needs)
+    (λ c κs. search needs)
+    (λ c κs. search needs)
+    (λ c κs. search needs)
     same-length
     returns)

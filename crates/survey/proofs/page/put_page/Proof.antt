@@ -5,18 +5,6 @@ use borrow.Author.Needs.{needs}
 use Rattle.survey.proofs.page.put_page.Statement.{statement}
 use Rattle.survey.proofs.page.put_page.Tie as tie
 
-put-endings-requires : tie.Need-put-endings-requires
-put-endings-requires c κs = search needs
-
-put-messages-requires : tie.Need-put-messages-requires
-put-messages-requires c κs = search needs
-
-put-two-requires : tie.Need-put-two-requires
-put-two-requires c κs = search needs
-
-put-two-requires-2 : tie.Need-put-two-requires-2
-put-two-requires-2 c κs = search needs
-
 returns : tie.Need-returns
 unfolding page
 returns c =
@@ -33,9 +21,9 @@ pub put-page-spec : {M : Type 1} → statement M
 put-page-spec =
     tie.close
     (tie.spec
-    put-endings-requires
-    put-messages-requires
-    put-two-requires
-    put-two-requires-2
+    (λ c κs. search needs)
+    (λ c κs. search needs)
+    (λ c κs. search needs)
+    (λ c κs. search needs)
     same-length
     returns)

@@ -4,15 +4,6 @@ use borrow.Author.Needs.{needs}
 use Rattle.survey.proofs.page.put_two.Statement.{statement}
 use Rattle.survey.proofs.page.put_two.Tie as tie
 
-put-number-requires : tie.Need-put-number-requires
-put-number-requires c κs = search needs
-
-put-field-requires : tie.Need-put-field-requires
-put-field-requires c κs = search needs
-
-put-byte-requires : tie.Need-put-byte-requires
-put-byte-requires c κs = search needs
-
 returns : tie.Need-returns
 returns c =
     let third = c .before .before in
@@ -26,4 +17,4 @@ same-length c = put-length (returns c)
 pub put-two-spec : {M : Type 1} → statement M
 put-two-spec =
     tie.close
-    (tie.spec put-number-requires put-field-requires put-byte-requires same-length returns)
+    (tie.spec (λ c κs. search needs) (λ c κs. search needs) (λ c κs. search needs) same-length returns)

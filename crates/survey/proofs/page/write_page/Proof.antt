@@ -12,12 +12,6 @@ use borrow.Author.Needs.{needs}
 use Rattle.survey.proofs.page.write_page.Statement.{statement}
 use Rattle.survey.proofs.page.write_page.Tie as tie
 
-slice-aggregate-put-page : tie.Need-slice-aggregate-put-page
-slice-aggregate-put-page c = search needs
-
-put-page-requires : tie.Need-put-page-requires
-put-page-requires c κs = search needs
-
 -- the page in its array: its length and its bytes
 abbrev thePage : tie.After-put-page → List ℕ
 thePage c = page (c .before .before .before .args .r) (c .before .before .before .args .k)
@@ -38,12 +32,6 @@ array-share-prefix-text c = within (c .before .before)
 slice-aggregate-write-bytes : tie.Need-slice-aggregate-write-bytes
 slice-aggregate-write-bytes c = sym (length-take-le _ _ (within (c .before .before .before)))
 
-write-bytes-requires : tie.Need-write-bytes-requires
-write-bytes-requires c κs = search needs
-
-same-length : tie.Need-same-length
-same-length c = search needs
-
 returns : tie.Need-returns
 returns c =
     let made-it = c .before .before .before .before .before .before in
@@ -53,10 +41,10 @@ pub write-page-spec : {M : Type 1} → statement M
 write-page-spec =
     tie.close
     (tie.spec
-    slice-aggregate-put-page
-    put-page-requires
+    (λ c. search needs)
+    (λ c κs. search needs)
     array-share-prefix-text
     slice-aggregate-write-bytes
-    write-bytes-requires
-    same-length
+    (λ c κs. search needs)
+    (λ c. search needs)
     returns)

@@ -19,9 +19,6 @@ returns-3 : tie.Need-returns-3
 unfolding numbersInRange
 returns-3 c = simp (le-leb _ _ (c .before .before .if1 .left), le-leb _ _ (c .before .if2 .left), lt-leb _ _ (c .if3 .taken))
 
-sub-if4 : tie.Need-sub-if4
-sub-if4 c = search needs
-
 -- the last number without its sum: it is above the highest where k − 1 is more than is left of it
 returns-4 : tie.Need-returns-4
 unfolding numbersInRange
@@ -37,4 +34,4 @@ returns-5 c =
 
 pub numbers-in-range-spec : {M : Type 1} → statement M
 numbers-in-range-spec =
-    tie.close (tie.spec returns returns-2 returns-3 sub-if4 returns-4 returns-5)
+    tie.close (tie.spec returns returns-2 returns-3 (λ c. search needs) returns-4 returns-5)

@@ -6,15 +6,9 @@ use Rattle.survey.specs.Questions.{refusalOf}
 use Rattle.survey.proofs.questions.refusal_of.Statement.{statement}
 use Rattle.survey.proofs.questions.refusal_of.Tie as tie
 
-sizes-in-range-requires : tie.Need-sizes-in-range-requires
-sizes-in-range-requires c κs = search needs
-
 returns : tie.Need-returns
 unfolding refusalOf firstNo unless
 returns c = simp (← c .before .sizes-in-range .ensures, not-true (c .before .sizes-in-range .result) (c .if1 .taken))
-
-numbers-in-range-requires : tie.Need-numbers-in-range-requires
-numbers-in-range-requires c κs = search needs
 
 returns-2 : tie.Need-returns-2
 unfolding refusalOf firstNo unless
@@ -41,9 +35,9 @@ pub refusal-of-spec : {M : Type 1} → statement M
 refusal-of-spec =
     tie.close
     (tie.spec
-    sizes-in-range-requires
+    (λ c κs. search needs)
     returns
-    numbers-in-range-requires
+    (λ c κs. search needs)
     returns-2
     returns-3
     returns-4)

@@ -9,18 +9,6 @@ use Rattle.survey_output.proofs.Runs.{is-file, all-run}
 use Rattle.survey_output.proofs.schedules.end_in.Statement.{statement}
 use Rattle.survey_output.proofs.schedules.end_in.Tie as tie
 
-generate-requires : tie.Need-generate-requires
-generate-requires c κs = search needs
-
-slice-aggregate-run : tie.Need-slice-aggregate-run
-slice-aggregate-run c = search needs
-
-run-requires : tie.Need-run-requires
-run-requires c κs = search needs
-
-same-length : tie.Need-same-length
-same-length c = search needs
-
 returns : tie.Need-returns
 returns c =
     let ran = c .before .before in
@@ -30,4 +18,4 @@ returns c =
     ap (λ (r : RunResult). r .summary) (ran .run .ensures .result) ∙ all-run _ _ _ _ (pre .0) _ _ file (length-replicate {A = ℕ} mostAnswers 0)
 
 pub end-in-spec : {M : Type 1} → statement M
-end-in-spec = tie.close (tie.spec generate-requires slice-aggregate-run run-requires same-length returns)
+end-in-spec = tie.close (tie.spec (λ c κs. search needs) (λ c. search needs) (λ c κs. search needs) (λ c. search needs) returns)

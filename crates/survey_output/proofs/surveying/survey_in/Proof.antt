@@ -1,5 +1,5 @@
 -- `survey_output::surveying::survey_in` meets its contract. The invariant: the figures are those of the schedules done, and the buffer is as long as a file.
-use Prim.Native.Nat.{ℕ, _*_, _-_, _≤_}
+use Prim.Native.Nat.{_*_, _-_, _≤_}
 use mathlib.Core.Path.{_≡_, sym, _∙_, ap}
 use native.Mathlib.Omega.{arith}
 use lib.ListN.{length}
@@ -19,9 +19,6 @@ Inv-loop file₀ n f count s k r₀ done₀ file r done = (done ≤ k) × (r ≡
 
 abbrev μ-loop : tie.MeasureT-loop
 μ-loop file₀ n f count s k r₀ done₀ file r done = k - done
-
-nothing-requires : tie.Need-nothing-requires Inv-loop μ-loop
-nothing-requires c κs = search needs
 
 loop-holds : tie.Need-loop-holds Inv-loop μ-loop
 unfolding surveyOf
@@ -43,12 +40,6 @@ with-one-requires c κs =
     let l = shown .before .before .before .loop in
     let a = accepted-record _ _ _ _ _ (shown .before .before .before .before .before .before .pre .0) in
     has-room _ _ _ _ _ _ _ (l .inv .1) (shown .end-in .ensures) (omega (arith, a .numbers .few, l .inv .0))
-
-add-done : tie.Need-add-done Inv-loop μ-loop
-add-done c = omega arith
-
-loop-less : tie.Need-loop-less Inv-loop μ-loop
-loop-less c = omega arith
 
 loop-again : tie.Need-loop-again Inv-loop μ-loop
 loop-again c =
@@ -72,13 +63,13 @@ survey-in-spec =
     (tie.spec
     Inv-loop
     μ-loop
-    nothing-requires
+    (λ c κs. search needs)
     loop-holds
     add-number
     end-in-requires
     with-one-requires
-    add-done
-    loop-less
+    (λ c. omega arith)
+    (λ c. omega arith)
     loop-again
     same-length
     returns)

@@ -2,7 +2,7 @@
 use Prim.Native.Nat.{ℕ, _≤_}
 use mathlib.Core.Path.{sym, _∙_}
 use native.Mathlib.Omega.{arith}
-use lib.ListN.{length, length-replicate}
+use lib.ListN.{length-replicate}
 use lib.Seq.{length-take-le}
 use borrow.Author.Needs.{needs}
 use Rattle.generator.specs.Output.{longestOutput}
@@ -10,9 +10,6 @@ use Rattle.survey.proofs.Record.{accepted-record}
 use Rattle.survey_output.proofs.Runs.{buffer-holds}
 use Rattle.survey_output.proofs.surveying.survey_of.Statement.{statement}
 use Rattle.survey_output.proofs.surveying.survey_of.Tie as tie
-
-file-length-requires : tie.Need-file-length-requires
-file-length-requires c κs = search needs
 
 holds : (c : tie.After-file-length) → c .file-length .result ≤ longestOutput
 holds c = buffer-holds _ _ _ _ _ _ (accepted-record _ _ _ _ _ (c .before .pre)) (c .file-length .ensures)
@@ -34,7 +31,7 @@ pub survey-of-spec : {M : Type 1} → statement M
 survey-of-spec =
     tie.close
     (tie.spec
-    file-length-requires
+    (λ c κs. search needs)
     array-borrow-prefix-file
     slice-aggregate-survey-in
     survey-in-requires

@@ -5,18 +5,6 @@ use borrow.Author.Needs.{needs}
 use Rattle.tariff.proofs.charge.charge.Statement.{statement}
 use Rattle.tariff.proofs.charge.charge.Tie as tie
 
-enum-told : tie.Need-enum-told
-enum-told c = search needs
-
-enum-told-2 : tie.Need-enum-told-2
-enum-told-2 c = search needs
-
-enum-told-3 : tie.Need-enum-told-3
-enum-told-3 c = search needs
-
-full-charge-requires : tie.Need-full-charge-requires
-full-charge-requires c κs = search needs
-
 reduced-requires : tie.Need-reduced-requires
 reduced-requires c κs = rw (c .full-charge .ensures) (full-charge-most _)
 
@@ -36,10 +24,10 @@ pub charge-spec : {M : Type 1} → statement M
 charge-spec =
     tie.close
     (tie.spec
-    enum-told
-    enum-told-2
-    enum-told-3
-    full-charge-requires
+    (λ c. search needs)
+    (λ c. search needs)
+    (λ c. search needs)
+    (λ c κs. search needs)
     reduced-requires
     returns
     returns-2

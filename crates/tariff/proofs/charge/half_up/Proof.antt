@@ -6,12 +6,9 @@ use borrow.Author.Needs.{needs}
 use Rattle.tariff.proofs.charge.half_up.Statement.{statement}
 use Rattle.tariff.proofs.charge.half_up.Tie as tie
 
-add-result : tie.Need-add-result
-add-result c = search needs
-
 returns : tie.Need-returns
 unfolding roundedUp
 returns c = (omega arith, is-smallest (omega arith) (omega arith))
 
 pub half-up-spec : {M : Type 1} → statement M
-half-up-spec = tie.close (tie.spec add-result returns)
+half-up-spec = tie.close (tie.spec (λ c. search needs) returns)

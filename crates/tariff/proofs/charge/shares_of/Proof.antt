@@ -6,9 +6,6 @@ use borrow.Author.Needs.{needs}
 use Rattle.tariff.proofs.charge.shares_of.Statement.{statement}
 use Rattle.tariff.proofs.charge.shares_of.Tie as tie
 
-charge-requires : tie.Need-charge-requires
-charge-requires c κs = search needs
-
 upper-share-requires : tie.Need-upper-share-requires
 upper-share-requires c κs = rw (c .charge .ensures) (charge-most _ _ _)
 
@@ -20,4 +17,4 @@ unfolding shared
 returns c = simp (← c .before .charge .ensures, c .upper-share .ensures .0)
 
 pub shares-of-spec : {M : Type 1} → statement M
-shares-of-spec = tie.close (tie.spec charge-requires upper-share-requires sub-t6 returns)
+shares-of-spec = tie.close (tie.spec (λ c κs. search needs) upper-share-requires sub-t6 returns)

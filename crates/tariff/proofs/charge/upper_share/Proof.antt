@@ -6,15 +6,9 @@ use borrow.Author.Needs.{needs}
 use Rattle.tariff.proofs.charge.upper_share.Statement.{statement}
 use Rattle.tariff.proofs.charge.upper_share.Tie as tie
 
-mul-result : tie.Need-mul-result
-mul-result c = search needs
-
-add-result : tie.Need-add-result
-add-result c = search needs
-
 returns : tie.Need-returns
 unfolding roundedUp
 returns c = (omega arith, is-smallest (omega arith) (omega arith))
 
 pub upper-share-spec : {M : Type 1} → statement M
-upper-share-spec = tie.close (tie.spec mul-result add-result returns)
+upper-share-spec = tie.close (tie.spec (λ c. search needs) (λ c. search needs) returns)

@@ -7,17 +7,8 @@ use borrow.Author.Needs.{needs}
 use Rattle.trace_text.proofs.ballots.is_new_in.Statement.{statement}
 use Rattle.trace_text.proofs.ballots.is_new_in.Tie as tie
 
-different-controllers-requires : tie.Need-different-controllers-requires
-different-controllers-requires c κs = search needs
-
 returns : tie.Need-returns
 returns c = not-different _ _ _ _ _ _ _ (sym (c .before .different-controllers .ensures) ∙ not-true _ (c .if1 .taken))
-
-was-sent-in-requires : tie.Need-was-sent-in-requires
-was-sent-in-requires c κs = search needs
-
-was-sent-in-requires-2 : tie.Need-was-sent-in-requires-2
-was-sent-in-requires-2 c κs = search needs
 
 returns-2 : tie.Need-returns-2
 returns-2 c = ap not (c .was-sent-in2 .ensures) ∙ is-sent _ _ _ _ _ _ _ (sym (c .before .before .before .before .different-controllers .ensures) ∙ not-false _ (c .before .before .before .if1 .left)) (sym (c .before .before .was-sent-in .ensures) ∙ c .before .if2 .taken)
@@ -29,9 +20,9 @@ pub is-new-in-spec : {M : Type 1} → statement M
 is-new-in-spec =
     tie.close
     (tie.spec
-    different-controllers-requires
+    (λ c κs. search needs)
     returns
-    was-sent-in-requires
-    was-sent-in-requires-2
+    (λ c κs. search needs)
+    (λ c κs. search needs)
     returns-2
     returns-3)

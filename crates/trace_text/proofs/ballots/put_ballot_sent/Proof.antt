@@ -10,12 +10,6 @@ use borrow.Author.Needs.{needs}
 use Rattle.trace_text.proofs.ballots.put_ballot_sent.Statement.{statement}
 use Rattle.trace_text.proofs.ballots.put_ballot_sent.Tie as tie
 
-ballot-of-requires : tie.Need-ballot-of-requires
-ballot-of-requires c κs = search needs
-
-is-ballot-requires : tie.Need-is-ballot-requires
-is-ballot-requires c κs = search needs
-
 returns : tie.Need-returns
 unfolding text
 returns c = put-text (put-nothing _ _ (omega arith) (omega arith)) (ap text (no-ballot _ _ _ _ _ (c .before .before .ballot-of .ensures) (sym (c .before .is-ballot .ensures) ∙ not-true _ (c .if1 .taken))))
@@ -23,17 +17,8 @@ returns c = put-text (put-nothing _ _ (omega arith) (omega arith)) (ap text (no-
 sub-k : tie.Need-sub-k
 sub-k c = ballot-low _ (sym (c .before .is-ballot .ensures) ∙ not-false _ (c .if1 .left))
 
-cast-k : tie.Need-cast-k
-cast-k c = search needs
-
-mul-was : tie.Need-mul-was
-mul-was c = search needs
-
 array-copy-out-was : tie.Need-array-copy-out-was
 array-copy-out-was c = omega (arith, ballot-low _ (sym (c .before .is-ballot .ensures) ∙ not-false _ (c .if1 .left)), ballot-high _ (sym (c .before .is-ballot .ensures) ∙ not-false _ (c .if1 .left)))
-
-mul-is : tie.Need-mul-is
-mul-is c = search needs
 
 array-copy-out-is : tie.Need-array-copy-out-is
 array-copy-out-is c = omega (arith, ballot-low _ (sym (c .before .before .is-ballot .ensures) ∙ not-false _ (c .before .if1 .left)), ballot-high _ (sym (c .before .before .is-ballot .ensures) ∙ not-false _ (c .before .if1 .left)))
@@ -41,30 +26,28 @@ array-copy-out-is c = omega (arith, ballot-low _ (sym (c .before .before .is-bal
 cast-put-in-ballot : tie.Need-cast-put-in-ballot
 cast-put-in-ballot c = omega (arith, ballot-low _ (sym (c .before .before .before .before .is-ballot .ensures) ∙ not-false _ (c .before .before .before .if1 .left)), ballot-high _ (sym (c .before .before .before .before .is-ballot .ensures) ∙ not-false _ (c .before .before .before .if1 .left)))
 
-put-in-ballot-requires : tie.Need-put-in-ballot-requires
-put-in-ballot-requires c κs = search needs
-
-same-length : tie.Need-same-length
-same-length c = search needs
-
 returns-2 : tie.Need-returns-2
 unfolding newRow
-returns-2 c = put-text (c .before .before .put-in-ballot .ensures) (ap text (in-ballot _ _ _ _ _ (c .before .before .before .before .before .before .before .before .ballot-of .ensures) (sym (c .before .before .before .before .before .before .before .is-ballot .ensures) ∙ not-false _ (c .before .before .before .before .before .before .if1 .left))))
+returns-2 c =
+    let at-put-in-ballot = c .before .before in
+    let at-if1 = at-put-in-ballot .before .before .before .before in
+    let at-ballot-of = at-if1 .before .before in
+    put-text (at-put-in-ballot .put-in-ballot .ensures) (ap text (in-ballot _ _ _ _ _ (at-ballot-of .ballot-of .ensures) (sym (at-if1 .before .is-ballot .ensures) ∙ not-false _ (at-if1 .if1 .left))))
 
 pub put-ballot-sent-spec : {M : Type 1} → statement M
 put-ballot-sent-spec =
     tie.close
     (tie.spec
-    ballot-of-requires
-    is-ballot-requires
+    (λ c κs. search needs)
+    (λ c κs. search needs)
     returns
     sub-k
-    cast-k
-    mul-was
+    (λ c. search needs)
+    (λ c. search needs)
     array-copy-out-was
-    mul-is
+    (λ c. search needs)
     array-copy-out-is
     cast-put-in-ballot
-    put-in-ballot-requires
-    same-length
+    (λ c κs. search needs)
+    (λ c. search needs)
     returns-2)

@@ -7,39 +7,6 @@ use borrow.Author.Needs.{needs}
 use Rattle.trace_text.proofs.ballots.put_ballots.Statement.{statement}
 use Rattle.trace_text.proofs.ballots.put_ballots.Tie as tie
 
-enum-told : tie.Need-enum-told
-enum-told c = search needs
-
-enum-told-2 : tie.Need-enum-told-2
-enum-told-2 c = search needs
-
-enum-told-3 : tie.Need-enum-told-3
-enum-told-3 c = search needs
-
-enum-told-4 : tie.Need-enum-told-4
-enum-told-4 c = search needs
-
-enum-told-5 : tie.Need-enum-told-5
-enum-told-5 c = search needs
-
-enum-told-6 : tie.Need-enum-told-6
-enum-told-6 c = search needs
-
-enum-told-7 : tie.Need-enum-told-7
-enum-told-7 c = search needs
-
-enum-told-8 : tie.Need-enum-told-8
-enum-told-8 c = search needs
-
-enum-told-9 : tie.Need-enum-told-9
-enum-told-9 c = search needs
-
-enum-known-e : tie.Need-enum-known-e
-enum-known-e c = search needs
-
-put-ballot-sent-requires : tie.Need-put-ballot-sent-requires
-put-ballot-sent-requires c κs = search needs
-
 returns : tie.Need-returns
 unfolding ballots text
 returns c = rw (c .enum-told .given .1) (put-nothing _ _ (omega arith) (omega arith))
@@ -76,9 +43,6 @@ returns-9 : tie.Need-returns-9
 unfolding ballots text
 returns-9 c = rw (c .enum-told9 .given .1) (put-nothing _ _ (omega arith) (omega arith))
 
-same-length : tie.Need-same-length
-same-length c = search needs
-
 returns-10 : tie.Need-returns-10
 unfolding ballots
 returns-10 c = put-text (c .before .before .put-ballot-sent .ensures) (rw (c .before .before .before .before .before .e .given .1))
@@ -87,17 +51,17 @@ pub put-ballots-spec : {M : Type 1} → statement M
 put-ballots-spec =
     tie.close
     (tie.spec
-    enum-told
-    enum-told-2
-    enum-told-3
-    enum-told-4
-    enum-told-5
-    enum-told-6
-    enum-told-7
-    enum-told-8
-    enum-told-9
-    enum-known-e
-    put-ballot-sent-requires
+    (λ c. search needs)
+    (λ c. search needs)
+    (λ c. search needs)
+    (λ c. search needs)
+    (λ c. search needs)
+    (λ c. search needs)
+    (λ c. search needs)
+    (λ c. search needs)
+    (λ c. search needs)
+    (λ c. search needs)
+    (λ c κs. search needs)
     returns
     returns-2
     returns-3
@@ -107,5 +71,5 @@ put-ballots-spec =
     returns-7
     returns-8
     returns-9
-    same-length
+    (λ c. search needs)
     returns-10)

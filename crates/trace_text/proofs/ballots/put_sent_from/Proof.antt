@@ -1,11 +1,11 @@
 -- `trace_text::ballots::put_sent_from` meets its contract.
-use Prim.Native.Nat.{ℕ, suc, _≤_, _-_}
+use Prim.Native.Nat.{ℕ, _≤_, _-_}
 use mathlib.Core.List.{List}
 use mathlib.Core.Path.{_∙_, ap}
 use native.Mathlib.Numerals.{add-one}
 use native.Mathlib.Omega.{arith}
-use Rattle.text.specs.WritingLaws.{put-then, put-text, put-nothing, put-length}
-use Rattle.trace.specs.LineLaws.{put-no-lines, put-more, put-all, put-sent, put-word}
+use Rattle.text.specs.WritingLaws.{put-length}
+use Rattle.trace.specs.LineLaws.{put-no-lines, put-more, put-all, put-sent}
 use Rattle.ground.specs.Limit.{limit}
 use Rattle.model.specs.declared.BallotKind.{BallotKind}
 use Rattle.model.specs.declared.BallotEvent.the-variants.{Carry}
@@ -30,34 +30,17 @@ abbrev μ-loop : tie.MeasureT-loop
 loop-holds : tie.Need-loop-holds Inv-loop μ-loop
 loop-holds c = (omega arith, put-no-lines _ _ _ (omega arith) (omega arith))
 
-cast-j : tie.Need-cast-j Inv-loop μ-loop
-cast-j c = omega arith
-
-add-j : tie.Need-add-j Inv-loop μ-loop
-add-j c = omega arith
-
-is-new-in-requires : tie.Need-is-new-in-requires Inv-loop μ-loop
-is-new-in-requires c κs = search needs
-
-slice-aggregate-put-told-if : tie.Need-slice-aggregate-put-told-if Inv-loop μ-loop
-slice-aggregate-put-told-if c = search needs
-
-put-told-if-requires : tie.Need-put-told-if-requires Inv-loop μ-loop
-put-told-if-requires c κs = search needs
-
-add-k : tie.Need-add-k Inv-loop μ-loop
-add-k c = omega arith
-
-loop-less : tie.Need-loop-less Inv-loop μ-loop
-loop-less c = omega arith
-
 loop-again : tie.Need-loop-again Inv-loop μ-loop
 loop-again c =
-    let l = c .before .before .before .before .before .before .before .loop in
-    let a = c .before .before .before .before .before .before .before .before .before .args in (
+    let at-put-told-if = c .before .before in
+    let at-is-new-in = at-put-told-if .before .before in
+    let at-loop = at-is-new-in .before .before .before in
+    let start = at-loop .before .before in
+    let l = at-loop .loop in
+    let a = start .args in (
       omega arith,
       put-more (l .k) (told (a .kind) (a .n) (a .b) (a .i) (a .old) (a .new)) (l .inv .1)
-          (put-sent _ _ _ _ (c .before .before .before .before .is-new-in .ensures ∙ ap (λ (j : ℕ). newIn (a .kind) (a .n) (a .b) (a .i) j (a .old) (a .new)) (add-one (l .k))) (ap (λ (j : ℕ). OfBallots (Carry (a .i) j (a .kind) (a .b))) (add-one (l .k))) (c .before .before .put-told-if .ensures)),
+          (put-sent _ _ _ _ (at-is-new-in .is-new-in .ensures ∙ ap (λ (j : ℕ). newIn (a .kind) (a .n) (a .b) (a .i) j (a .old) (a .new)) (add-one (l .k))) (ap (λ (j : ℕ). OfBallots (Carry (a .i) j (a .kind) (a .b))) (add-one (l .k))) (at-put-told-if .put-told-if .ensures)),
     )
 
 same-length : tie.Need-same-length Inv-loop μ-loop
@@ -74,13 +57,13 @@ put-sent-from-spec =
     Inv-loop
     μ-loop
     loop-holds
-    cast-j
-    add-j
-    is-new-in-requires
-    slice-aggregate-put-told-if
-    put-told-if-requires
-    add-k
-    loop-less
+    (λ c. omega arith)
+    (λ c. omega arith)
+    (λ c κs. search needs)
+    (λ c. search needs)
+    (λ c κs. search needs)
+    (λ c. omega arith)
+    (λ c. omega arith)
     loop-again
     same-length
     returns)

@@ -1,7 +1,5 @@
 -- `trace_text::ballots::put_sent_in` meets its contract.
-use Prim.Native.Nat.{ℕ, suc, _≤_, _-_}
-use mathlib.Core.List.{List, []}
-use mathlib.Core.Path.{_∙_, ap}
+use Prim.Native.Nat.{_≤_, _-_}
 use native.Mathlib.Numerals.{add-one}
 use native.Mathlib.Omega.{arith}
 use borrow.Author.Needs.{needs}
@@ -23,21 +21,6 @@ abbrev μ-loop : tie.MeasureT-loop
 loop-holds : tie.Need-loop-holds Inv-loop μ-loop
 loop-holds c = (omega arith, put-no-lines _ _ _ (omega arith) (omega arith))
 
-cast-put-sent-from : tie.Need-cast-put-sent-from Inv-loop μ-loop
-cast-put-sent-from c = omega arith
-
-add-put-sent-from : tie.Need-add-put-sent-from Inv-loop μ-loop
-add-put-sent-from c = omega arith
-
-put-sent-from-requires : tie.Need-put-sent-from-requires Inv-loop μ-loop
-put-sent-from-requires c κs = search needs
-
-add-k : tie.Need-add-k Inv-loop μ-loop
-add-k c = omega arith
-
-loop-less : tie.Need-loop-less Inv-loop μ-loop
-loop-less c = omega arith
-
 loop-again : tie.Need-loop-again Inv-loop μ-loop
 loop-again c =
     let l = c .before .before .before .before .before .loop in
@@ -58,11 +41,11 @@ put-sent-in-spec =
     Inv-loop
     μ-loop
     loop-holds
-    cast-put-sent-from
-    add-put-sent-from
-    put-sent-from-requires
-    add-k
-    loop-less
+    (λ c. omega arith)
+    (λ c. omega arith)
+    (λ c κs. search needs)
+    (λ c. omega arith)
+    (λ c. omega arith)
     loop-again
     same-length
     returns)

@@ -9,27 +9,18 @@ use borrow.Author.Needs.{needs}
 use Rattle.trace_text.proofs.changes.put_changes.Statement.{statement}
 use Rattle.trace_text.proofs.changes.put_changes.Tie as tie
 
-summary-of-requires : tie.Need-summary-of-requires
-summary-of-requires c κs = search needs
-
-summary-of-requires-2 : tie.Need-summary-of-requires-2
-summary-of-requires-2 c κs = search needs
-
-put-rows-requires : tie.Need-put-rows-requires
-put-rows-requires c κs = search needs
-
-same-length : tie.Need-same-length
-same-length c = search needs
-
 returns : tie.Need-returns
 unfolding changed
 returns c =
-    let a = c .before .before .before .before .before .before .before .before .before .before .before .args in
-    let was = c .before .before .before .before .before .before .before .summary-of .ensures (a .old .ballots) in
-    let is = c .before .before .before .before .before .before .summary-of2 .ensures (a .new .ballots) in
-    put-text (c .before .before .put-rows .ensures) (ap (λ (s : Summary). text (changed s (c .before .before .before .before .before .before .summary-of2 .result))) was ∙ ap (λ (s : Summary). text (changed (summaryOf (a .old)) s)) is)
+    let at-put-rows = c .before .before in
+    let at-summary-of2 = at-put-rows .before .before .before .before in
+    let start = at-summary-of2 .before .before .before .before .before in
+    let a = start .args in
+    let was = at-summary-of2 .before .summary-of .ensures (a .old .ballots) in
+    let is = at-summary-of2 .summary-of2 .ensures (a .new .ballots) in
+    put-text (at-put-rows .put-rows .ensures) (ap (λ (s : Summary). text (changed s (at-summary-of2 .summary-of2 .result))) was ∙ ap (λ (s : Summary). text (changed (summaryOf (a .old)) s)) is)
 
 pub put-changes-spec : {M : Type 1} → statement M
 put-changes-spec =
     tie.close
-    (tie.spec summary-of-requires summary-of-requires-2 put-rows-requires same-length returns)
+    (tie.spec (λ c κs. search needs) (λ c κs. search needs) (λ c κs. search needs) (λ c. search needs) returns)

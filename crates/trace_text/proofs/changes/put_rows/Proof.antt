@@ -1,11 +1,10 @@
 -- `trace_text::changes::put_rows` meets its contract.
-use Prim.Native.Nat.{ℕ, suc, _≤_, _-_}
+use Prim.Native.Nat.{ℕ, _≤_, _-_}
 use mathlib.Core.List.{List}
-use mathlib.Core.Path.{refl, sym}
 use native.Mathlib.Numerals.{add-one}
 use native.Mathlib.Omega.{arith}
-use Rattle.text.specs.WritingLaws.{put-then, put-text, put-nothing, put-length}
-use Rattle.trace.specs.LineLaws.{put-no-lines, put-more, put-all, put-sent, put-word}
+use Rattle.text.specs.WritingLaws.{put-text, put-length}
+use Rattle.trace.specs.LineLaws.{put-no-lines, put-more, put-all}
 use mathlib.Core.Bool.{not}
 use Rattle.ground.specs.Lists.{nth}
 use Rattle.bench_report.specs.declared.Row.{Row}
@@ -29,33 +28,16 @@ abbrev μ-loop : tie.MeasureT-loop
 loop-holds : tie.Need-loop-holds Inv-loop μ-loop
 loop-holds c = (omega arith, put-no-lines _ _ _ (omega arith) (omega arith))
 
-row-at-requires : tie.Need-row-at-requires Inv-loop μ-loop
-row-at-requires c κs = search needs
-
-row-at-requires-2 : tie.Need-row-at-requires-2 Inv-loop μ-loop
-row-at-requires-2 c κs = search needs
-
-cast-put-row : tie.Need-cast-put-row Inv-loop μ-loop
-cast-put-row c = search needs
-
-add-put-row : tie.Need-add-put-row Inv-loop μ-loop
-add-put-row c = omega arith
-
-put-row-requires : tie.Need-put-row-requires Inv-loop μ-loop
-put-row-requires c κs = search needs
-
-add-i : tie.Need-add-i Inv-loop μ-loop
-add-i c = omega arith
-
-loop-less : tie.Need-loop-less Inv-loop μ-loop
-loop-less c = omega arith
-
 loop-again : tie.Need-loop-again Inv-loop μ-loop
 unfolding nth
 loop-again c =
-    let l = c .before .before .before .before .before .before .before .loop in
-    let a = c .before .before .before .before .before .before .before .before .before .args in
-    (omega arith, put-more (l .i) (rowLines (a .old-n) (a .old) (a .new)) (l .inv .1) (put-text (c .before .before .put-row .ensures) (rw (add-one, c .before .before .before .before .row-at2 .ensures, c .before .before .before .before .before .row-at .ensures))))
+    let at-put-row = c .before .before in
+    let at-row-at2 = at-put-row .before .before in
+    let at-loop = at-row-at2 .before .before .before in
+    let start = at-loop .before .before in
+    let l = at-loop .loop in
+    let a = start .args in
+    (omega arith, put-more (l .i) (rowLines (a .old-n) (a .old) (a .new)) (l .inv .1) (put-text (at-put-row .put-row .ensures) (rw (add-one, at-row-at2 .row-at2 .ensures, at-row-at2 .before .row-at .ensures))))
 
 same-length : tie.Need-same-length Inv-loop μ-loop
 same-length c = put-length (c .before .loop .inv .1)
@@ -71,13 +53,13 @@ put-rows-spec =
     Inv-loop
     μ-loop
     loop-holds
-    row-at-requires
-    row-at-requires-2
-    cast-put-row
-    add-put-row
-    put-row-requires
-    add-i
-    loop-less
+    (λ c κs. search needs)
+    (λ c κs. search needs)
+    (λ c. search needs)
+    (λ c. omega arith)
+    (λ c κs. search needs)
+    (λ c. omega arith)
+    (λ c. omega arith)
     loop-again
     same-length
     returns)

@@ -9,12 +9,6 @@ returns : tie.Need-returns
 unfolding sameRow
 returns c = simp (ne-eqb _ _ (c .if1 .taken))
 
-outcome-number-requires : tie.Need-outcome-number-requires
-outcome-number-requires c κs = search needs
-
-outcome-number-requires-2 : tie.Need-outcome-number-requires-2
-outcome-number-requires-2 c κs = search needs
-
 returns-2 : tie.Need-returns-2
 unfolding sameRow
 returns-2 c = simp (eq-eqb _ _ (c .before .before .before .if1 .left), ← c .before .before .outcome-number .ensures, ← c .before .outcome-number2 .ensures, ne-eqb _ _ (c .if2 .taken))
@@ -26,4 +20,4 @@ returns-3 c = simp (eq-eqb _ _ (c .before .before .before .before .before .if1 .
 pub same-row-spec : {M : Type 1} → statement M
 same-row-spec =
     tie.close
-    (tie.spec returns outcome-number-requires outcome-number-requires-2 returns-2 returns-3)
+    (tie.spec returns (λ c κs. search needs) (λ c κs. search needs) returns-2 returns-3)

@@ -1,5 +1,5 @@
 -- `trace_text::lines::put_told` meets its contract.
-use Rattle.text.specs.WritingLaws.{put-then, put-text, put-nothing, put-length}
+use Rattle.text.specs.WritingLaws.{put-then, put-text}
 use mathlib.Core.Path.{ap}
 use Rattle.event_record.specs.declared.Fields.{Fields}
 use Rattle.schedule_text.specs.Forms.{restOf}
@@ -8,18 +8,6 @@ use borrow.Author.Needs.{needs}
 use Rattle.trace_text.proofs.lines.put_told.Statement.{statement}
 use Rattle.trace_text.proofs.lines.put_told.Tie as tie
 
-put-bytes-requires : tie.Need-put-bytes-requires
-put-bytes-requires c κs = search needs
-
-fields-of-requires : tie.Need-fields-of-requires
-fields-of-requires c κs = search needs
-
-put-rest-requires : tie.Need-put-rest-requires
-put-rest-requires c κs = search needs
-
-same-length : tie.Need-same-length
-same-length c = search needs
-
 returns : tie.Need-returns
 unfolding toldOf
 returns c = put-then (c .before .before .before .before .before .before .before .put-bytes .ensures) (put-text (c .before .before .put-rest .ensures) (ap (λ (x : Fields). restOf x) (c .before .before .before .fields-of .ensures)))
@@ -27,4 +15,4 @@ returns c = put-then (c .before .before .before .before .before .before .before 
 pub put-told-spec : {M : Type 1} → statement M
 put-told-spec =
     tie.close
-    (tie.spec put-bytes-requires fields-of-requires put-rest-requires same-length returns)
+    (tie.spec (λ c κs. search needs) (λ c κs. search needs) (λ c κs. search needs) (λ c. search needs) returns)

@@ -5,32 +5,22 @@ use borrow.Author.Needs.{needs}
 use Rattle.trace_text.proofs.sent.put_all_sent.Statement.{statement}
 use Rattle.trace_text.proofs.sent.put_all_sent.Tie as tie
 
-put-sent-requires : tie.Need-put-sent-requires
-put-sent-requires c κs = search needs
-
-put-sent-requires-2 : tie.Need-put-sent-requires-2
-put-sent-requires-2 c κs = search needs
-
-put-sent-requires-3 : tie.Need-put-sent-requires-3
-put-sent-requires-3 c κs = search needs
-
-put-sent-requires-4 : tie.Need-put-sent-requires-4
-put-sent-requires-4 c κs = search needs
-
-same-length : tie.Need-same-length
-same-length c = search needs
-
 returns : tie.Need-returns
 unfolding sent
-returns c = put-both _ _ (c .before .before .before .before .before .before .before .before .before .before .before .before .before .before .put-sent .ensures) (put-both _ _ (c .before .before .before .before .before .before .before .before .before .before .put-sent2 .ensures) (put-both _ _ (c .before .before .before .before .before .before .put-sent3 .ensures) (c .before .before .put-sent4 .ensures)))
+returns c =
+    let at-put-sent4 = c .before .before in
+    let at-put-sent3 = at-put-sent4 .before .before .before .before in
+    let at-put-sent2 = at-put-sent3 .before .before .before .before in
+    let at-put-sent = at-put-sent2 .before .before .before .before in
+    put-both _ _ (at-put-sent .put-sent .ensures) (put-both _ _ (at-put-sent2 .put-sent2 .ensures) (put-both _ _ (at-put-sent3 .put-sent3 .ensures) (at-put-sent4 .put-sent4 .ensures)))
 
 pub put-all-sent-spec : {M : Type 1} → statement M
 put-all-sent-spec =
     tie.close
     (tie.spec
-    put-sent-requires
-    put-sent-requires-2
-    put-sent-requires-3
-    put-sent-requires-4
-    same-length
+    (λ c κs. search needs)
+    (λ c κs. search needs)
+    (λ c κs. search needs)
+    (λ c κs. search needs)
+    (λ c. search needs)
     returns)

@@ -1,7 +1,7 @@
 -- `trace_text::sent::put_sent` meets its contract.
 use borrow.Author.Needs.{needs}
-use Prim.Native.Nat.{ℕ, suc, _≤_, _-_}
-use mathlib.Core.List.{List, []}
+use Prim.Native.Nat.{ℕ, _≤_, _-_}
+use mathlib.Core.List.{List}
 use native.Mathlib.Numerals.{add-one}
 use native.Mathlib.Omega.{arith}
 use Rattle.ground.specs.Limit.{limit}
@@ -29,45 +29,16 @@ abbrev μ-loop : tie.MeasureT-loop
 loop-holds : tie.Need-loop-holds Inv-loop μ-loop
 loop-holds c = (omega arith, put-no-lines _ _ _ (omega arith) (omega arith))
 
-mul-s : tie.Need-mul-s Inv-loop μ-loop
-mul-s c = search needs
-
-array-copy-out-s : tie.Need-array-copy-out-s Inv-loop μ-loop
-array-copy-out-s c = search needs
-
-mul-t : tie.Need-mul-t Inv-loop μ-loop
-mul-t c = search needs
-
-array-copy-out-t : tie.Need-array-copy-out-t Inv-loop μ-loop
-array-copy-out-t c = search needs
-
-receivers-requires : tie.Need-receivers-requires Inv-loop μ-loop
-receivers-requires c κs = search needs
-
-receivers-requires-2 : tie.Need-receivers-requires-2 Inv-loop μ-loop
-receivers-requires-2 c κs = search needs
-
-cast-put-sent-to : tie.Need-cast-put-sent-to Inv-loop μ-loop
-cast-put-sent-to c = omega arith
-
-add-put-sent-to : tie.Need-add-put-sent-to Inv-loop μ-loop
-add-put-sent-to c = omega arith
-
-put-sent-to-requires : tie.Need-put-sent-to-requires Inv-loop μ-loop
-put-sent-to-requires c κs = search needs
-
-add-i : tie.Need-add-i Inv-loop μ-loop
-add-i c = omega arith
-
-loop-less : tie.Need-loop-less Inv-loop μ-loop
-loop-less c = omega arith
-
 loop-again : tie.Need-loop-again Inv-loop μ-loop
 unfolding nth freshStation fresh unsentAll
 loop-again c =
-    let l = c .before .before .before .before .before .before .before .before .before .loop in
-    let a = c .before .before .before .before .before .before .before .before .before .before .before .args in
-    (omega arith, put-more (l .i) (told (a .kind) (a .t4) (a .t5)) (l .inv .1) (put-text (c .before .before .put-sent-to .ensures) (rw (add-one, c .before .before .before .before .receivers2 .ensures, c .before .before .before .before .before .receivers .ensures))))
+    let at-put-sent-to = c .before .before in
+    let at-receivers2 = at-put-sent-to .before .before in
+    let at-loop = at-receivers2 .before .before .before .before .before in
+    let start = at-loop .before .before in
+    let l = at-loop .loop in
+    let a = start .args in
+    (omega arith, put-more (l .i) (told (a .kind) (a .t4) (a .t5)) (l .inv .1) (put-text (at-put-sent-to .put-sent-to .ensures) (rw (add-one, at-receivers2 .receivers2 .ensures, at-receivers2 .before .receivers .ensures))))
 
 same-length : tie.Need-same-length Inv-loop μ-loop
 same-length c = put-length (c .before .loop .inv .1)
@@ -83,17 +54,17 @@ put-sent-spec =
     Inv-loop
     μ-loop
     loop-holds
-    mul-s
-    array-copy-out-s
-    mul-t
-    array-copy-out-t
-    receivers-requires
-    receivers-requires-2
-    cast-put-sent-to
-    add-put-sent-to
-    put-sent-to-requires
-    add-i
-    loop-less
+    (λ c. search needs)
+    (λ c. search needs)
+    (λ c. search needs)
+    (λ c. search needs)
+    (λ c κs. search needs)
+    (λ c κs. search needs)
+    (λ c. omega arith)
+    (λ c. omega arith)
+    (λ c κs. search needs)
+    (λ c. omega arith)
+    (λ c. omega arith)
     loop-again
     same-length
     returns)

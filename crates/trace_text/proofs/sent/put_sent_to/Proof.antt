@@ -1,13 +1,13 @@
 -- `trace_text::sent::put_sent_to` meets its contract.
-use Prim.Native.Nat.{ℕ, suc, _≤_, _-_}
-use mathlib.Core.List.{List, []}
+use Prim.Native.Nat.{ℕ, _≤_, _-_}
+use mathlib.Core.List.{List}
 use mathlib.Core.Path.{_∙_, ap}
 use native.Mathlib.Numerals.{add-one}
 use native.Mathlib.Omega.{arith}
 use borrow.Author.Needs.{needs}
 use Rattle.ground.specs.Limit.{limit}
 use Rattle.text.specs.Writing.{Put}
-use Rattle.text.specs.WritingLaws.{put-text, put-length}
+use Rattle.text.specs.WritingLaws.{put-length}
 use Rattle.ground.specs.Mask.{has}
 use Rattle.model.specs.declared.Kind.{Kind}
 use Rattle.model.specs.declared.Event.the-variants.{Deliver}
@@ -29,34 +29,17 @@ abbrev μ-loop : tie.MeasureT-loop
 loop-holds : tie.Need-loop-holds Inv-loop μ-loop
 loop-holds c = (omega arith, put-no-lines _ _ _ (omega arith) (omega arith))
 
-cast-to : tie.Need-cast-to Inv-loop μ-loop
-cast-to c = omega arith
-
-add-to : tie.Need-add-to Inv-loop μ-loop
-add-to c = omega arith
-
-is-new-requires : tie.Need-is-new-requires Inv-loop μ-loop
-is-new-requires c κs = search needs
-
-slice-aggregate-put-told-if : tie.Need-slice-aggregate-put-told-if Inv-loop μ-loop
-slice-aggregate-put-told-if c = search needs
-
-put-told-if-requires : tie.Need-put-told-if-requires Inv-loop μ-loop
-put-told-if-requires c κs = search needs
-
-add-j : tie.Need-add-j Inv-loop μ-loop
-add-j c = omega arith
-
-loop-less : tie.Need-loop-less Inv-loop μ-loop
-loop-less c = omega arith
-
 loop-again : tie.Need-loop-again Inv-loop μ-loop
 loop-again c =
-    let l = c .before .before .before .before .before .before .before .loop in
-    let a = c .before .before .before .before .before .before .before .before .before .args in (
+    let at-put-told-if = c .before .before in
+    let at-is-new = at-put-told-if .before .before in
+    let at-loop = at-is-new .before .before .before in
+    let start = at-loop .before .before in
+    let l = at-loop .loop in
+    let a = start .args in (
       omega arith,
       put-more (l .j) (told (a .kind) (a .i) (a .old) (a .new)) (l .inv .1)
-          (put-sent _ _ _ _ (c .before .before .before .before .is-new .ensures ∙ ap (λ (j : ℕ). isNew (has (a .old) j) (has (a .new) j)) (add-one (l .j))) (ap (λ (j : ℕ). Deliver (a .i) j (a .kind)) (add-one (l .j))) (c .before .before .put-told-if .ensures)),
+          (put-sent _ _ _ _ (at-is-new .is-new .ensures ∙ ap (λ (j : ℕ). isNew (has (a .old) j) (has (a .new) j)) (add-one (l .j))) (ap (λ (j : ℕ). Deliver (a .i) j (a .kind)) (add-one (l .j))) (at-put-told-if .put-told-if .ensures)),
     )
 
 same-length : tie.Need-same-length Inv-loop μ-loop
@@ -73,13 +56,13 @@ put-sent-to-spec =
     Inv-loop
     μ-loop
     loop-holds
-    cast-to
-    add-to
-    is-new-requires
-    slice-aggregate-put-told-if
-    put-told-if-requires
-    add-j
-    loop-less
+    (λ c. omega arith)
+    (λ c. omega arith)
+    (λ c κs. search needs)
+    (λ c. search needs)
+    (λ c κs. search needs)
+    (λ c. omega arith)
+    (λ c. omega arith)
     loop-again
     same-length
     returns)

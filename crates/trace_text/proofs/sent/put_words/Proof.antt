@@ -1,6 +1,6 @@
 -- `trace_text::sent::put_words` meets its contract.
-use Prim.Native.Nat.{ℕ, suc, _≤_, _-_}
-use mathlib.Core.List.{List, []}
+use Prim.Native.Nat.{ℕ, _≤_, _-_}
+use mathlib.Core.List.{List}
 use mathlib.Core.Path.{_∙_}
 use native.Mathlib.Numerals.{add-one}
 use native.Mathlib.Omega.{arith}
@@ -29,58 +29,22 @@ abbrev μ-loop : tie.MeasureT-loop
 loop-holds : tie.Need-loop-holds Inv-loop μ-loop
 loop-holds c = (omega arith, put-no-lines _ _ _ (omega arith) (omega arith))
 
-mul-proposal-of : tie.Need-mul-proposal-of Inv-loop μ-loop
-mul-proposal-of c = search needs
-
-array-copy-out-proposal-of : tie.Need-array-copy-out-proposal-of Inv-loop μ-loop
-array-copy-out-proposal-of c = search needs
-
-proposal-of-requires : tie.Need-proposal-of-requires Inv-loop μ-loop
-proposal-of-requires c κs = search needs
-
-mul-proposal-of-2 : tie.Need-mul-proposal-of-2 Inv-loop μ-loop
-mul-proposal-of-2 c = search needs
-
-array-copy-out-proposal-of-2 : tie.Need-array-copy-out-proposal-of-2 Inv-loop μ-loop
-array-copy-out-proposal-of-2 c = search needs
-
-proposal-of-requires-2 : tie.Need-proposal-of-requires-2 Inv-loop μ-loop
-proposal-of-requires-2 c κs = search needs
-
-cast-t20 : tie.Need-cast-t20 Inv-loop μ-loop
-cast-t20 c = omega arith
-
-add-t21 : tie.Need-add-t21 Inv-loop μ-loop
-add-t21 c = omega arith
-
-is-move-requires : tie.Need-is-move-requires Inv-loop μ-loop
-is-move-requires c κs = search needs
-
-is-word-new-requires : tie.Need-is-word-new-requires Inv-loop μ-loop
-is-word-new-requires c κs = search needs
-
-slice-aggregate-put-told-if : tie.Need-slice-aggregate-put-told-if Inv-loop μ-loop
-slice-aggregate-put-told-if c = search needs
-
-put-told-if-requires : tie.Need-put-told-if-requires Inv-loop μ-loop
-put-told-if-requires c κs = search needs
-
-add-i : tie.Need-add-i Inv-loop μ-loop
-add-i c = omega arith
-
-loop-less : tie.Need-loop-less Inv-loop μ-loop
-loop-less c = omega arith
-
 loop-again : tie.Need-loop-again Inv-loop μ-loop
 unfolding wordPut nth freshStation fresh unsentAll
 loop-again c =
-    let l = c .before .before .before .before .before .before .before .before .before .before .before .before .loop in
-    let a = c .before .before .before .before .before .before .before .before .before .before .before .before .before .before .args in
-    let was = c .before .before .before .before .before .before .before .before .before .proposal-of .ensures in
-    let is = c .before .before .before .before .before .before .before .proposal-of2 .ensures in (
+    let at-put-told-if = c .before .before in
+    let at-is-word-new = at-put-told-if .before .before in
+    let at-is-move = at-is-word-new .before .before in
+    let at-proposal-of = at-is-move .before .before .before in
+    let at-loop = at-proposal-of .before .before .before in
+    let start = at-loop .before .before in
+    let l = at-loop .loop in
+    let a = start .args in
+    let was = at-proposal-of .proposal-of .ensures in
+    let is = at-is-move .before .proposal-of2 .ensures in (
       omega arith,
       put-more (l .i) (words (a .t3) (a .t4)) (l .inv .1)
-          (put-word _ _ _ _ (c .before .before .before .before .is-word-new .ensures ∙ rw (was, is)) (rw (add-one, c .before .before .before .before .before .before .is-move .ensures, is)) (c .before .before .put-told-if .ensures)),
+          (put-word _ _ _ _ (at-is-word-new .is-word-new .ensures ∙ rw (was, is)) (rw (add-one, at-is-move .is-move .ensures, is)) (at-put-told-if .put-told-if .ensures)),
     )
 
 same-length : tie.Need-same-length Inv-loop μ-loop
@@ -97,20 +61,20 @@ put-words-spec =
     Inv-loop
     μ-loop
     loop-holds
-    mul-proposal-of
-    array-copy-out-proposal-of
-    proposal-of-requires
-    mul-proposal-of-2
-    array-copy-out-proposal-of-2
-    proposal-of-requires-2
-    cast-t20
-    add-t21
-    is-move-requires
-    is-word-new-requires
-    slice-aggregate-put-told-if
-    put-told-if-requires
-    add-i
-    loop-less
+    (λ c. search needs)
+    (λ c. search needs)
+    (λ c κs. search needs)
+    (λ c. search needs)
+    (λ c. search needs)
+    (λ c κs. search needs)
+    (λ c. omega arith)
+    (λ c. omega arith)
+    (λ c κs. search needs)
+    (λ c κs. search needs)
+    (λ c. search needs)
+    (λ c κs. search needs)
+    (λ c. omega arith)
+    (λ c. omega arith)
     loop-again
     same-length
     returns)

@@ -14,12 +14,6 @@ put-requires c κs = tt
 loop-holds : tie.Need-loop-holds Inv-loop μ-loop
 loop-holds c = tt
 
-put-digit-requires : tie.Need-put-digit-requires Inv-loop μ-loop
-put-digit-requires c κs = omega arith
-
-loop-less : tie.Need-loop-less Inv-loop μ-loop
-loop-less c = omega arith
-
 loop-again : tie.Need-loop-again Inv-loop μ-loop
 loop-again c = tt
 
@@ -34,7 +28,7 @@ put-number-spec =
     μ-loop
     put-requires
     loop-holds
-    put-digit-requires
-    loop-less
+    (λ c κs. omega arith)
+    (λ c. omega arith)
     loop-again
     returns)

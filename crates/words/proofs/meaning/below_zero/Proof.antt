@@ -13,15 +13,6 @@ use Rattle.words.proofs.meaning.below_zero.Tie as tie
 known : {x y z : Found} → x ≡ y → x ≡ z → z ≡ y
 known e f = sym f ∙ e
 
-number-in-requires : tie.Need-number-in-requires
-number-in-requires c κs = search needs
-
-enum-known-found : tie.Need-enum-known-found
-enum-known-found c = search needs
-
-enum-told : tie.Need-enum-told
-enum-told c = search needs
-
 returns : tie.Need-returns
 returns c = ap negated (sym (c .enum-told .given .1) ∙ c .before .before .number-in .ensures)
 
@@ -37,4 +28,4 @@ returns-3 c = rw (← known (c .before .before .before .before .number-in .ensur
 pub below-zero-spec : {M : Type 1} → statement M
 below-zero-spec =
     tie.close
-    (tie.spec number-in-requires enum-known-found enum-told returns returns-2 sub-t5 returns-3)
+    (tie.spec (λ c κs. search needs) (λ c. search needs) (λ c. search needs) returns returns-2 sub-t5 returns-3)

@@ -21,26 +21,14 @@ abbrev μ-loop : tie.MeasureT-loop
 loop-holds : tie.Need-loop-holds Inv-loop μ-loop
 loop-holds c = (omega arith, omega arith, refl)
 
-next-word-requires : tie.Need-next-word-requires Inv-loop μ-loop
-next-word-requires c κs = search needs
-
 returns : tie.Need-returns Inv-loop μ-loop
 returns c =
     let l = c .before .before .before .loop in
     let a = c .before .before .before .before .before .before .args in
     sym (l .inv .2 ∙ ap (λ (ws : List (List ℕ)). numberAmong (l .k) ws (a .w .now)) (no-next (a .names .now) (l .at) (c .before .next-word .ensures) (c .if1 .taken)) ∙ not-named (l .k) (a .w .now))
 
-sub-same : tie.Need-sub-same Inv-loop μ-loop
-sub-same c = search needs
-
-part-same-start : tie.Need-part-same-start Inv-loop μ-loop
-part-same-start c = search needs
-
 part-same-end : tie.Need-part-same-end Inv-loop μ-loop
 part-same-end c = c .before .next-word .ensures .high (c .before .before .before .loop .inv .0)
-
-same-requires : tie.Need-same-requires Inv-loop μ-loop
-same-requires c κs = search needs
 
 returns-2 : tie.Need-returns-2 Inv-loop μ-loop
 returns-2 c =
@@ -48,12 +36,6 @@ returns-2 c =
     let a = c .before .before .before .before .before .before .before .before .before .args in
     let n = c .before .before .before .before .next-word .ensures in
     sym (l .inv .2 ∙ ap (λ (ws : List (List ℕ)). numberAmong (l .k) ws (a .w .now)) (next (a .names .now) (l .at) n (c .before .before .before .if1 .left)) ∙ named-here (l .k) _ (a .w .now) _ (sym (c .before .same .ensures) ∙ c .if2 .taken))
-
-add-k : tie.Need-add-k Inv-loop μ-loop
-add-k c = omega arith
-
-loop-less : tie.Need-loop-less Inv-loop μ-loop
-loop-less c = omega arith
 
 loop-again : tie.Need-loop-again Inv-loop μ-loop
 loop-again c =
@@ -78,14 +60,14 @@ name-in-spec =
     Inv-loop
     μ-loop
     loop-holds
-    next-word-requires
+    (λ c κs. search needs)
     returns
-    sub-same
-    part-same-start
+    (λ c. search needs)
+    (λ c. search needs)
     part-same-end
-    same-requires
+    (λ c κs. search needs)
     returns-2
-    add-k
-    loop-less
+    (λ c. omega arith)
+    (λ c. omega arith)
     loop-again
     returns-3)

@@ -23,9 +23,6 @@ returns c = no-number (c .before .args .most) (c .before .args .w .now) (c .if1 
 loop-holds : tie.Need-loop-holds Inv-loop μ-loop
 loop-holds c = (omega arith, omega arith, refl, omega arith, refl, refl)
 
-shared-slice-read-b : tie.Need-shared-slice-read-b Inv-loop μ-loop
-shared-slice-read-b c = search needs
-
 returns-2 : tie.Need-returns-2 Inv-loop μ-loop
 returns-2 c =
     let l = c .before .before .before .loop in
@@ -38,27 +35,12 @@ returns-3 c =
     let a = c .before .before .before .before .before .before .args in
     not-digits (a .most) (a .w .now) (l .inv .4 ∙ no-digit (a .w .now) (l .i) (c .before .before .before .loop-test .taken) (above-digits _ (c .before .if2 .left) (c .if3 .taken)))
 
-mul-v : tie.Need-mul-v Inv-loop μ-loop
-mul-v c = omega arith
-
-cast-v : tie.Need-cast-v Inv-loop μ-loop
-cast-v c = search needs
-
-add-v : tie.Need-add-v Inv-loop μ-loop
-add-v c = omega arith
-
 returns-4 : tie.Need-returns-4 Inv-loop μ-loop
 returns-4 c =
     let l = c .before .before .before .before .before .loop in
     let a = c .before .before .before .before .before .before .before .args in
     let more = l .inv .5 ∙ read-more (a .w .now) (l .i) (c .before .before .before .before .loop-test .taken) (l .v) in
     too-high (a .most) (a .w .now) (rw more (omega (arith, read-grows (l .v * 10 + (getD (a .w .now) (l .i) 0 - 48)) (drop (l .i + 1) (a .w .now)), c .if4 .taken, l .inv .2)))
-
-add-i : tie.Need-add-i Inv-loop μ-loop
-add-i c = omega arith
-
-loop-less : tie.Need-loop-less Inv-loop μ-loop
-loop-less c = omega arith
 
 loop-again : tie.Need-loop-again Inv-loop μ-loop
 loop-again c =
@@ -89,14 +71,14 @@ number-in-spec =
     μ-loop
     returns
     loop-holds
-    shared-slice-read-b
+    (λ c. search needs)
     returns-2
     returns-3
-    mul-v
-    cast-v
-    add-v
+    (λ c. omega arith)
+    (λ c. search needs)
+    (λ c. omega arith)
     returns-4
-    add-i
-    loop-less
+    (λ c. omega arith)
+    (λ c. omega arith)
     loop-again
     returns-5)

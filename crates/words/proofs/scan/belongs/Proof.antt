@@ -5,24 +5,6 @@ use borrow.Author.Needs.{needs}
 use Rattle.words.proofs.scan.belongs.Statement.{statement}
 use Rattle.words.proofs.scan.belongs.Tie as tie
 
-enum-told : tie.Need-enum-told
-enum-told c = search needs
-
-is-gap-requires : tie.Need-is-gap-requires
-is-gap-requires c κs = search needs
-
-enum-told-2 : tie.Need-enum-told-2
-enum-told-2 c = search needs
-
-is-gap-requires-2 : tie.Need-is-gap-requires-2
-is-gap-requires-2 c κs = search needs
-
-enum-told-3 : tie.Need-enum-told-3
-enum-told-3 c = search needs
-
-enum-told-4 : tie.Need-enum-told-4
-enum-told-4 c = search needs
-
 returns : tie.Need-returns
 unfolding belongs
 returns c = rw (c .before .enum-told .given .1) (c .is-gap .ensures)
@@ -43,12 +25,12 @@ pub belongs-spec : {M : Type 1} → statement M
 belongs-spec =
     tie.close
     (tie.spec
-    enum-told
-    is-gap-requires
-    enum-told-2
-    is-gap-requires-2
-    enum-told-3
-    enum-told-4
+    (λ c. search needs)
+    (λ c κs. search needs)
+    (λ c. search needs)
+    (λ c κs. search needs)
+    (λ c. search needs)
+    (λ c. search needs)
     returns
     returns-2
     returns-3

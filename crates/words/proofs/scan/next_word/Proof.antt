@@ -7,12 +7,6 @@ use borrow.Author.Needs.{needs}
 use Rattle.words.proofs.scan.next_word.Statement.{statement}
 use Rattle.words.proofs.scan.next_word.Tie as tie
 
-end-of-run-requires : tie.Need-end-of-run-requires
-end-of-run-requires c κs = search needs
-
-end-of-run-requires-2 : tie.Need-end-of-run-requires-2
-end-of-run-requires-2 c κs = search needs
-
 returns : tie.Need-returns
 unfolding spanAt
 returns c =
@@ -27,4 +21,4 @@ returns c =
     }
 
 pub next-word-spec : {M : Type 1} → statement M
-next-word-spec = tie.close (tie.spec end-of-run-requires end-of-run-requires-2 returns)
+next-word-spec = tie.close (tie.spec (λ c κs. search needs) (λ c κs. search needs) returns)

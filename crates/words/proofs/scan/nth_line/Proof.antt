@@ -27,17 +27,8 @@ returns c =
     let e : l .i + (a .k - l .i) ≡ a .k = omega arith in
     (line-nowhere (a .s .now) (a .k) (rw e at (past-end (a .s .now) (l .i) (a .k - l .i) h)), omega arith, omega arith)
 
-end-of-run-requires : tie.Need-end-of-run-requires Inv-loop μ-loop
-end-of-run-requires c κs = search needs
-
 add-at : tie.Need-add-at Inv-loop μ-loop
 add-at c = omega (arith, c .end-of-run .ensures .high (c .before .if1 .left))
-
-add-i : tie.Need-add-i Inv-loop μ-loop
-add-i c = omega arith
-
-loop-less : tie.Need-loop-less Inv-loop μ-loop
-loop-less c = omega arith
 
 loop-again : tie.Need-loop-again Inv-loop μ-loop
 loop-again c =
@@ -52,9 +43,6 @@ returns-2 c =
     let a = c .before .before .before .before .args in
     let e : l .i ≡ a .k = omega arith in
     (line-nowhere (a .s .now) (a .k) (rw (← e, ← l .inv .2) (c .if2 .taken)), omega arith, omega arith)
-
-end-of-run-requires-2 : tie.Need-end-of-run-requires-2 Inv-loop μ-loop
-end-of-run-requires-2 c κs = search needs
 
 returns-3 : tie.Need-returns-3 Inv-loop μ-loop
 returns-3 c =
@@ -75,11 +63,11 @@ nth-line-spec =
     μ-loop
     loop-holds
     returns
-    end-of-run-requires
+    (λ c κs. search needs)
     add-at
-    add-i
-    loop-less
+    (λ c. omega arith)
+    (λ c. omega arith)
     loop-again
     returns-2
-    end-of-run-requires-2
+    (λ c κs. search needs)
     returns-3)
