@@ -180,6 +180,8 @@ static void restarts(void) {
     refused(cabinet_stop(s, CABINET_WORDS), 15, s, b, "stop, 15");
     refused(cabinet_open(s, CABINET_WORDS, 1), 15, s, b, "open, 15");
     refused(cabinet_save(s, CABINET_WORDS, other, CABINET_CARD), 15, s, b, "save, 15");
+    for (size_t length = 0; length < CABINET_CARD; length++) /* what a torn write leaves of a card */
+        refused(cabinet_wake(s, CABINET_WORDS, older, length), 1, s, b, "wake, a part of a card");
     check(cabinet_order(s, CABINET_WORDS, 6) == 0 && cabinet_wake(s, CABINET_WORDS, older, CABINET_CARD) == 0, "wake");
     check(cabinet_show(s, CABINET_WORDS, d, CABINET_SHOWN) == 0, "show");
     check(d[CABINET_ORDER] == 6 && d[CABINET_STAGE] == 9, "it stands by, in the later order");
@@ -190,27 +192,32 @@ static void restarts(void) {
     check(cabinet_order(s, CABINET_WORDS, 7) == 0 && cabinet_vote(s, CABINET_WORDS, 1, 0) == 0, "it runs in the next");
 }
 
-/* how deep each call goes, by a painted stack */
+/* how deep each call goes, by a painted stack; each is accepted */
 static ucontext_t here, there;
 static uint32_t state[CABINET_WORDS], display[CABINET_SHOWN];
 static uint8_t card[CABINET_CARD], out[20];
 static uint8_t ack[20] = { 0x4C, 0x4C, 2, 32, 5, 2, 1, 0, 0, 0, 0, 5, 0xFF, 0xFF, 0xFF, 0xFF, 0xFF, 0xFF, 0xFF, 0xFF };
-static int which;
+static uint8_t ask[24] = { 0x4C, 0x4C, 5, 32, 5, 2, 1, 0, 0, 0, 0, 5, 0, 0, 0, 0, 0, 0, 0, 0, 34, 0, 0, 0 };
+static int which, answer;
+enum { MEASURED = 15 };
 
 static void call(void) {
     switch (which) {
-    case 0: cabinet_begin(state, CABINET_WORDS, 32, 5, 1, 0, 0); break;
-    case 1: cabinet_order(state, CABINET_WORDS, 5); break;
-    case 2: cabinet_vote(state, CABINET_WORDS, 1, 7); break;
-    case 3: cabinet_receive(state, CABINET_WORDS, ack, sizeof ack); break;
-    case 4: cabinet_timeout(state, CABINET_WORDS); break;
-    case 5: cabinet_telegram(state, CABINET_WORDS, 0, out, sizeof out); break;
-    case 6: cabinet_timeout(state, CABINET_WORDS); break;
-    case 7: cabinet_show(state, CABINET_WORDS, display, CABINET_SHOWN); break;
-    case 8: cabinet_save(state, CABINET_WORDS, card, sizeof card); break;
-    case 9: cabinet_wake(state, CABINET_WORDS, card, sizeof card); break;
-    case 10: cabinet_open(state, CABINET_WORDS, 1); break;
-    case 11: cabinet_stop(state, CABINET_WORDS); break;
+    case 0: answer = cabinet_begin(state, CABINET_WORDS, 32, 5, 1, 1, 0); break;
+    case 1: answer = cabinet_order(state, CABINET_WORDS, 5); break;
+    case 2: answer = cabinet_vote(state, CABINET_WORDS, 1, 7); break;
+    case 3: answer = cabinet_receive(state, CABINET_WORDS, ack, sizeof ack); break;
+    case 4: answer = cabinet_timeout(state, CABINET_WORDS); break;
+    case 5: answer = cabinet_telegram_length(state, CABINET_WORDS, 0) != sizeof out; break;
+    case 6: answer = cabinet_telegram(state, CABINET_WORDS, 0, out, sizeof out); break;
+    case 7: answer = cabinet_timeout(state, CABINET_WORDS); break;
+    case 8: answer = cabinet_open(state, CABINET_WORDS, 1); break;
+    case 9: answer = cabinet_receive(state, CABINET_WORDS, ask, sizeof ask); break;
+    case 10: answer = cabinet_show(state, CABINET_WORDS, display, CABINET_SHOWN); break;
+    case 11: answer = cabinet_decide(state, CABINET_WORDS, 0); break;
+    case 12: answer = cabinet_save(state, CABINET_WORDS, card, sizeof card); break;
+    case 13: answer = cabinet_wake(state, CABINET_WORDS, card, sizeof card); break;
+    case 14: answer = cabinet_stop(state, CABINET_WORDS); break;
     }
 }
 
@@ -218,7 +225,7 @@ static int deepest(void) {
     enum { ROOM = 1 << 17 };
     unsigned char *stack = malloc(ROOM);
     static int most;
-    for (which = 0; which < 12; which++) {
+    for (which = 0; which < MEASURED; which++) {
         memset(stack, 0xA5, ROOM);
         getcontext(&there);
         there.uc_stack.ss_sp = stack;
@@ -226,6 +233,7 @@ static int deepest(void) {
         there.uc_link = &here;
         makecontext(&there, call, 0);
         swapcontext(&here, &there);
+        check(answer == 0, "a call whose stack is measured is accepted");
         int k = 0;
         while (stack[k] == 0xA5) k++;
         if (ROOM - k > most) most = ROOM - k;

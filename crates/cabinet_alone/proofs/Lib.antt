@@ -3,6 +3,8 @@ mod Gates
 mod Fits
 mod BallotsFit
 mod Lent
+mod Reached
 mod Theorem
 mod Counting
 mod Settled
+mod Restarts

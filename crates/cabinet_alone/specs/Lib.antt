@@ -2,3 +2,4 @@ pub mod Acts
 pub mod Runs
 pub mod CabinetAlone
 pub mod SettledWord
+pub mod Restart

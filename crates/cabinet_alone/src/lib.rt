@@ -1,6 +1,7 @@
 // What holds of a cabinet, whatever C calls.
 ghost use Rattle.cabinet_alone.specs.CabinetAlone.{CabinetAlone};
 ghost use Rattle.cabinet_alone.specs.SettledWord.{SettledWord};
+ghost use Rattle.cabinet_alone.specs.Restart.{Restart};
 use cabinet_state::encoding;
 use protocol::controller_alone;
 
@@ -17,4 +18,9 @@ pub fn cabinet_alone()
 // The word that its own ballot has settled: who is counted has taken it.
 pub fn settled_word()
     ensures { λ _. ⌜ SettledWord ⌝ }
+{}
+
+// What a restart may do: one that wakes from a card stands by, and never runs in the card's order again.
+pub fn restart()
+    ensures { λ _. ⌜ Restart ⌝ }
 {}
