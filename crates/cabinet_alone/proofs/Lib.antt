@@ -8,3 +8,5 @@ mod Theorem
 mod Counting
 mod Settled
 mod Restarts
+mod SentAgain
+mod SentStays

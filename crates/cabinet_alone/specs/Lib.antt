@@ -3,3 +3,4 @@ pub mod Runs
 pub mod CabinetAlone
 pub mod SettledWord
 pub mod Restart
+pub mod SentAgain

@@ -2,6 +2,7 @@
 ghost use Rattle.cabinet_alone.specs.CabinetAlone.{CabinetAlone};
 ghost use Rattle.cabinet_alone.specs.SettledWord.{SettledWord};
 ghost use Rattle.cabinet_alone.specs.Restart.{Restart};
+ghost use Rattle.cabinet_alone.specs.SentAgain.{SentAgain};
 use cabinet_state::encoding;
 use protocol::controller_alone;
 
@@ -24,3 +25,10 @@ pub fn settled_word()
 pub fn restart()
     ensures { λ _. ⌜ Restart ⌝ }
 {}
+
+// What is sent again is what was sent, whatever came over the line meanwhile.
+pub fn sent_again()
+    ensures { λ _. ⌜ SentAgain ⌝ }
+{
+    encoding();
+}
