@@ -297,7 +297,6 @@ static void cabinet(unsigned id, unsigned seed, int back) {
     static struct cabinet c;
     char path[300];
     uint8_t in[64];
-    signal(SIGTERM, end);
     prctl(PR_SET_PDEATHSIG, SIGKILL);
     draws = seed * 2654435761u + id * 40503u + (back ? 77u : 1u);
     if (!draws) draws = 1;
@@ -350,9 +349,15 @@ static pid_t process[MOST + 1];
 static uint32_t killed_in[MOST + 1];
 
 static void start(unsigned id, unsigned seed, int back) {
+    sigset_t term, before;
+    sigemptyset(&term);
+    sigaddset(&term, SIGTERM);
     fflush(stdout);
+    sigprocmask(SIG_BLOCK, &term, &before); /* until the new process has its handler: it may be ended at once */
     process[id] = fork();
     if (process[id] < 0) fail("fork");
+    if (process[id] == 0) signal(SIGTERM, end);
+    sigprocmask(SIG_SETMASK, &before, NULL);
     if (process[id] == 0) cabinet(id, seed, back);
 }
 

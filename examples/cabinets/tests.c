@@ -112,7 +112,10 @@ static void refused(uint8_t answer, uint8_t number, const uint32_t *s, const uin
 
 static void own_questions(void) {
     uint32_t s[CABINET_WORDS], b[CABINET_WORDS], d[CABINET_SHOWN + 1];
-    uint8_t c[CABINET_CARD + 1], t[CABINET_TELEGRAM + 1];
+    uint8_t c[CABINET_CARD + 1], t[CABINET_TELEGRAM + 1], same[CABINET_TELEGRAM + 1];
+    memset(c, 0xA5, sizeof c);
+    memset(t, 0xA5, sizeof t);
+    memset(same, 0xA5, sizeof same);
     memset(s, 0x5A, sizeof s);
     memcpy(b, s, sizeof s);
     refused(cabinet_begin(s, CABINET_WORDS - 1, 3, 1, 1, 0, 0), 1, s, b, "begin, 1");
@@ -157,6 +160,11 @@ static void own_questions(void) {
     refused(cabinet_telegram(s, CABINET_WORDS, 0, t, 16), 17, s, b, "telegram, 17");
     refused(cabinet_receive(s, CABINET_WORDS, t, CABINET_TELEGRAM + 1), 1, s, b, "receive, 1");
     refused(cabinet_wake(s, CABINET_WORDS, c, CABINET_CARD + 1), 1, s, b, "wake, 1");
+    check(cabinet_vote(s, CABINET_WORDS, 1, 0) == 0, "vote");
+    memcpy(b, s, sizeof s);
+    refused(cabinet_telegram(s, CABINET_WORDS, 0, t, 20), 1, s, b, "telegram, 1");
+    refused(cabinet_telegram(s, CABINET_WORDS, 255, t, 16), 17, s, b, "telegram, 17 of the last k");
+    check(memcmp(c, same, sizeof c) == 0 && memcmp(t, same, sizeof t) == 0, "a refused call changed a buffer");
 }
 
 /* what a restart may do: stopped it answers 15; awake it stands by in the later of the two orders, and runs in the
