@@ -2,8 +2,8 @@
  * caller owns and lends; the library allocates nothing and has no globals, so any number of them may stand in one
  * program, each used by one thread at a time.
  *
- * Every call answers 0, or the number of the first question that was answered "no" (docs/QUESTIONS.md of the
- * project; CABINET_OTHER_CARD is this library's own). What is refused changes nothing: neither the state nor a lent
+ * Every call answers 0, or the number of the first question that was answered "no" (they stand below;
+ * CABINET_OTHER_CARD is this library's own). What is refused changes nothing: neither the state nor a lent
  * buffer. Questions 1 to 3 are first asked of the state: is it CABINET_WORDS long, does it begin with the mark and
  * this version, and is every word as the library wrote it (cabinet_begin asks its length alone). Any change of one
  * word, a turned bit among them, is refused with 2 or 3. A telegram that is passed over (of another order, n or f,
@@ -56,6 +56,28 @@
  * at the outcome; to a temporary file, fsync, rename, so that a torn write is noticed. A card that is refused is no
  * reason to begin as new: end the program, and let a keeper see to it. Without a card only one that was never in the
  * order that is called may go into it.
+ *
+ * The questions, by their numbers (13 looks at this controller alone; docs/QUESTIONS.md says more):
+ *
+ *      1 Is the record as long as it should be?
+ *      2 Does it begin with its mark?
+ *      3 Are the kind and the flags listed values, and unused fields 0?
+ *      4 Are n and f in range?
+ *      7 Are the controllers' numbers in 1 to n, sender and receiver different?
+ *      8 Is the order number at least 1?
+ *      9 Does the sheet suit the kind?
+ *     10 May this kind go from the one to the other?
+ *     11 Is the position from -20,000 to 20,000 mm?
+ *     12 Is the order number above the last one?
+ *     13 Has every running controller an outcome, or was no order opened yet?
+ *     14 Is an order open?
+ *     15 Is the controller in the right condition?
+ *     16 Is its stage right?
+ *     17 Was that telegram sent in this order?
+ *     24 Does the delivered sheet contradict none that the controller holds?
+ *     28 Is it a ballot from 1 to 255, and may the controller open it?
+ *     29 Has the lock no arbiter, and has the controller put a word?
+ *     30 Is the card this controller's own?
  */
 #ifndef CABINET_H
 #define CABINET_H
