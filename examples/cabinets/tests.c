@@ -171,14 +171,19 @@ static void own_questions(void) {
  * next */
 static void restarts(void) {
     uint32_t s[CABINET_WORDS], b[CABINET_WORDS], d[CABINET_SHOWN];
-    uint8_t older[CABINET_CARD], other[CABINET_CARD];
-    check(cabinet_begin(s, CABINET_WORDS, 3, 1, 2, 0, 0) == 0 && cabinet_order(s, CABINET_WORDS, 5) == 0, "order 5");
-    check(cabinet_save(s, CABINET_WORDS, other, CABINET_CARD) == 0, "another controller's card");
+    uint8_t older[CABINET_CARD], others[3][CABINET_CARD], other[CABINET_CARD];
+    static const uint8_t who[3][3] = { { 3, 1, 2 }, { 4, 1, 1 }, { 3, 2, 1 } }; /* another number, n, f */
+    for (int k = 0; k < 3; k++) {
+        check(cabinet_begin(s, CABINET_WORDS, who[k][0], who[k][1], who[k][2], 0, 0) == 0, "another controller");
+        check(cabinet_order(s, CABINET_WORDS, 5) == 0, "order 5");
+        check(cabinet_save(s, CABINET_WORDS, others[k], CABINET_CARD) == 0, "another controller's card");
+    }
     check(cabinet_begin(s, CABINET_WORDS, 3, 1, 1, 0, 9) == 0 && cabinet_order(s, CABINET_WORDS, 5) == 0, "order 5");
     check(cabinet_save(s, CABINET_WORDS, older, CABINET_CARD) == 0, "save");
     check(cabinet_vote(s, CABINET_WORDS, 1, 7) == 0 && cabinet_telegram_length(s, CABINET_WORDS, 0) == 16, "vote");
     memcpy(b, s, sizeof s);
-    refused(cabinet_wake(s, CABINET_WORDS, other, CABINET_CARD), CABINET_OTHER_CARD, s, b, "wake, another's card");
+    for (int k = 0; k < 3; k++)
+        refused(cabinet_wake(s, CABINET_WORDS, others[k], CABINET_CARD), CABINET_OTHER_CARD, s, b, "wake, another's card");
     check(cabinet_stop(s, CABINET_WORDS) == 0, "stop");
     check(cabinet_telegram_length(s, CABINET_WORDS, 0) == 16, "what was sent stays in the list");
     memcpy(b, s, sizeof s);
