@@ -1,5 +1,5 @@
 #!/usr/bin/env bash
-# Looks that the papers name what is there. docs/QUESTIONS.md: a row for each question of crates/question_words, in its words. docs/ASSUMPTIONS.md: of each row with `crate::function` and `Definition` or `Definition.field`, that the crate is
+# Looks that the papers name what is there. docs/QUESTIONS.md: a row for each question of crates/question_words, in its words; so those in include/cabinet.h. docs/ASSUMPTIONS.md: of each row with `crate::function` and `Definition` or `Definition.field`, that the crate is
 # listed, that the function stands in its source with an `ensures` that names the definition, and that a record of that name has the field.
 # That it is proved is for `rt ci`, which proves every function of every listed crate.
 set -euo pipefail
@@ -16,6 +16,8 @@ explained=$(sed -n 's/^| \([0-9]*\) | \([^|]*\) |.*$/\1 \2/p' docs/QUESTIONS.md 
     exit 1
 }
 echo "docs/QUESTIONS.md: $(grep -c . <<< "$asked") questions, in the words of crates/question_words"
+told=$(sed -n 's/^ \*  *\([0-9][0-9]*\) \(.*?\)$/\1 \2/p' include/cabinet.h)
+[ -n "$told" ] && ! grep -vxF "$asked" <<< "$told" >&2 || { echo "include/cabinet.h: a question is not in the words of crates/question_words" >&2; exit 1; }
 
 # The `ensures` lines of a function: those between its `fn` line and its body.
 contract() { # crate, function

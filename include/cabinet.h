@@ -2,13 +2,14 @@
  * caller owns and lends; the library allocates nothing and has no globals, so any number of them may stand in one
  * program, each used by one thread at a time.
  *
- * Every call answers 0, or the number of the first question that was answered "no" (docs/QUESTIONS.md of the
- * project; CABINET_OTHER_CARD is this library's own). What is refused changes nothing: neither the state nor a lent
+ * Every call answers 0, or the number of the first question that was answered "no" (they stand below;
+ * CABINET_OTHER_CARD is this library's own). What is refused changes nothing: neither the state nor a lent
  * buffer. Questions 1 to 3 are first asked of the state: is it CABINET_WORDS long, does it begin with the mark and
  * this version, and is every word as the library wrote it (cabinet_begin asks its length alone). Any change of one
- * word, a turned bit among them, is refused with 2 or 3. A telegram that is passed over (of another order, n or f, for another controller, at a wrong
- * stage, or where the controller is stopped or stands by) is answered 0 and changes nothing; so is one of an order
- * that was not called here yet: sending again brings it. A call takes less than 8 KB of stack.
+ * word, a turned bit among them, is refused with 2 or 3. A telegram that is passed over (of another order, n or f,
+ * for another controller, at a wrong stage, or where the controller is stopped or stands by) is answered 0 and
+ * changes nothing; so is one of an order that was not called here yet: sending again brings it. A call takes less
+ * than 8 KB of stack.
  *
  * Buffers: a pointer and a length. They stay the caller's; nothing is kept of them after the call. No two buffers of
  * one call may overlap, and a length must be that of the memory behind its pointer. Pointers are never null, also
@@ -18,7 +19,7 @@
  *
  *     uint32_t s[CABINET_WORDS], d[CABINET_SHOWN];
  *     cabinet_begin(s, CABINET_WORDS, n, f, me, 0, position);                   // once, when the program starts
- *     if (read_card(card)) cabinet_wake(s, CABINET_WORDS, card, CABINET_CARD);  // it was here before: it stands by
+ *     if (read_card(card) && cabinet_wake(s, CABINET_WORDS, card, CABINET_CARD)) exit(1); // it was here: it stands by
  *     cabinet_order(s, CABINET_WORDS, number);                                  // the keeper has called this order
  *     cabinet_save(s, CABINET_WORDS, card, CABINET_CARD); write_card(card);     // before any telegram leaves
  *     cabinet_vote(s, CABINET_WORDS, willing, target);
@@ -32,10 +33,11 @@
  * the stage: a wait begins when the stage becomes 1 or 2 and ends with one cabinet_timeout. A wait should be as long
  * as a telegram takes when nothing is late; too short costs telegrams, never agreement.
  *
- * What to send again: all of cabinet_telegram, every few waits, until the display shows an outcome, and for some
- * time after: others may still need them. Each of them is what was sent before, byte for byte, and a repeated one
- * changes nothing where it comes in. Of ballots these are the last own one, and the last promise and taken for
- * another's.
+ * What to send, and again: all of cabinet_telegram, after each call that may add to it (a vote, a timeout, a
+ * telegram that comes in, an opened ballot), and every few waits, until the display shows an outcome, and for some
+ * time after: others may still need them. A new order empties the list. Each of them is what was sent before, byte
+ * for byte, and a repeated one changes nothing where it comes in. Of ballots these are the last own one, and the
+ * last promise and taken for another's.
  *
  * The word put (CABINET_PUT) goes to the arbiter, whose answer comes in by cabinet_decide. At a lock without arbiter
  * (own = 1) a cabinet that has put a word and has no outcome opens a ballot of its own: the least b above
@@ -49,9 +51,33 @@
  *
  * A cabinet that was ended and comes back: begin, with where its gate stands now, then wake with its card. It stands
  * by (stage 9) in the card's order, or in the state's where that is later, sends nothing and moves nothing, and runs
- * in the next. Without cabinet_wake it would run in an order in which it may have voted before: so write the card
- * after cabinet_order, before anything is sent, and again at the outcome; to a temporary file, fsync, rename, so
- * that a torn write is noticed.
+ * in the next; cabinet_decide tells it the order's word for its display. Without cabinet_wake it would run in an
+ * order in which it may have voted before: so write the card after cabinet_order, before anything is sent, and again
+ * at the outcome; to a temporary file, fsync, rename, so that a torn write is noticed. A card that is refused is no
+ * reason to begin as new: end the program, and let a keeper see to it. Without a card only one that was never in the
+ * order that is called may go into it.
+ *
+ * The questions, by their numbers (13 looks at this controller alone; docs/QUESTIONS.md says more):
+ *
+ *      1 Is the record as long as it should be?
+ *      2 Does it begin with its mark?
+ *      3 Are the kind and the flags listed values, and unused fields 0?
+ *      4 Are n and f in range?
+ *      7 Are the controllers' numbers in 1 to n, sender and receiver different?
+ *      8 Is the order number at least 1?
+ *      9 Does the sheet suit the kind?
+ *     10 May this kind go from the one to the other?
+ *     11 Is the position from -20,000 to 20,000 mm?
+ *     12 Is the order number above the last one?
+ *     13 Has every running controller an outcome, or was no order opened yet?
+ *     14 Is an order open?
+ *     15 Is the controller in the right condition?
+ *     16 Is its stage right?
+ *     17 Was that telegram sent in this order?
+ *     24 Does the delivered sheet contradict none that the controller holds?
+ *     28 Is it a ballot from 1 to 255, and may the controller open it?
+ *     29 Has the lock no arbiter, and has the controller put a word?
+ *     30 Is the card this controller's own?
  */
 #ifndef CABINET_H
 #define CABINET_H

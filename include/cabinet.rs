@@ -1,10 +1,11 @@
-//! The controller of a lock's gate in a cabinet, for Rust: the calls of `cabinet.h` on a state that this module owns. Take it in by `mod cabinet;`
-//! and link `libcabinet.a`. Nothing is allocated.
+//! The controller of a lock's gate in a cabinet, for Rust: the calls of `cabinet.h` on a state that this module owns. Nothing is allocated. What to call when,
+//! what to send again and what a restart may do is said in `cabinet.h`. Take it in by `#[path = "PREFIX/include/cabinet.rs"] mod cabinet;` (with
+//! `#[allow(dead_code)]` where not every call is used) and build with `rustc -L native=PREFIX/lib`.
 
 /// The number of the question that was answered "no" (docs/QUESTIONS.md).
 pub type Refusal = u8;
 
-/// The card is another controller's.
+/// The card is another controller's, or of another n or f.
 pub const OTHER_CARD: Refusal = 30;
 
 pub const CARD: usize = 14;
@@ -121,6 +122,7 @@ impl Cabinet {
         Ok(card)
     }
 
+    /// It comes back from its card, and stands by. Where the card is refused, do not go on: begun as new it could vote a second time.
     pub fn wake(&mut self, card: &[u8]) -> Result<(), Refusal> {
         answer(unsafe { proved::cabinet_wake(self.state.as_mut_ptr(), WORDS, card.as_ptr(), card.len()) })
     }

@@ -139,14 +139,15 @@ static void store(unsigned id, const uint8_t *card) {
     if (folder < 0 || fsync(folder) || close(folder)) fail(dir);
 }
 
-static int load(unsigned id, uint8_t *card) {
+/* how many bytes of it there are, one too many among them; -1 if there is none */
+static ssize_t load(unsigned id, uint8_t *card) {
     char path[300];
     path_of(path, "card", id);
     int file = open(path, O_RDONLY);
-    if (file < 0) return 0;
-    int whole = read(file, card, CABINET_CARD) == CABINET_CARD;
-    close(file);
-    return whole;
+    if (file < 0 && errno == ENOENT) return -1;
+    ssize_t length = file < 0 ? -1 : read(file, card, CABINET_CARD + 1);
+    if (length < 0 || close(file)) fail(path);
+    return length;
 }
 
 struct cabinet {
@@ -203,15 +204,17 @@ static void begin(struct cabinet *c, uint32_t position) {
     if (cabinet_begin(c->state, CABINET_WORDS, (uint8_t)n, (uint8_t)f, id, (uint8_t)own, position)) fail("begin");
 }
 
-/* One comes back: it begins where its gate stands, and wakes from its card. Killed between card and record, it
+/* One starts: where its gate stands; and if it has a card it was here before, and wakes from it. A card that is
+ * refused ends it: begun as new it could run in an order in which it has voted. Killed between card and record, it
  * records the save first. */
-static void come_back(struct cabinet *c) {
+static void set_up(struct cabinet *c) {
     struct record last, saved;
-    uint8_t card[CABINET_CARD];
+    uint8_t card[CABINET_CARD + 1];
     recorded(c->id, &last, &saved);
     begin(c, last.position);
-    if (!load(c->id, card)) { look(c); return; } /* killed before its first order: it begins as new */
-    if (cabinet_wake(c->state, CABINET_WORDS, card, CABINET_CARD)) fail("wake");
+    ssize_t length = load(c->id, card);
+    if (length < 0) { look(c); return; } /* it was in no order yet */
+    if (cabinet_wake(c->state, CABINET_WORDS, card, (size_t)length)) fail("the card is refused");
     look(c);
     if (saved.order != c->shown[CABINET_ORDER] || saved.outcome != c->shown[CABINET_OUTCOME])
         note(c, SAVE, (uint8_t)c->id, 0, 0, 0);
@@ -294,7 +297,6 @@ static void cabinet(unsigned id, unsigned seed, int back) {
     static struct cabinet c;
     char path[300];
     uint8_t in[64];
-    signal(SIGTERM, end);
     prctl(PR_SET_PDEATHSIG, SIGKILL);
     draws = seed * 2654435761u + id * 40503u + (back ? 77u : 1u);
     if (!draws) draws = 1;
@@ -302,9 +304,7 @@ static void cabinet(unsigned id, unsigned seed, int back) {
     path_of(path, "record", id);
     c.file = open(path, O_WRONLY | O_CREAT | O_APPEND, 0600);
     if (c.file < 0) fail(path);
-    if (back) come_back(&c);
-    else begin(&c, 0);
-    look(&c);
+    set_up(&c);
     uint64_t again_at = 0, bell_at = 0, open_at = 0;
     uint32_t stage = 99, order = 0, had = c.shown[CABINET_OUTCOME];
     while (!ended) {
@@ -349,9 +349,15 @@ static pid_t process[MOST + 1];
 static uint32_t killed_in[MOST + 1];
 
 static void start(unsigned id, unsigned seed, int back) {
+    sigset_t term, before;
+    sigemptyset(&term);
+    sigaddset(&term, SIGTERM);
     fflush(stdout);
+    sigprocmask(SIG_BLOCK, &term, &before); /* until the new process has its handler: it may be ended at once */
     process[id] = fork();
     if (process[id] < 0) fail("fork");
+    if (process[id] == 0) signal(SIGTERM, end);
+    sigprocmask(SIG_SETMASK, &before, NULL);
     if (process[id] == 0) cabinet(id, seed, back);
 }
 

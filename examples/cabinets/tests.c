@@ -112,7 +112,10 @@ static void refused(uint8_t answer, uint8_t number, const uint32_t *s, const uin
 
 static void own_questions(void) {
     uint32_t s[CABINET_WORDS], b[CABINET_WORDS], d[CABINET_SHOWN + 1];
-    uint8_t c[CABINET_CARD + 1], t[CABINET_TELEGRAM + 1];
+    uint8_t c[CABINET_CARD + 1], t[CABINET_TELEGRAM + 1], same[CABINET_TELEGRAM + 1];
+    memset(c, 0xA5, sizeof c);
+    memset(t, 0xA5, sizeof t);
+    memset(same, 0xA5, sizeof same);
     memset(s, 0x5A, sizeof s);
     memcpy(b, s, sizeof s);
     refused(cabinet_begin(s, CABINET_WORDS - 1, 3, 1, 1, 0, 0), 1, s, b, "begin, 1");
@@ -157,20 +160,30 @@ static void own_questions(void) {
     refused(cabinet_telegram(s, CABINET_WORDS, 0, t, 16), 17, s, b, "telegram, 17");
     refused(cabinet_receive(s, CABINET_WORDS, t, CABINET_TELEGRAM + 1), 1, s, b, "receive, 1");
     refused(cabinet_wake(s, CABINET_WORDS, c, CABINET_CARD + 1), 1, s, b, "wake, 1");
+    check(cabinet_vote(s, CABINET_WORDS, 1, 0) == 0, "vote");
+    memcpy(b, s, sizeof s);
+    refused(cabinet_telegram(s, CABINET_WORDS, 0, t, 20), 1, s, b, "telegram, 1");
+    refused(cabinet_telegram(s, CABINET_WORDS, 255, t, 16), 17, s, b, "telegram, 17 of the last k");
+    check(memcmp(c, same, sizeof c) == 0 && memcmp(t, same, sizeof t) == 0, "a refused call changed a buffer");
 }
 
 /* what a restart may do: stopped it answers 15; awake it stands by in the later of the two orders, and runs in the
  * next */
 static void restarts(void) {
     uint32_t s[CABINET_WORDS], b[CABINET_WORDS], d[CABINET_SHOWN];
-    uint8_t older[CABINET_CARD], other[CABINET_CARD];
-    check(cabinet_begin(s, CABINET_WORDS, 3, 1, 2, 0, 0) == 0 && cabinet_order(s, CABINET_WORDS, 5) == 0, "order 5");
-    check(cabinet_save(s, CABINET_WORDS, other, CABINET_CARD) == 0, "another controller's card");
+    uint8_t older[CABINET_CARD], others[3][CABINET_CARD], other[CABINET_CARD];
+    static const uint8_t who[3][3] = { { 3, 1, 2 }, { 4, 1, 1 }, { 3, 2, 1 } }; /* another number, n, f */
+    for (int k = 0; k < 3; k++) {
+        check(cabinet_begin(s, CABINET_WORDS, who[k][0], who[k][1], who[k][2], 0, 0) == 0, "another controller");
+        check(cabinet_order(s, CABINET_WORDS, 5) == 0, "order 5");
+        check(cabinet_save(s, CABINET_WORDS, others[k], CABINET_CARD) == 0, "another controller's card");
+    }
     check(cabinet_begin(s, CABINET_WORDS, 3, 1, 1, 0, 9) == 0 && cabinet_order(s, CABINET_WORDS, 5) == 0, "order 5");
     check(cabinet_save(s, CABINET_WORDS, older, CABINET_CARD) == 0, "save");
     check(cabinet_vote(s, CABINET_WORDS, 1, 7) == 0 && cabinet_telegram_length(s, CABINET_WORDS, 0) == 16, "vote");
     memcpy(b, s, sizeof s);
-    refused(cabinet_wake(s, CABINET_WORDS, other, CABINET_CARD), CABINET_OTHER_CARD, s, b, "wake, another's card");
+    for (int k = 0; k < 3; k++)
+        refused(cabinet_wake(s, CABINET_WORDS, others[k], CABINET_CARD), CABINET_OTHER_CARD, s, b, "wake, another's card");
     check(cabinet_stop(s, CABINET_WORDS) == 0, "stop");
     check(cabinet_telegram_length(s, CABINET_WORDS, 0) == 16, "what was sent stays in the list");
     memcpy(b, s, sizeof s);
@@ -180,6 +193,8 @@ static void restarts(void) {
     refused(cabinet_stop(s, CABINET_WORDS), 15, s, b, "stop, 15");
     refused(cabinet_open(s, CABINET_WORDS, 1), 15, s, b, "open, 15");
     refused(cabinet_save(s, CABINET_WORDS, other, CABINET_CARD), 15, s, b, "save, 15");
+    for (size_t length = 0; length < CABINET_CARD; length++) /* what a torn write leaves of a card */
+        refused(cabinet_wake(s, CABINET_WORDS, older, length), 1, s, b, "wake, a part of a card");
     check(cabinet_order(s, CABINET_WORDS, 6) == 0 && cabinet_wake(s, CABINET_WORDS, older, CABINET_CARD) == 0, "wake");
     check(cabinet_show(s, CABINET_WORDS, d, CABINET_SHOWN) == 0, "show");
     check(d[CABINET_ORDER] == 6 && d[CABINET_STAGE] == 9, "it stands by, in the later order");
@@ -190,27 +205,32 @@ static void restarts(void) {
     check(cabinet_order(s, CABINET_WORDS, 7) == 0 && cabinet_vote(s, CABINET_WORDS, 1, 0) == 0, "it runs in the next");
 }
 
-/* how deep each call goes, by a painted stack */
+/* how deep each call goes, by a painted stack; each is accepted */
 static ucontext_t here, there;
 static uint32_t state[CABINET_WORDS], display[CABINET_SHOWN];
 static uint8_t card[CABINET_CARD], out[20];
 static uint8_t ack[20] = { 0x4C, 0x4C, 2, 32, 5, 2, 1, 0, 0, 0, 0, 5, 0xFF, 0xFF, 0xFF, 0xFF, 0xFF, 0xFF, 0xFF, 0xFF };
-static int which;
+static uint8_t ask[24] = { 0x4C, 0x4C, 5, 32, 5, 2, 1, 0, 0, 0, 0, 5, 0, 0, 0, 0, 0, 0, 0, 0, 34, 0, 0, 0 };
+static int which, answer;
+enum { MEASURED = 15 };
 
 static void call(void) {
     switch (which) {
-    case 0: cabinet_begin(state, CABINET_WORDS, 32, 5, 1, 0, 0); break;
-    case 1: cabinet_order(state, CABINET_WORDS, 5); break;
-    case 2: cabinet_vote(state, CABINET_WORDS, 1, 7); break;
-    case 3: cabinet_receive(state, CABINET_WORDS, ack, sizeof ack); break;
-    case 4: cabinet_timeout(state, CABINET_WORDS); break;
-    case 5: cabinet_telegram(state, CABINET_WORDS, 0, out, sizeof out); break;
-    case 6: cabinet_timeout(state, CABINET_WORDS); break;
-    case 7: cabinet_show(state, CABINET_WORDS, display, CABINET_SHOWN); break;
-    case 8: cabinet_save(state, CABINET_WORDS, card, sizeof card); break;
-    case 9: cabinet_wake(state, CABINET_WORDS, card, sizeof card); break;
-    case 10: cabinet_open(state, CABINET_WORDS, 1); break;
-    case 11: cabinet_stop(state, CABINET_WORDS); break;
+    case 0: answer = cabinet_begin(state, CABINET_WORDS, 32, 5, 1, 1, 0); break;
+    case 1: answer = cabinet_order(state, CABINET_WORDS, 5); break;
+    case 2: answer = cabinet_vote(state, CABINET_WORDS, 1, 7); break;
+    case 3: answer = cabinet_receive(state, CABINET_WORDS, ack, sizeof ack); break;
+    case 4: answer = cabinet_timeout(state, CABINET_WORDS); break;
+    case 5: answer = cabinet_telegram_length(state, CABINET_WORDS, 0) != sizeof out; break;
+    case 6: answer = cabinet_telegram(state, CABINET_WORDS, 0, out, sizeof out); break;
+    case 7: answer = cabinet_timeout(state, CABINET_WORDS); break;
+    case 8: answer = cabinet_open(state, CABINET_WORDS, 1); break;
+    case 9: answer = cabinet_receive(state, CABINET_WORDS, ask, sizeof ask); break;
+    case 10: answer = cabinet_show(state, CABINET_WORDS, display, CABINET_SHOWN); break;
+    case 11: answer = cabinet_decide(state, CABINET_WORDS, 0); break;
+    case 12: answer = cabinet_save(state, CABINET_WORDS, card, sizeof card); break;
+    case 13: answer = cabinet_wake(state, CABINET_WORDS, card, sizeof card); break;
+    case 14: answer = cabinet_stop(state, CABINET_WORDS); break;
     }
 }
 
@@ -218,7 +238,7 @@ static int deepest(void) {
     enum { ROOM = 1 << 17 };
     unsigned char *stack = malloc(ROOM);
     static int most;
-    for (which = 0; which < 12; which++) {
+    for (which = 0; which < MEASURED; which++) {
         memset(stack, 0xA5, ROOM);
         getcontext(&there);
         there.uc_stack.ss_sp = stack;
@@ -226,6 +246,7 @@ static int deepest(void) {
         there.uc_link = &here;
         makecontext(&there, call, 0);
         swapcontext(&here, &there);
+        check(answer == 0, "a call whose stack is measured is accepted");
         int k = 0;
         while (stack[k] == 0xA5) k++;
         if (ROOM - k > most) most = ROOM - k;

@@ -3,6 +3,10 @@ mod Gates
 mod Fits
 mod BallotsFit
 mod Lent
+mod Reached
 mod Theorem
 mod Counting
 mod Settled
+mod Restarts
+mod SentAgain
+mod SentStays

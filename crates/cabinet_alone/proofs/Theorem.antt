@@ -37,6 +37,7 @@ use Rattle.cabinet_alone.specs.CabinetAlone.{bare, CabinetAlone}
 use Rattle.cabinet_alone.proofs.Gates.{same-reception}
 use Rattle.cabinet_alone.proofs.Carried.{made-alone, made-order, made-me}
 use Rattle.cabinet_alone.proofs.Lent.{run-begun, run-taken, run-reads}
+use Rattle.cabinet_alone.proofs.Reached.{reached}
 
 to-bare : (c : Controller) → Agreeing c → Agreeing (bare c)
 to-bare c x = record { own-answers = x .own-answers; own-ack = x .own-ack; answers-ack = x .answers-ack; acks = x .acks }
@@ -170,4 +171,5 @@ module _ (enc : Encoding) (x : ControllerAlone) where
     answer-count = λ r. over (λ (c : Controller). c .helped .«cnt_help» .0 ≡ countTo (r .n) (hasHelped c)) r (x .answer-count (who r) (calls r));
     ack-senders = λ r. over (λ (c : Controller). (j : ℕ) → hasAck c j ≡ true → (1 ≤ j) × (j ≤ r .n)) r (x .ack-senders (who r) (calls r));
     answer-senders = λ r. over (λ (c : Controller). (j : ℕ) → hasHelped c j ≡ true → (1 ≤ j) × (j ≤ r .n)) r (x .answer-senders (who r) (calls r));
+    reached = reached enc;
   }

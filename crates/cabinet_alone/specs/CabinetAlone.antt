@@ -1,9 +1,10 @@
 -- WHAT HOLDS OF A CONTROLLER ALONE (`ControllerAlone` of `protocol`) holds of the controller in the words that C lends, after any list of calls of the exported
 -- functions, accepted or refused, wherever its gate stands. `cabinet_alone` in src/lib.rt has it as its contract.
-use Prim.Native.Nat.{ℕ, _≤_}
+use Prim.Native.Nat.{ℕ, _<_, _≤_}
 use mathlib.Core.Path.{_≡_}
 use mathlib.Core.Bool.{true, false}
 use mathlib.Core.List.{List, _∷_}
+use lib.ListN.{length}
 use Rattle.ground.specs.Quantify.{countTo}
 use Rattle.votes.specs.VoteSets.{knows, wills, single, union}
 use Rattle.votes.specs.declared.Joined.the-variants.{Agreed}
@@ -15,6 +16,7 @@ use Rattle.protocol.specs.Rules.{isTaken, ackJoin, helpVotes}
 use Rattle.protocol.specs.Calls.{receive}
 use Rattle.protocol.specs.NoContradiction.{Agreeing, acksUnion, JoinIsUnion}
 use Rattle.cabinet_state.specs.States.{stateRefusal}
+use Rattle.cabinet_turns.specs.Telegrams.{telegramsSent}
 use Rattle.cabinet.specs.Acts.{Act, Voting, answerTo}
 use Rattle.cabinet_alone.specs.Runs.{Run, lent, cabinet, inside, further, made, aside, noneEnds}
 
@@ -48,3 +50,5 @@ pub record CabinetAlone : Type 0 where
   pub answer-count : (r : Run) → (inside r) .helped .«cnt_help» .0 ≡ countTo (r .n) (hasHelped (inside r))
   pub ack-senders : (r : Run) (j : ℕ) → hasAck (inside r) j ≡ true → (1 ≤ j) × (j ≤ r .n)
   pub answer-senders : (r : Run) (j : ℕ) → hasHelped (inside r) j ≡ true → (1 ≤ j) × (j ≤ r .n)
+  -- it has sent fewer telegrams in its order than a byte counts: `cabinet_telegram` reaches each of them, to be sent again
+  pub reached : (r : Run) → length (telegramsSent (cabinet r)) < 256

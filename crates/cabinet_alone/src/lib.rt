@@ -1,6 +1,8 @@
 // What holds of a cabinet, whatever C calls.
 ghost use Rattle.cabinet_alone.specs.CabinetAlone.{CabinetAlone};
 ghost use Rattle.cabinet_alone.specs.SettledWord.{SettledWord};
+ghost use Rattle.cabinet_alone.specs.Restart.{Restart};
+ghost use Rattle.cabinet_alone.specs.SentAgain.{SentAgain};
 use cabinet_state::encoding;
 use protocol::controller_alone;
 
@@ -18,3 +20,15 @@ pub fn cabinet_alone()
 pub fn settled_word()
     ensures { λ _. ⌜ SettledWord ⌝ }
 {}
+
+// What a restart may do: one that wakes from a card stands by, and never runs in the card's order again.
+pub fn restart()
+    ensures { λ _. ⌜ Restart ⌝ }
+{}
+
+// What is sent again is what was sent, whatever came over the line meanwhile.
+pub fn sent_again()
+    ensures { λ _. ⌜ SentAgain ⌝ }
+{
+    encoding();
+}
