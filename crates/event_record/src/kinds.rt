@@ -1,4 +1,5 @@
-// The table of kinds at the fields of an event: which values are listed (flags and kinds among them are, and what is not used is 0), and the event, or the step back, that they stand for.
+// The table of kinds at the fields of an event: which values are listed (flags and kinds among them are, and what is not used is 0), and the event, or the
+// step back, that they stand for.
 use crate::Fields;
 use model::Act;
 use model::BallotEvent;

@@ -8,7 +8,7 @@ use records::number2;
 use records::number4;
 use text::write_refusal;
 ghost use mathlib.Core.Path.{_≡_};
-ghost use Rattle.text.specs.Writing.{fitted, fittedLength, Rendered};
+ghost use Rattle.text.specs.Writing.{Rendered, WrittenWhole};
 ghost use Rattle.generator.specs.Output.{outputFor, outputOf, longestOutput, AllFit};
 
 // No output is longer: the file of the most controllers and the most drawn events, ten bytes for each record.
@@ -16,7 +16,7 @@ pub const LONGEST_OUTPUT: usize = 10 * (2 + LIMIT + MOST_DRAWN as usize);
 
 // The file, or the refusal.
 fn write_for(out: &mut [u8], n: u8, f: u8, count: u32, start: u32) -> usize
-    ensures { λ r. ⌜ (r ≡ fittedLength (outputFor n f count start) (now (out .entry))) × (now (out .exit) ≡ fitted (outputFor n f count start) (now (out .entry))) ⌝ }
+    ensures { λ r. ⌜ WrittenWhole (outputFor n f count start) (now (out .entry)) (now (out .exit)) r ⌝ }
 {
     let refusal = refusal_of(n, f, count, start);
     if refusal != 0 {

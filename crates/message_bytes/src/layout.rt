@@ -23,7 +23,8 @@ ghost use Prim.Native.Nat.{_≤_};
 ghost use lib.ListN.{length};
 ghost use Rattle.records.specs.Codec.{fieldsBy};
 ghost use Rattle.message_record.specs.declared.MessageBody.the-variants.{Ballot};
-ghost use Rattle.message_record.specs.Telegrams.{formed, fieldsIn, votesAt, moreAt, noMore, telegramForm, listedIn, messageOf, ballotMessageOf, telegramOf, plainFields, ballotFields, fieldsOf};
+ghost use Rattle.message_record.specs.Telegrams.{formed, fieldsIn, votesAt, moreAt, noMore, telegramForm, listedIn};
+ghost use Rattle.message_record.specs.Telegrams.{messageOf, ballotMessageOf, telegramOf, plainFields, ballotFields, fieldsOf};
 
 // The votes as they stand on a record of that width.
 fn votes_in(width: MessageWidth, s: &[u8]) -> VoteSet

@@ -7,7 +7,7 @@ use model::Telegram;
 use records::low_byte;
 use records::write_record;
 ghost use mathlib.Core.Path.{_≡_};
-ghost use Rattle.records.specs.Frames.{writeNumber, bufferAfter};
+ghost use Rattle.records.specs.Frames.{PutUnless};
 ghost use Rattle.message_record.specs.declared.MessageWidth.the-variants.{Short, Long};
 ghost use Rattle.message_record.specs.declared.MessageBody.the-variants.{Votes, Ballot};
 ghost use Rattle.message_record.specs.Telegrams.{formed, bytesIn};
@@ -123,35 +123,35 @@ fn long_ballot_bytes(x: Fields) -> [u8; 24]
 
 // The bytes of each form, put into a buffer of their length unless there is a refusal.
 fn write_short(out: &mut [u8], x: Fields, refusal: u8) -> u8
-    ensures { λ r. ⌜ (r ≡ writeNumber (now (out .entry)) (bytesIn (formed Short Votes) x) refusal) × (now (out .exit) ≡ bufferAfter (now (out .entry)) (bytesIn (formed Short Votes) x) refusal) ⌝ }
+    ensures { λ r. ⌜ PutUnless (bytesIn (formed Short Votes) x) refusal (now (out .entry)) (now (out .exit)) r ⌝ }
 {
     let content = short_bytes(x);
     write_record(out, &content, refusal)
 }
 
 fn write_long(out: &mut [u8], x: Fields, refusal: u8) -> u8
-    ensures { λ r. ⌜ (r ≡ writeNumber (now (out .entry)) (bytesIn (formed Long Votes) x) refusal) × (now (out .exit) ≡ bufferAfter (now (out .entry)) (bytesIn (formed Long Votes) x) refusal) ⌝ }
+    ensures { λ r. ⌜ PutUnless (bytesIn (formed Long Votes) x) refusal (now (out .entry)) (now (out .exit)) r ⌝ }
 {
     let content = long_bytes(x);
     write_record(out, &content, refusal)
 }
 
 fn write_short_ballot(out: &mut [u8], x: Fields, refusal: u8) -> u8
-    ensures { λ r. ⌜ (r ≡ writeNumber (now (out .entry)) (bytesIn (formed Short Ballot) x) refusal) × (now (out .exit) ≡ bufferAfter (now (out .entry)) (bytesIn (formed Short Ballot) x) refusal) ⌝ }
+    ensures { λ r. ⌜ PutUnless (bytesIn (formed Short Ballot) x) refusal (now (out .entry)) (now (out .exit)) r ⌝ }
 {
     let content = short_ballot_bytes(x);
     write_record(out, &content, refusal)
 }
 
 fn write_long_ballot(out: &mut [u8], x: Fields, refusal: u8) -> u8
-    ensures { λ r. ⌜ (r ≡ writeNumber (now (out .entry)) (bytesIn (formed Long Ballot) x) refusal) × (now (out .exit) ≡ bufferAfter (now (out .entry)) (bytesIn (formed Long Ballot) x) refusal) ⌝ }
+    ensures { λ r. ⌜ PutUnless (bytesIn (formed Long Ballot) x) refusal (now (out .entry)) (now (out .exit)) r ⌝ }
 {
     let content = long_ballot_bytes(x);
     write_record(out, &content, refusal)
 }
 
 fn write_votes(out: &mut [u8], width: MessageWidth, x: Fields, refusal: u8) -> u8
-    ensures { λ r. ⌜ (r ≡ writeNumber (now (out .entry)) (bytesIn (formed width Votes) x) refusal) × (now (out .exit) ≡ bufferAfter (now (out .entry)) (bytesIn (formed width Votes) x) refusal) ⌝ }
+    ensures { λ r. ⌜ PutUnless (bytesIn (formed width Votes) x) refusal (now (out .entry)) (now (out .exit)) r ⌝ }
 {
     match width {
         MessageWidth::Short => write_short(&mut *out, x, refusal),
@@ -160,7 +160,7 @@ fn write_votes(out: &mut [u8], width: MessageWidth, x: Fields, refusal: u8) -> u
 }
 
 fn write_ballot(out: &mut [u8], width: MessageWidth, x: Fields, refusal: u8) -> u8
-    ensures { λ r. ⌜ (r ≡ writeNumber (now (out .entry)) (bytesIn (formed width Ballot) x) refusal) × (now (out .exit) ≡ bufferAfter (now (out .entry)) (bytesIn (formed width Ballot) x) refusal) ⌝ }
+    ensures { λ r. ⌜ PutUnless (bytesIn (formed width Ballot) x) refusal (now (out .entry)) (now (out .exit)) r ⌝ }
 {
     match width {
         MessageWidth::Short => write_short_ballot(&mut *out, x, refusal),
@@ -169,7 +169,7 @@ fn write_ballot(out: &mut [u8], width: MessageWidth, x: Fields, refusal: u8) -> 
 }
 
 pub(crate) fn write_in(out: &mut [u8], form: TelegramForm, x: Fields, refusal: u8) -> u8
-    ensures { λ r. ⌜ (r ≡ writeNumber (now (out .entry)) (bytesIn form x) refusal) × (now (out .exit) ≡ bufferAfter (now (out .entry)) (bytesIn form x) refusal) ⌝ }
+    ensures { λ r. ⌜ PutUnless (bytesIn form x) refusal (now (out .entry)) (now (out .exit)) r ⌝ }
 {
     let width = form.width;
     let body = form.body;

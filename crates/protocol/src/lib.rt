@@ -224,7 +224,8 @@ pub struct Ballots {
     pub rows: [BallotRow; BALLOTS],
 }
 
-// What the controllers of a bench share: their lock (`own`: do they settle the word by ballots of their own), their order (0 before the first), the consensus, and how many of them are undecided.
+// What the controllers of a bench share: their lock (`own`: do they settle the word by ballots of their own), their order (0 before the first), the consensus,
+// and how many of them are undecided.
 pub struct Shared {
     pub locked: bool,
     pub n: u8,

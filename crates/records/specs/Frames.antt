@@ -1,5 +1,6 @@
 -- What the code of every record shares, by bytes and numbers alone: questions 1 and 2, and a buffer after writing.
 use Prim.Native.Nat.{ℕ}
+use mathlib.Core.Path.{_≡_}
 use mathlib.Core.Bool.{cond, _&&_}
 use mathlib.Core.List.{List, [], _∷_}
 use lib.Dec.{eqb}
@@ -16,3 +17,7 @@ writeNumber out content q = cond (eqb (length out) (length content)) q 1
 
 unfoldable pub bufferAfter : List ℕ → List ℕ → ℕ → List ℕ
 bufferAfter out content q = cond (eqb (length out) (length content) && eqb q 0) content out
+
+-- the content is put into a buffer of its length, unless the record was refused; r is the answer
+abbrev pub PutUnless : List ℕ → ℕ → List ℕ → List ℕ → ℕ → Type 0
+PutUnless content refusal before after r = (r ≡ writeNumber before content refusal) × (after ≡ bufferAfter before content refusal)

@@ -2,7 +2,7 @@
 use crate::number2;
 ghost use mathlib.Core.Path.{_≡_};
 ghost use Rattle.model.specs.Questions.{firstNo, number};
-ghost use Rattle.records.specs.Frames.{frameQuestions, writeNumber, bufferAfter};
+ghost use Rattle.records.specs.Frames.{frameQuestions, PutUnless};
 
 // Questions 1 and 2: 0, or the number of the first that is answered "no".
 pub fn frame_question(s: &[u8], size: usize, mark: u32) -> u8
@@ -19,7 +19,7 @@ pub fn frame_question(s: &[u8], size: usize, mark: u32) -> u8
 
 // Puts the content of a record into a buffer of its length, unless its questions have given a refusal. Answers 0, or the number of the first "no"; then the buffer is untouched.
 pub fn write_record(out: &mut [u8], content: &[u8], refusal: u8) -> u8
-    ensures { λ r. ⌜ (r ≡ writeNumber (now (out .entry)) (now (content .entry)) refusal) × (now (out .exit) ≡ bufferAfter (now (out .entry)) (now (content .entry)) refusal) ⌝ }
+    ensures { λ r. ⌜ PutUnless (now (content .entry)) refusal (now (out .entry)) (now (out .exit)) r ⌝ }
 {
     if out.len() != content.len() {
         return 1;

@@ -9,7 +9,7 @@ use schedule_text::write;
 use text::write_bytes;
 use text::write_refusal;
 ghost use mathlib.Core.Path.{_≡_};
-ghost use Rattle.text.specs.Writing.{Rendered, fitted, fittedLength};
+ghost use Rattle.text.specs.Writing.{Rendered, WrittenWhole};
 ghost use Rattle.schedule_text.specs.Texts.{writeText};
 ghost use Rattle.schedule_input.specs.Input.{recordsOutput, textOr, textOutput};
 
@@ -30,7 +30,7 @@ pub fn render_records(s: &[u8], out: &mut [u8]) -> usize
 
 // Writes the text of records, whole or not at all; or the refusal.
 fn write_text(out: &mut [u8], records: &[u8]) -> usize
-    ensures { λ r. ⌜ (r ≡ fittedLength (textOr (writeText (now (records .entry)))) (now (out .entry))) × (now (out .exit) ≡ fitted (textOr (writeText (now (records .entry)))) (now (out .entry))) ⌝ }
+    ensures { λ r. ⌜ WrittenWhole (textOr (writeText (now (records .entry)))) (now (out .entry)) (now (out .exit)) r ⌝ }
 {
     match write(records, &mut *out) {
         Turned::Done(n) => n,

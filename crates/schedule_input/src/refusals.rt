@@ -10,7 +10,7 @@ use words::nth_span;
 ghost use mathlib.Core.Path.{_≡_};
 ghost use Prim.Native.Nat.{_-_, _^_, _≤_, min};
 ghost use lib.ListN.{take};
-ghost use Rattle.text.specs.Writing.{Put, fitted, fittedLength};
+ghost use Rattle.text.specs.Writing.{Put, WrittenWhole};
 ghost use Rattle.words.specs.Words.{nthWord};
 ghost use Rattle.schedule_input.specs.Input.{wordShown, refusedWord, refusedLine, refusedRecord};
 
@@ -81,7 +81,7 @@ fn put_refused_line(out: &mut [u8], s: &[u8], line: usize, word: usize) -> usize
 
 // The number of a refused line and the first word of it that was not expected, whole or not at all.
 pub fn write_refused_line(out: &mut [u8], s: &[u8], line: usize, word: usize) -> usize
-    ensures { λ r. ⌜ (r ≡ fittedLength (refusedLine (now (s .entry)) line word) (now (out .entry))) × (now (out .exit) ≡ fitted (refusedLine (now (s .entry)) line word) (now (out .entry))) ⌝ }
+    ensures { λ r. ⌜ WrittenWhole (refusedLine (now (s .entry)) line word) (now (out .entry)) (now (out .exit)) r ⌝ }
 {
     let mut text = [0u8; ROOM];
     let end = put_refused_line(&mut text, s, line, word);
@@ -100,7 +100,7 @@ fn put_refused_record(out: &mut [u8], k: usize, q: usize) -> usize
 
 // The index of a refused record and the number of the question, whole or not at all.
 pub(crate) fn write_refused_record(out: &mut [u8], k: usize, q: usize) -> usize
-    ensures { λ r. ⌜ (r ≡ fittedLength (refusedRecord k q) (now (out .entry))) × (now (out .exit) ≡ fitted (refusedRecord k q) (now (out .entry))) ⌝ }
+    ensures { λ r. ⌜ WrittenWhole (refusedRecord k q) (now (out .entry)) (now (out .exit)) r ⌝ }
 {
     let mut text = [0u8; ROOM];
     let end = put_refused_record(&mut text, k, q);
@@ -110,7 +110,7 @@ pub(crate) fn write_refused_record(out: &mut [u8], k: usize, q: usize) -> usize
 // What stands at the front of an array, up to a place in it.
 fn write_front(out: &mut [u8], text: [u8; ROOM], end: usize) -> usize
     requires { ⌜ end ≤ 60 ⌝ }
-    ensures { λ r. ⌜ (r ≡ fittedLength (take end text) (now (out .entry))) × (now (out .exit) ≡ fitted (take end text) (now (out .entry))) ⌝ }
+    ensures { λ r. ⌜ WrittenWhole (take end text) (now (out .entry)) (now (out .exit)) r ⌝ }
 {
     write_bytes(&mut *out, &text[..end])
 }

@@ -10,7 +10,7 @@ use survey::write_page;
 use surveying::survey_of;
 use text::write_refusal;
 ghost use mathlib.Core.Path.{_≡_};
-ghost use Rattle.text.specs.Writing.{fitted, fittedLength, Rendered};
+ghost use Rattle.text.specs.Writing.{Rendered, WrittenWhole};
 ghost use Rattle.survey_output.specs.Output.{outputFor, outputOf, longestOutput, AllFit};
 ghost use Rattle.survey_output.specs.Claim.{AsShown};
 
@@ -22,7 +22,7 @@ const RECORD: usize = 10;
 
 // The page, or the refusal.
 fn write_for(out: &mut [u8], n: u8, f: u8, count: u32, s: u32, k: u32) -> usize
-    ensures { λ r. ⌜ (r ≡ fittedLength (outputFor n f count s k) (now (out .entry))) × (now (out .exit) ≡ fitted (outputFor n f count s k) (now (out .entry))) ⌝ }
+    ensures { λ r. ⌜ WrittenWhole (outputFor n f count s k) (now (out .entry)) (now (out .exit)) r ⌝ }
 {
     let refusal = refusal_of(n, f, count, s, k);
     if refusal != 0 {

@@ -26,6 +26,10 @@ fitted text out = cond (leb (length text) (length out)) (text ++ drop (length te
 unfoldable pub fittedLength : List ℕ → List ℕ → ℕ
 fittedLength text out = cond (leb (length text) (length out)) (length text) 0
 
+-- the text is written whole at the front of the buffer, or not at all, and r is the length that is answered
+abbrev pub WrittenWhole : List ℕ → List ℕ → List ℕ → ℕ → Type 0
+WrittenWhole text before after r = (r ≡ fittedLength text before) × (after ≡ fitted text before)
+
 -- The text at the front of an array of 22 bytes, up to a place in it; nothing, where the array has no such place.
 unfoldable pub lineTo : List ℕ → ℕ → List ℕ
 lineTo line end = cond (leb end 22) (take end line) []
