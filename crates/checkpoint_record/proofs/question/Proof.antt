@@ -1,3 +1,4 @@
+-- `question` meets its contract: at each return the questions before it are passed, by what each test's call ensures.
 use borrow.Author.Tests.{le-leb, lt-leb, not-true, not-false}
 use borrow.Author.Needs.{needs}
 use Rattle.checkpoint_record.specs.Checkpoints.{aboutCheckpoint}
@@ -19,11 +20,19 @@ returns-3 c = simp (← c .before .before .before .before .before .sizes-in-rang
 
 returns-4 : tie.Need-returns-4
 unfolding aboutCheckpoint firstNo unless
-returns-4 c = simp (← c .before .before .before .before .before .before .before .sizes-in-range .ensures, not-false (c .before .before .before .before .before .before .before .sizes-in-range .result) (c .before .before .before .before .before .before .if1 .left), ← c .before .before .before .before .before .is-controller .ensures, not-false (c .before .before .before .before .before .is-controller .result) (c .before .before .before .before .if2 .left), le-leb _ _ (c .before .before .if3 .left), ← c .before .position-in-range .ensures, not-true (c .before .position-in-range .result) (c .if4 .taken))
+returns-4 c =
+    let at-if3 = c .before .before in
+    let at-if2 = at-if3 .before .before in
+    let at-if1 = at-if2 .before .before in
+    simp (← at-if1 .before .sizes-in-range .ensures, not-false (at-if1 .before .sizes-in-range .result) (at-if1 .if1 .left), ← at-if2 .before .is-controller .ensures, not-false (at-if2 .before .is-controller .result) (at-if2 .if2 .left), le-leb _ _ (at-if3 .if3 .left), ← c .before .position-in-range .ensures, not-true (c .before .position-in-range .result) (c .if4 .taken))
 
 returns-5 : tie.Need-returns-5
 unfolding aboutCheckpoint firstNo unless
-returns-5 c = simp (← c .before .before .before .before .before .before .before .sizes-in-range .ensures, not-false (c .before .before .before .before .before .before .before .sizes-in-range .result) (c .before .before .before .before .before .before .if1 .left), ← c .before .before .before .before .before .is-controller .ensures, not-false (c .before .before .before .before .before .is-controller .result) (c .before .before .before .before .if2 .left), le-leb _ _ (c .before .before .if3 .left), ← c .before .position-in-range .ensures, not-false (c .before .position-in-range .result) (c .if4 .left))
+returns-5 c =
+    let at-if3 = c .before .before in
+    let at-if2 = at-if3 .before .before in
+    let at-if1 = at-if2 .before .before in
+    simp (← at-if1 .before .sizes-in-range .ensures, not-false (at-if1 .before .sizes-in-range .result) (at-if1 .if1 .left), ← at-if2 .before .is-controller .ensures, not-false (at-if2 .before .is-controller .result) (at-if2 .if2 .left), le-leb _ _ (at-if3 .if3 .left), ← c .before .position-in-range .ensures, not-false (c .before .position-in-range .result) (c .if4 .left))
 
 pub question-spec : {M : Type 1} → statement M
 question-spec =

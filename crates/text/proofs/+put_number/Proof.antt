@@ -50,10 +50,14 @@ put-number-returns-2 : (t : ℕ) → put-number-lts.Need-returns-2 (
   put-number.Post,
 ) (put-number-at t) put-number.Post
 put-number-returns-2 t c =
-    let a = c .before .before .before .before .before .before .before .before .before .before .args in
-    let p = c .before .before .before .before .before .before .put-number .ensures in
-    let more = decimal-more (a .v) (c .before .before .before .before .before .before .before .before .if1 .left) (omega arith) in
-    put-text (put-then p (c .before .before .put-byte2 .ensures)) (sym more)
+    let at-put-byte2 = c .before .before in
+    let at-put-number = at-put-byte2 .before .before .before .before in
+    let at-if1 = at-put-number .before .before in
+    let start = at-if1 .before .before in
+    let a = start .args in
+    let p = at-put-number .put-number .ensures in
+    let more = decimal-more (a .v) (at-if1 .if1 .left) (omega arith) in
+    put-text (put-then p (at-put-byte2 .put-byte2 .ensures)) (sym more)
 
 pub +put-number-spec : {M : Type 1} → statement M
 +put-number-spec = close μ-put-number λ t. put-number-lts.spec (

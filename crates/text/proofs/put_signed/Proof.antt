@@ -13,9 +13,13 @@ returns c =
 
 returns-2 : tie.Need-returns-2
 returns-2 c =
-    let a = c .before .before .before .before .before .before .before .before .before .before .args in
-    let p = put-then (c .before .before .before .before .before .before .put-byte .ensures) (c .before .before .put-number2 .ensures) in
-    put-text p (signed-minus (a .v) (c .before .before .before .before .before .before .before .before .if1 .left) (omega arith))
+    let at-put-number2 = c .before .before in
+    let at-put-byte = at-put-number2 .before .before .before .before in
+    let at-if1 = at-put-byte .before .before in
+    let start = at-if1 .before .before in
+    let a = start .args in
+    let p = put-then (at-put-byte .put-byte .ensures) (at-put-number2 .put-number2 .ensures) in
+    put-text p (signed-minus (a .v) (at-if1 .if1 .left) (omega arith))
 
 pub put-signed-spec : {M : Type 1} → statement M
 put-signed-spec =

@@ -29,10 +29,14 @@ loop-again c = (omega arith, skipped _ _ _ _ (sym (c .before .has .ensures) ∙ 
 returns : tie.Need-returns Inv-loop μ-loop
 unfolding nth
 returns c =
-    let start = c .before .before .before .before .before .before .before .before .before .before .args in
-    let loop = c .before .before .before .before .before .before .before .loop in
+    let at-join = c .before .before in
+    let at-has = at-join .before .before in
+    let at-loop = at-has .before .before .before in
+    let start-2 = at-loop .before .before .before in
+    let start = start-2 .args in
+    let loop = at-loop .loop in
     sym (contradicted-all (loop .k + 1) (start .m) limit (start .from) (start .t3) (search needs) (omega arith)
-    (added _ _ _ _ _ (sym (c .before .before .before .before .has .ensures) ∙ not-false _ (c .before .before .before .if1 .left)) (loop .inv .1) (sym (c .enum-told .given .1) ∙ c .before .before .join .ensures)))
+    (added _ _ _ _ _ (sym (at-has .has .ensures) ∙ not-false _ (at-join .before .if1 .left)) (loop .inv .1) (sym (c .enum-told .given .1) ∙ at-join .join .ensures)))
 
 loop-again-2 : tie.Need-loop-again-2 Inv-loop μ-loop
 unfolding nth

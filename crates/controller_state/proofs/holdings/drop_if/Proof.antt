@@ -24,10 +24,14 @@ returns-2 c =
 returns-3 : tie.Need-returns-3
 unfolding dropIf
 returns-3 c =
-    let start = c .before .before .before .before .before .before .before .before .args in
+    let at-if2 = c .before .before in
+    let at-set-of = at-if2 .before .before in
+    let at-if1 = at-set-of .before .before in
+    let start-2 = at-if1 .before .before in
+    let start = start-2 .args in
     rw (
-      sym (c .before .before .before .before .before .before .before .has .ensures) ∙ not-false _ (c .before .before .before .before .before .before .if1 .left),
-      ap (λ (x : VoteSet). contradicts x (start .s)) (sym (c .before .before .before .before .set-of .ensures)) ∙ sym (c .before .before .before .contradicts .ensures) ∙ not-false _ (c .before .before .if2 .left),
+      sym (at-if1 .before .has .ensures) ∙ not-false _ (at-if1 .if1 .left),
+      ap (λ (x : VoteSet). contradicts x (start .s)) (sym (at-set-of .set-of .ensures)) ∙ sym (at-if2 .before .contradicts .ensures) ∙ not-false _ (at-if2 .if2 .left),
       c .before .remove .ensures,
       c .lower .ensures,
     )

@@ -32,19 +32,25 @@ part-same-end c = c .before .next-word .ensures .high (c .before .before .before
 
 returns-2 : tie.Need-returns-2 Inv-loop μ-loop
 returns-2 c =
-    let l = c .before .before .before .before .before .before .loop in
-    let a = c .before .before .before .before .before .before .before .before .before .args in
-    let n = c .before .before .before .before .next-word .ensures in
-    sym (l .inv .2 ∙ ap (λ (ws : List (List ℕ)). numberAmong (l .k) ws (a .w .now)) (next (a .names .now) (l .at) n (c .before .before .before .if1 .left)) ∙ named-here (l .k) _ (a .w .now) _ (sym (c .before .same .ensures) ∙ c .if2 .taken))
+    let at-if1 = c .before .before .before in
+    let at-loop = at-if1 .before .before .before in
+    let start = at-loop .before .before .before in
+    let l = at-loop .loop in
+    let a = start .args in
+    let n = at-if1 .before .next-word .ensures in
+    sym (l .inv .2 ∙ ap (λ (ws : List (List ℕ)). numberAmong (l .k) ws (a .w .now)) (next (a .names .now) (l .at) n (at-if1 .if1 .left)) ∙ named-here (l .k) _ (a .w .now) _ (sym (c .before .same .ensures) ∙ c .if2 .taken))
 
 loop-again : tie.Need-loop-again Inv-loop μ-loop
 loop-again c =
-    let l = c .before .before .before .before .before .before .loop in
-    let a = c .before .before .before .before .before .before .before .before .before .args in
-    let n = c .before .before .before .before .next-word .ensures in (
+    let at-if1 = c .before .before .before in
+    let at-loop = at-if1 .before .before .before in
+    let start = at-loop .before .before .before in
+    let l = at-loop .loop in
+    let a = start .args in
+    let n = at-if1 .before .next-word .ensures in (
       n .high (l .inv .0),
       omega arith,
-      l .inv .2 ∙ ap (λ (ws : List (List ℕ)). numberAmong (l .k) ws (a .w .now)) (next (a .names .now) (l .at) n (c .before .before .before .if1 .left)) ∙ named-later (l .k) _ (a .w .now) _ (sym (c .before .same .ensures) ∙ c .if2 .left),
+      l .inv .2 ∙ ap (λ (ws : List (List ℕ)). numberAmong (l .k) ws (a .w .now)) (next (a .names .now) (l .at) n (at-if1 .if1 .left)) ∙ named-later (l .k) _ (a .w .now) _ (sym (c .before .same .ensures) ∙ c .if2 .left),
     )
 
 returns-3 : tie.Need-returns-3 Inv-loop μ-loop

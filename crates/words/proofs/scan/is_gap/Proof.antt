@@ -3,17 +3,6 @@ use Rattle.words.specs.Words.{belongs}
 use Rattle.words.proofs.scan.is_gap.Statement.{statement}
 use Rattle.words.proofs.scan.is_gap.Tie as tie
 
-returns : tie.Need-returns
-unfolding belongs
-returns c = simp (eq-eqb _ _ (c .if1 .taken))
-
-returns-2 : tie.Need-returns-2
-unfolding belongs
-returns-2 c = simp (ne-eqb _ _ (c .before .if1 .left), eq-eqb _ _ (c .if2 .taken))
-
-returns-3 : tie.Need-returns-3
-unfolding belongs
-returns-3 c = simp (ne-eqb _ _ (c .before .if1 .left), ne-eqb _ _ (c .if2 .left))
-
 pub is-gap-spec : {M : Type 1} → statement M
-is-gap-spec = tie.close (tie.spec returns returns-2 returns-3)
+unfolding belongs
+is-gap-spec = tie.close (tie.spec (λ c. simp (eq-eqb _ _ (c .if1 .taken))) (λ c. simp (ne-eqb _ _ (c .before .if1 .left), eq-eqb _ _ (c .if2 .taken))) (λ c. simp (ne-eqb _ _ (c .before .if1 .left), ne-eqb _ _ (c .if2 .left))))

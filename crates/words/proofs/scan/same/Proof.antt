@@ -23,8 +23,10 @@ loop-holds c = (omega arith, omega arith, refl)
 
 returns-2 : tie.Need-returns-2 Inv-loop μ-loop
 returns-2 c =
-    let l = c .before .before .before .before .loop in
-    sym (l .inv .2 ∙ other-byte (c .before .before .before .before .before .before .args .s .now) (c .before .before .before .before .before .before .args .t .now) (l .i) (omega arith) (omega arith) (c .if2 .taken))
+    let at-loop = c .before .before .before .before in
+    let start = at-loop .before .before in
+    let l = at-loop .loop in
+    sym (l .inv .2 ∙ other-byte (start .args .s .now) (start .args .t .now) (l .i) (omega arith) (omega arith) (c .if2 .taken))
 
 loop-again : tie.Need-loop-again Inv-loop μ-loop
 loop-again c =
