@@ -1,8 +1,8 @@
 -- How many telegrams a cabinet has sent in its order, at most: of each kind not more than n, and one promise and one taken for another's ballot.
 use Prim.Native.Nat.{ℕ, zero, suc, _+_, _*_, _<_, _≤_}
 use mathlib.Core.Path.{_≡_, refl, ap, _∙_}
-use mathlib.Core.Bool.{cond, not, _||_}
-use mathlib.Core.List.{List, [], _∷_, _++_, map}
+use mathlib.Core.Bool.{not, _||_}
+use mathlib.Core.List.{List, [], _∷_}
 use native.Mathlib.Omega.{arith}
 use lib.Dec.{eqb}
 use lib.ListN.{length, length-append, length-map}
@@ -18,19 +18,18 @@ use Rattle.model.specs.declared.Outcome.the-variants.{None}
 use Rattle.model.specs.declared.BallotKind.{BallotKind}
 use Rattle.model.specs.declared.BallotKind.the-variants.{Prepare, Accept}
 use Rattle.model.specs.declared.BallotMessage.{BallotMessage}
-use Rattle.model.specs.declared.Telegram.the-variants.{Plain, OfBallot}
 use Rattle.protocol.specs.declared.Identity.{Identity}
 use Rattle.protocol.specs.declared.Send.{Send}
 use Rattle.protocol.specs.declared.Send.the-variants.{Nothing, To}
 use Rattle.protocol.specs.declared.Sends.{Sends}
-use Rattle.protocol.specs.Sequence.{members, messageTo, messagesOfKind, messagesOf}
+use Rattle.protocol.specs.Sequence.{members, messagesOfKind, messagesOf}
 use Rattle.protocol.specs.BallotCalls.{ballotToOthers, isOwner}
 use Rattle.cabinet_state.specs.declared.BallotState.{BallotState}
 use Rattle.cabinet_state.specs.declared.Cabinet.{Cabinet}
 use Rattle.cabinet_state.specs.Encoding.{Encoding}
 use Rattle.cabinet_turns.specs.Asked.{beginAsked}
 use Rattle.cabinet_turns.specs.Telegrams.{sendsOf, promiseMessage, promiseSent, acceptanceMessage, acceptanceSent, asksSent, putsSent, ballotsSent, telegramsSent}
-use Rattle.cabinet_alone.specs.Runs.{Run, cabinet, made}
+use Rattle.cabinet_alone.specs.Runs.{Run, cabinet}
 use Rattle.cabinet_alone.proofs.Carried.{made-me}
 use Rattle.cabinet_alone.proofs.Lent.{run-begun, run-reads}
 

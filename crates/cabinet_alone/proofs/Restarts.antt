@@ -1,16 +1,16 @@
 -- A cabinet that is past an order: in a later one, or quiet. Every call keeps it so.
 use Prim.Native.Nat.{ℕ, zero, suc, _<_, _≤_}
-use mathlib.Core.Path.{_≡_, refl, sym, ap, _∙_}
-use mathlib.Core.Bool.{Bool, true, false, not, _&&_, _||_, true≢false, false≢true}
+use mathlib.Core.Path.{_≡_, refl, subst, _∙_}
+use mathlib.Core.Bool.{Bool, true, false, _&&_, _||_, true≢false, false≢true}
 use mathlib.Core.Logic.{_⊎_, inl, inr}
 use mathlib.Core.List.{List, [], _∷_}
 use native.Mathlib.Omega.{arith}
-use lib.Dec.{eqb, leb, ltb}
+use lib.Dec.{eqb, leb}
 use borrow.Author.Tests.{eqb-true, eq-eqb, leb-true, leb-false, ltb-true}
 use Rattle.ground.specs.MaskLaws.{has-none}
 use Rattle.ground.specs.Tests.{by-cond, split, and-l, and-r, no-both, refuted}
+use Rattle.model.specs.Questions.{number, firstNo}
 use Rattle.model.specs.QuestionLaws.{all-yes, reply-accepted}
-use Rattle.model.specs.Numbers.{isNone}
 use Rattle.model.specs.declared.Checkpoint.{Checkpoint}
 use Rattle.model.specs.declared.Outcome.{Outcome}
 use Rattle.model.specs.declared.Outcome.the-variants.{None}
@@ -31,19 +31,16 @@ use Rattle.protocol.specs.declared.Condition.{Condition}
 use Rattle.protocol.specs.declared.Condition.the-variants.{Running, Stopped, Standby}
 use Rattle.protocol.specs.declared.Controller.{Controller}
 use Rattle.protocol.specs.declared.Identity.{Identity}
-use Rattle.protocol.specs.declared.BallotAnswer.{BallotAnswer}
 use Rattle.protocol.specs.declared.Tally.{Tally}
 use Rattle.protocol.specs.Controllers.{isRunning, isStandby, isStopped, runs, standsBy, inPhase, cleared, noting, conclude}
 use Rattle.protocol.specs.Rules.{nothing, passedOver, becomes}
 use Rattle.protocol.specs.Calls.{validIdentity, addressed, receive, awaitsDecision, decide, stop, restore, renew}
 use Rattle.protocol.specs.Sequence.{members, messagesOfKind, messagesOf}
 use Rattle.protocol.specs.Benches.{unsentAll, sentAfter}
-use Rattle.protocol.specs.Ballots.{newAcceptor, newTally}
 use Rattle.protocol.specs.BallotRules.{unanswered}
-use Rattle.protocol.specs.BallotCalls.{takesPart, ballotComes, receiveBallot}
-use Rattle.cabinet_state.specs.declared.BallotState.{BallotState}
+use Rattle.protocol.specs.BallotCalls.{takesPart, receiveBallot}
 use Rattle.cabinet_state.specs.declared.Cabinet.{Cabinet}
-use Rattle.cabinet_turns.specs.Asked.{orderAsked, voteAsked, timeoutAsked, openAsked}
+use Rattle.cabinet_turns.specs.Asked.{orderAsked, voteAsked, timeoutAsked, ownCard, wakeAsked, openAsked}
 use Rattle.cabinet_turns.specs.Turns.{answered, noBallots, ordered, voted, timedOut, decided, halted, laterOrder, wokenBy, woken}
 use Rattle.cabinet_turns.specs.Ballots.{tallyFor, reportAfter, withBallots, openingAsked, byItself, opened, openedBy, accepts, byAfter, tallyAfter, answeredIn, receivedBallot, receivedTelegram, received}
 use Rattle.cabinet_turns.specs.Telegrams.{sendsOf, promiseSent, acceptanceSent, asksSent, putsSent, ballotsSent, telegramsSent}
@@ -244,6 +241,16 @@ unfolding telegramsSent messagesOf messagesOfKind sendsOf unsentAll ballotsSent 
 nothing-sent s x = rw (x .unsent, x .unballoted, no-members (s .me .n))
 
 -- a waking that is accepted
+is-own : (p : Checkpoint) (me : Identity) → number (firstNo (wakeAsked (ReadCard p) me)) ≡ 0 → ownCard me p ≡ true
+unfolding wakeAsked
+is-own p me e = (all-yes _ (reply-accepted (wakeAsked (ReadCard p) me) _ refl refl e)) .0
+
+own-card : (bytes : List ℕ) (p : Checkpoint) (s : Cabinet) → Wakes bytes p s → (p .id ≡ s .me .id) × ((p .n ≡ s .me .n) × (p .f ≡ s .me .f))
+unfolding ownCard
+own-card bytes p s x =
+    let y = is-own p (s .me) (subst (λ (read : ReadCheckpoint). number (firstNo (wakeAsked read (s .me))) ≡ 0) (x .card) (x .answer)) in
+    (eqb-true (p .id) (s .me .id) (search (and-l, and-r)), (eqb-true (p .n) (s .me .n) (search (and-l, and-r)), eqb-true (p .f) (s .me .f) (search (and-l, and-r))))
+
 woke : (bytes : List ℕ) (p : Checkpoint) (s : Cabinet) → Wakes bytes p s → awake bytes s ≡ wokenBy p s
 unfolding after woken
 woke bytes p s x = rw (eq-eqb (numberOf (Waking bytes) s) 0 (x .answer), x .card)
@@ -264,6 +271,7 @@ begins-again k s h e = rw (eq-eqb (numberOf (Ordering k) s) 0 e, standby-there (
 
 pub restart : Restart
 restart = record {
+  own-card = own-card;
   stands-by = λ bytes p s x. rw (woke bytes p s x) (standing-by p s);
   in-order = λ bytes p s x. rw (woke bytes p s x) (woken-later p s);
   silent = λ bytes p s x. rw (woke bytes p s x) (nothing-sent (wokenBy p s) (quiet-woken p s));

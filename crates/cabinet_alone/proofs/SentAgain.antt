@@ -1,20 +1,16 @@
 -- What was sent stays what it was: of votes, acknowledgements and help calls nothing was sent before the one rule that sends them, and help answers all have the help vote set,
 -- which is frozen by then. So it goes by the stage.
-use Prim.Native.Nat.{ℕ, zero, suc, _≤_, _<_}
-use mathlib.Core.Path.{_≡_, refl, sym, ap, subst, _∙_}
-use mathlib.Core.Bool.{Bool, true, false, not, _&&_, _||_, true≢false, false≢true}
+use Prim.Native.Nat.{ℕ, suc, _≤_}
+use mathlib.Core.Path.{_≡_, refl, sym, _∙_}
+use mathlib.Core.Bool.{Bool, true, false, not, _&&_, _||_, false≢true}
 use mathlib.Core.Logic.{_⊎_, inl, inr}
-use mathlib.Core.List.{List, [], _∷_, _++_}
 use native.Mathlib.Omega.{arith}
 use lib.Dec.{eqb, leb, ltb}
-use lib.Bits.{bitOr}
-use borrow.Author.Tests.{eqb-true, leb-true, leb-false}
+use borrow.Author.Tests.{eqb-true, leb-false}
 use Rattle.ground.specs.Mask.{has}
 use Rattle.ground.specs.MaskLaws.{none-has, has-or}
-use Rattle.ground.specs.Tests.{by-cond, split, and-l, and-r, or-l, no-both}
-use Rattle.votes.specs.VoteSets.{empty}
+use Rattle.ground.specs.Tests.{by-cond, and-l, and-r, or-l}
 use Rattle.votes.specs.declared.VoteSet.{VoteSet}
-use Rattle.model.specs.Ranges.{isBackup}
 use Rattle.model.specs.declared.Kind.{Kind}
 use Rattle.model.specs.declared.Kind.the-variants.{Vote, Ack, Help, Helped}
 use Rattle.model.specs.declared.Message.{Message}
@@ -26,12 +22,10 @@ use Rattle.protocol.specs.declared.Condition.the-variants.{Running, Stopped, St
 use Rattle.protocol.specs.declared.Controller.{Controller}
 use Rattle.protocol.specs.declared.Identity.{Identity}
 use Rattle.protocol.specs.declared.Outgoing.{Outgoing}
-use Rattle.protocol.specs.declared.Send.{Send}
-use Rattle.protocol.specs.declared.Send.the-variants.{Nothing, To}
-use Rattle.protocol.specs.declared.Sends.{Sends}
+use Rattle.protocol.specs.declared.Send.the-variants.{To}
 use Rattle.protocol.specs.declared.Sent.{Sent}
-use Rattle.protocol.specs.Controllers.{isRunning, runs, standsBy, phase, phaseIn, hasAck, hasHelped, hasCalled, cleared, advance, learn, aim, keepAck, keepHelped, dropContradicting, freeze, addCaller, await, propose, conclude, noting}
-use Rattle.protocol.specs.Rules.{isTaken, nothing, passedOver, contradicted, becomes, proposing, phaseAfterVote, voteRule, voteArrives, countOwn, firstTimeout, decides, sufficient, proposeIfSufficient, helpVotes, frozen, ready, callsHelp, secondTimeout, ackArrives, helpedArrives, keepsCall, answersCall, helpArrives}
+use Rattle.protocol.specs.Controllers.{isRunning, runs, standsBy, phase, phaseIn, hasAck, hasHelped, hasCalled, cleared, advance, learn, aim, keepAck, keepHelped, freeze, addCaller, await, propose, conclude, noting}
+use Rattle.protocol.specs.Rules.{isTaken, nothing, passedOver, contradicted, becomes, proposing, phaseAfterVote, voteRule, voteArrives, firstTimeout, decides, sufficient, proposeIfSufficient, helpVotes, frozen, ready, callsHelp, secondTimeout, ackArrives, helpedArrives, keepsCall, answersCall, helpArrives}
 use Rattle.protocol.specs.Calls.{validIdentity, vote, addressed, arrives, contradictsHeld, tested, receive, timeout, awaitsDecision, decide, stop}
 use Rattle.protocol.specs.Benches.{ofKind, afterSend, sentAfter}
 

@@ -32,6 +32,8 @@ abbrev pub called : List ℕ → Cabinet → List Act → Cabinet
 called bytes s more = afterAll more (awake bytes s)
 
 pub record Restart : Type 0 where
+  -- the card is this controller's own: of its number, n and f
+  pub own-card : (bytes : List ℕ) (p : Checkpoint) (s : Cabinet) → Wakes bytes p s → (p .id ≡ s .me .id) × ((p .n ≡ s .me .n) × (p .f ≡ s .me .f))
   -- it stands by, in no order before the card's or its own, and has nothing to send
   pub stands-by : (bytes : List ℕ) (p : Checkpoint) (s : Cabinet) → Wakes bytes p s → isStandby (condition (awake bytes s)) ≡ true
   pub in-order : (bytes : List ℕ) (p : Checkpoint) (s : Cabinet) → Wakes bytes p s → (p .order ≤ (awake bytes s) .me .order) × (s .me .order ≤ (awake bytes s) .me .order)
