@@ -4,10 +4,7 @@ use Rattle.bench_run.specs.Memory.{placeOf}
 use borrow.Author.Needs.{needs}
 use Rattle.bench_run.proofs.memory.is_pending.Statement.{statement}
 use Rattle.bench_run.proofs.memory.is_pending.Tie as tie
-use Rattle.bench_run.proofs.memory.is_pending.Reads as reads
-use Rattle.bench_run.proofs.memory.is_pending.Lts as lts
 
--- src/memory.rt:36:1
 returns : tie.Need-returns
 returns c = rw (c .if1 .taken) refl
 

@@ -3,14 +3,10 @@ use borrow.Author.Tests.{not-true, not-false, eq-eqb, ne-eqb, lt-ltb, le-ltb}
 use Rattle.bench_run.specs.Memory.{keptOf}
 use Rattle.bench_run.proofs.memory.kept_of.Statement.{statement}
 use Rattle.bench_run.proofs.memory.kept_of.Tie as tie
-use Rattle.bench_run.proofs.memory.kept_of.Reads as reads
-use Rattle.bench_run.proofs.memory.kept_of.Lts as lts
 
--- src/memory.rt:144:9
 returns : tie.Need-returns
 returns c = rw (lt-ltb _ 128 (c .if1 .taken)) refl
 
--- src/memory.rt:140:1
 returns-2 : tie.Need-returns-2
 returns-2 c = rw (le-ltb _ 128 (c .if1 .left)) refl
 

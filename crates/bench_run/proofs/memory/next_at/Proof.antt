@@ -3,17 +3,11 @@ use Rattle.bench_run.specs.Memory.{nextOf, nextAt}
 use borrow.Author.Needs.{needs}
 use Rattle.bench_run.proofs.memory.next_at.Statement.{statement}
 use Rattle.bench_run.proofs.memory.next_at.Tie as tie
-use Rattle.bench_run.proofs.memory.next_at.Reads as reads
-use Rattle.bench_run.proofs.memory.next_at.Lts as lts
-use Rattle.bench_run.proofs.memory.next_of.Reads as next-of-reads
-use Rattle.schedule_reader.proofs.record_at.Reads as record-at-reads
 
--- src/memory.rt:59:9
 returns : tie.Need-returns
 unfolding nextAt
 returns c = rw (c .if1 .taken) refl
 
--- src/memory.rt:55:1
 returns-2 : tie.Need-returns-2
 unfolding nextAt
 returns-2 c = rw (c .before .before .if1 .left) (c .next-of .ensures ∙ ap nextOf (c .before .record-at .ensures))

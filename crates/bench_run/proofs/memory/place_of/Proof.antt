@@ -9,8 +9,6 @@ use Rattle.bench_run.specs.Memory.{placeOf}
 use borrow.Author.Needs.{needs}
 use Rattle.bench_run.proofs.memory.place_of.Statement.{statement}
 use Rattle.bench_run.proofs.memory.place_of.Tie as tie
-use Rattle.bench_run.proofs.memory.place_of.Reads as reads
-use Rattle.bench_run.proofs.memory.place_of.Lts as lts
 
 returns : tie.Need-returns
 unfolding placeOf

@@ -4,20 +4,15 @@ use Rattle.bench_run.specs.Memory.{remembered}
 use borrow.Author.Needs.{needs}
 use Rattle.bench_run.proofs.memory.remembered.Statement.{statement}
 use Rattle.bench_run.proofs.memory.remembered.Tie as tie
-use Rattle.bench_run.proofs.memory.remembered.Reads as reads
-use Rattle.bench_run.proofs.memory.remembered.Lts as lts
 
--- src/memory.rt:69:9
 returns : tie.Need-returns
 unfolding remembered
 returns c = rw (eq-eqb _ 0 (c .if1 .taken)) refl
 
--- src/memory.rt:72:9
 returns-2 : tie.Need-returns-2
 unfolding remembered
 returns-2 c = rw (ne-eqb _ 0 (c .before .if1 .left), lt-ltb _ 64 (c .if2 .taken)) refl
 
--- src/memory.rt:65:1
 returns-3 : tie.Need-returns-3
 unfolding remembered
 returns-3 c = rw (ne-eqb _ 0 (c .before .if1 .left), le-ltb _ 64 (c .if2 .left)) refl

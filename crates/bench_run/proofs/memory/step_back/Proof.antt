@@ -1,3 +1,4 @@
+-- One way for each case of `BackTaken`: the first step back of a run, a refused one, an accepted one. What is subtracted is there, since something can be undone.
 use mathlib.Core.Path.{refl, sym, _∙_}
 use mathlib.Core.Bool.{false≢true}
 use native.Mathlib.Omega.{arith}
@@ -6,38 +7,28 @@ use Rattle.bench_run.proofs.Records.{some}
 use borrow.Author.Needs.{needs}
 use Rattle.bench_run.proofs.memory.step_back.Statement.{statement}
 use Rattle.bench_run.proofs.memory.step_back.Tie as tie
-use Rattle.bench_run.proofs.memory.step_back.Reads as reads
-use Rattle.bench_run.proofs.memory.step_back.Lts as lts
 
--- src/memory.rt:112:9
 returns : tie.Need-returns
 returns c = record { first = λ f. (refl, refl, refl, refl, refl); asked = λ o. absurd (false≢true (sym (not-true _ (c .if1 .taken)) ∙ o)); refused = λ o. absurd (false≢true (sym (not-true _ (c .if1 .taken)) ∙ o)); taken = λ o. absurd (false≢true (sym (not-true _ (c .if1 .taken)) ∙ o)) }
 
--- src/memory.rt:125:20
 sub-t8 : tie.Need-sub-t8
 sub-t8 c = omega (arith, c .before .before .before .pre .0)
 
--- src/memory.rt:122:9
 returns-2 : tie.Need-returns-2
 returns-2 c = record { first = λ f. absurd (false≢true (sym f ∙ not-false _ (c .before .before .if1 .left))); asked = λ o. c .before .back-question .ensures; refused = λ o n. (refl, refl, refl, refl); taken = λ o z. absurd (c .if2 .taken z) }
 
--- src/memory.rt:132:17
 sub-t9 : tie.Need-sub-t9
 sub-t9 c = omega (arith, some (c .before .before .before .args .locked) (c .before .before .before .args .undoable) (sym (c .before .back-question .ensures) ∙ c .if2 .left), c .before .before .before .pre .1)
 
--- src/memory.rt:132:12
 sub-t11 : tie.Need-sub-t11
 sub-t11 c = omega (arith, c .before .before .before .pre .2)
 
--- src/memory.rt:134:15
 sub-t12 : tie.Need-sub-t12
 sub-t12 c = omega (arith, some (c .before .before .before .args .locked) (c .before .before .before .args .undoable) (sym (c .before .back-question .ensures) ∙ c .if2 .left), c .before .before .before .pre .1)
 
--- src/memory.rt:135:19
 sub-t13 : tie.Need-sub-t13
 sub-t13 c = omega (arith, some (c .before .before .before .args .locked) (c .before .before .before .args .undoable) (sym (c .before .back-question .ensures) ∙ c .if2 .left))
 
--- src/memory.rt:101:1
 returns-3 : tie.Need-returns-3
 returns-3 c = record { first = λ f. absurd (false≢true (sym f ∙ not-false _ (c .before .before .if1 .left))); asked = λ o. c .before .back-question .ensures; refused = λ o n. absurd (n (c .if2 .left)); taken = λ o z. (refl, refl, refl, refl) }
 

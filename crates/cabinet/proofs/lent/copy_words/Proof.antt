@@ -1,3 +1,4 @@
+-- The first k words of the buffer are those of the array, and its length stays: so at the end it holds the seven (`Filled`).
 use Prim.Native.Nat.{_≤_, _-_}
 use mathlib.Core.Path.{refl, sym, _∙_}
 use native.Mathlib.Omega.{arith}

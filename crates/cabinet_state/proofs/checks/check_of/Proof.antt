@@ -1,3 +1,4 @@
+-- After k turns the check is that of the first k words (`checkTo`), so at the end that of all before the check word.
 use Prim.Native.Nat.{ℕ, _≤_, _-_}
 use mathlib.Core.Path.{_≡_, refl, ap, _∙_}
 use native.Mathlib.Omega.{arith}

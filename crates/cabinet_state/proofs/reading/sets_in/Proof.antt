@@ -1,3 +1,4 @@
+-- The first j vote sets are those that stand in their two columns of words: so at the end all are (`Filled`).
 use Prim.Native.Nat.{_+_, _≤_, _-_}
 use mathlib.Core.Path.{refl}
 use native.Mathlib.Omega.{arith}

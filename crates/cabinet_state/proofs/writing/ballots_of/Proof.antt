@@ -1,3 +1,4 @@
+-- Each word is the number of its field, by the contract of the call that widens it; `same-ballots` puts them together.
 use mathlib.Core.Path.{refl, _∙_}
 use Rattle.cabinet_state.proofs.Heads.{same-ballots}
 use Rattle.cabinet_state.specs.Words.{ballotsOf}

@@ -1,3 +1,4 @@
+-- The first k words of the buffer are the state's, with the check word last, and its length stays (`Filled`).
 use Prim.Native.Nat.{_≤_, _-_}
 use mathlib.Core.Path.{sym, _∙_}
 use native.Mathlib.Omega.{arith}

@@ -1,3 +1,4 @@
+-- Each word is the number of its field, by the contract of the call that widens it; `same-head` puts them together.
 use mathlib.Core.Path.{ap, _∙_}
 use Rattle.model.specs.Numbers.{outcomeNumber}
 use Rattle.cabinet_state.proofs.Heads.{same-head}

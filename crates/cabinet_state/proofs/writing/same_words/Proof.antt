@@ -1,3 +1,4 @@
+-- The first k words are those of the encoding. A word that differs ends the loop with no, and all that are alike make it yes.
 use Prim.Native.Nat.{ℕ, _≤_, _-_}
 use mathlib.Core.Bool.{true}
 use mathlib.Core.Path.{_≡_, refl, sym, subst}

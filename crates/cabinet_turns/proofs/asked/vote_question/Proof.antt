@@ -1,3 +1,4 @@
+-- One way for each question: those before it were answered yes, so the first "no" of the list is this one. It rests on the contracts of the tests.
 use Rattle.cabinet_turns.specs.Asked.{voteAsked}
 use Rattle.model.specs.Questions.{firstNo, unless}
 use borrow.Author.Tests.{not-true, not-false, le-leb, lt-leb, eq-eqb, ne-eqb}

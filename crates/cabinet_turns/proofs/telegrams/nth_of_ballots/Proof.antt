@@ -1,3 +1,4 @@
+-- What was sent in ballots is four lists, one behind the other. The k-th stands in the first that is long enough: within it by `here`, behind the lists before by `past`.
 use mathlib.Core.Path.{_∙_}
 use mathlib.Core.List.{_++_}
 use Rattle.cabinet_turns.proofs.Nth.{here, past}

@@ -1,3 +1,4 @@
+-- The messages come first, then what was sent in ballots: the k-th is one of the former where there are so many (`plain-here`), and else of the latter (`ballot-past`).
 use mathlib.Core.Path.{ap, _∙_}
 use mathlib.Core.List.{map}
 use native.Mathlib.Omega.{arith}

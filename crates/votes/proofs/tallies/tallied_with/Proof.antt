@@ -2,7 +2,6 @@ use borrow.Author.Needs.{needs}
 use Rattle.votes.proofs.tallies.tallied_with.Statement.{statement}
 use Rattle.votes.proofs.tallies.tallied_with.Tie as tie
 
--- src/tallies.rt:57:1
 returns : tie.Need-returns
 returns c = simp (c .before .before .before .t .given .1, ← c .before .join .ensures, c .agreed-or .ensures)
 
