@@ -69,175 +69,308 @@ add-next-at c =
     omega (arith, p, a .good .0 .0)
 
 slice-write-answers : tie.Need-slice-write-answers Inv-loop2 μ-loop2 Inv-loop3 μ-loop3 Inv-loop μ-loop
-slice-write-answers c = omega (arith, in-room _ _ _ _ _ (c .before .before .before .before .before .before .before .before .before .before .before .loop .inv) (c .before .before .before .before .before .before .before .before .before .before .loop-test .taken) _ (c .before .before .before .before .before .before .before .before .place-of .ensures) (sym (c .before .before .before .before .before .before .before .is-pending .ensures) ∙ refused-ready _ _ _ _ _ (c .before .before .before .before .before .before .next-at .ensures) _ (c .before .before .before .before .next .given .1 ∙ ap Other (c .before .pause .given .1))))
+slice-write-answers c =
+    let told = c .before .before .before .before in
+    let read = told .before .before in
+    let turn = read .before .before .before .before in
+    omega (arith, in-room _ _ _ _ _ (turn .before .loop .inv) (turn .loop-test .taken) _ (read .before .before .place-of .ensures) (sym (read .before .is-pending .ensures) ∙ refused-ready _ _ _ _ _ (read .next-at .ensures) _ (told .next .given .1 ∙ ap Other (c .before .pause .given .1))))
 
 add-k : tie.Need-add-k Inv-loop2 μ-loop2 Inv-loop3 μ-loop3 Inv-loop μ-loop
 add-k c =
-    let a = c .before .before .before .before .before .before .before .before .before .before .before .before .before .before .before .before .before .before .before .before .before in
-    let p = place-within (a .args .s .now) (a .args .from) (c .before .before .before .before .before .before .before .before .before .before .before .before .before .before .before .before .before .before .count-from .result) (c .before .before .before .before .before .before .before .before .before .before .before .loop .k) (c .before .before .before .before .before .before .before .before .before .before .before .loop .inv .whole) (c .before .before .before .before .before .before .before .before .before .before .loop-test .taken) in
+    let turn = c .before .before .before .before .before .before .before .before .before .before in
+    let ahead = turn .before .before .before .before .before .before .before .before in
+    let a = ahead .before .before .before in
+    let p = place-within (a .args .s .now) (a .args .from) (ahead .count-from .result) (turn .before .loop .k) (turn .before .loop .inv .whole) (turn .loop-test .taken) in
     omega (arith, p, a .good .0 .0)
 
 loop-less : tie.Need-loop-less Inv-loop2 μ-loop2 Inv-loop3 μ-loop3 Inv-loop μ-loop
-loop-less c = omega (arith, c .before .before .before .before .before .before .before .before .before .before .loop-test .taken)
+loop-less c =
+    let turn = c .before .before .before .before .before .before .before .before .before .before in
+    omega (arith, turn .loop-test .taken)
 
 loop-again : tie.Need-loop-again Inv-loop2 μ-loop2 Inv-loop3 μ-loop3 Inv-loop μ-loop
-loop-again c = not-read _ _ _ _ _ (c .before .before .before .before .before .before .before .before .before .before .before .loop .inv) (c .before .before .before .before .before .before .before .before .before .before .loop-test .taken) _ (c .before .before .before .before .before .before .before .before .place-of .ensures) (sym (c .before .before .before .before .before .before .before .is-pending .ensures) ∙ refused-ready _ _ _ _ _ (c .before .before .before .before .before .before .next-at .ensures) _ (c .before .before .before .before .next .given .1 ∙ ap Other (c .before .pause .given .1))) _ (refused-read _ _ _ _ _ (c .before .before .before .before .before .before .next-at .ensures) _ (c .before .before .before .before .next .given .1 ∙ ap Other (c .before .pause .given .1)))
+loop-again c =
+    let told = c .before .before .before .before in
+    let read = told .before .before in
+    let turn = read .before .before .before .before in
+    not-read _ _ _ _ _ (turn .before .loop .inv) (turn .loop-test .taken) _ (read .before .before .place-of .ensures) (sym (read .before .is-pending .ensures) ∙ refused-ready _ _ _ _ _ (read .next-at .ensures) _ (told .next .given .1 ∙ ap Other (c .before .pause .given .1))) _ (refused-read _ _ _ _ _ (read .next-at .ensures) _ (told .next .given .1 ∙ ap Other (c .before .pause .given .1)))
 
 add-k-2 : tie.Need-add-k-2 Inv-loop2 μ-loop2 Inv-loop3 μ-loop3 Inv-loop μ-loop
 add-k-2 c =
-    let a = c .before .before .before .before .before .before .before .before .before .before .before .before .before .before .before .before .before .before .before .before in
-    let p = place-within (a .args .s .now) (a .args .from) (c .before .before .before .before .before .before .before .before .before .before .before .before .before .before .before .before .before .count-from .result) (c .before .before .before .before .before .before .before .before .before .before .loop .k) (c .before .before .before .before .before .before .before .before .before .before .loop .inv .whole) (c .before .before .before .before .before .before .before .before .before .loop-test .taken) in
+    let turn = c .before .before .before .before .before .before .before .before .before in
+    let ahead = turn .before .before .before .before .before .before .before .before in
+    let a = ahead .before .before .before in
+    let p = place-within (a .args .s .now) (a .args .from) (ahead .count-from .result) (turn .before .loop .k) (turn .before .loop .inv .whole) (turn .loop-test .taken) in
     omega (arith, p, a .good .0 .0)
 
 step-back-requires : tie.Need-step-back-requires Inv-loop2 μ-loop2 Inv-loop3 μ-loop3 Inv-loop μ-loop
-step-back-requires c κs = step-safe _ _ _ _ _ (c .before .before .before .before .before .before .before .before .before .before .loop .inv) (c .before .before .before .before .before .before .before .before .before .loop-test .taken) _ (c .before .before .before .before .before .before .before .place-of .ensures) (sym (c .before .before .before .before .before .before .is-pending .ensures) ∙ back-ready _ _ _ _ _ (c .before .before .before .before .before .next-at .ensures) (c .before .before .before .next .given .1 ∙ ap Other (c .enum-told .given .1))) (step-back-read _ _ _ _ _ (c .before .before .before .before .before .next-at .ensures) (c .before .before .before .next .given .1 ∙ ap Other (c .enum-told .given .1)))
+step-back-requires c κs =
+    let told = c .before .before .before in
+    let read = told .before .before in
+    let turn = read .before .before .before .before in
+    step-safe _ _ _ _ _ (turn .before .loop .inv) (turn .loop-test .taken) _ (read .before .before .place-of .ensures) (sym (read .before .is-pending .ensures) ∙ back-ready _ _ _ _ _ (read .next-at .ensures) (told .next .given .1 ∙ ap Other (c .enum-told .given .1))) (step-back-read _ _ _ _ _ (read .next-at .ensures) (told .next .given .1 ∙ ap Other (c .enum-told .given .1)))
 
 slice-write-answers-2 : tie.Need-slice-write-answers-2 Inv-loop2 μ-loop2 Inv-loop3 μ-loop3 Inv-loop μ-loop
-slice-write-answers-2 c = omega (arith, in-room _ _ _ _ _ (c .before .before .before .before .before .before .before .before .before .before .before .loop .inv) (c .before .before .before .before .before .before .before .before .before .before .loop-test .taken) _ (c .before .before .before .before .before .before .before .before .place-of .ensures) (sym (c .before .before .before .before .before .before .before .is-pending .ensures) ∙ back-ready _ _ _ _ _ (c .before .before .before .before .before .before .next-at .ensures) (c .before .before .before .before .next .given .1 ∙ ap Other (c .before .enum-told .given .1))))
+slice-write-answers-2 c =
+    let told = c .before .before .before .before in
+    let read = told .before .before in
+    let turn = read .before .before .before .before in
+    omega (arith, in-room _ _ _ _ _ (turn .before .loop .inv) (turn .loop-test .taken) _ (read .before .before .place-of .ensures) (sym (read .before .is-pending .ensures) ∙ back-ready _ _ _ _ _ (read .next-at .ensures) (told .next .given .1 ∙ ap Other (c .before .enum-told .given .1))))
 
 loop-less-2 : tie.Need-loop-less-2 Inv-loop2 μ-loop2 Inv-loop3 μ-loop3 Inv-loop μ-loop
-loop-less-2 c = omega (arith, refused-nearer _ _ _ _ _ (c .before .before .before .before .before .before .before .before .before .before .before .before .before .loop .inv) (c .before .before .before .before .before .before .before .before .before .before .before .before .loop-test .taken) _ (c .before .before .before .before .before .before .before .before .before .before .place-of .ensures) (sym (c .before .before .before .before .before .before .before .before .before .is-pending .ensures) ∙ back-ready _ _ _ _ _ (c .before .before .before .before .before .before .before .before .next-at .ensures) (c .before .before .before .before .before .before .next .given .1 ∙ ap Other (c .before .before .before .enum-told .given .1))) (step-back-read _ _ _ _ _ (c .before .before .before .before .before .before .before .before .next-at .ensures) (c .before .before .before .before .before .before .next .given .1 ∙ ap Other (c .before .before .before .enum-told .given .1))) _ _ _ _ _ (c .before .before .step-back .ensures) (c .if2 .taken))
+loop-less-2 c =
+    let told = c .before .before .before .before .before .before in
+    let read = told .before .before in
+    let turn = read .before .before .before .before in
+    omega (arith, refused-nearer _ _ _ _ _ (turn .before .loop .inv) (turn .loop-test .taken) _ (read .before .before .place-of .ensures) (sym (read .before .is-pending .ensures) ∙ back-ready _ _ _ _ _ (read .next-at .ensures) (told .next .given .1 ∙ ap Other (c .before .before .before .enum-told .given .1))) (step-back-read _ _ _ _ _ (read .next-at .ensures) (told .next .given .1 ∙ ap Other (c .before .before .before .enum-told .given .1))) _ _ _ _ _ (c .before .before .step-back .ensures) (c .if2 .taken))
 
 loop-again-2 : tie.Need-loop-again-2 Inv-loop2 μ-loop2 Inv-loop3 μ-loop3 Inv-loop μ-loop
 unfolding freshStation fresh unsentAll newRow
-loop-again-2 c = stepped-refused _ _ _ _ _ (c .before .before .before .before .before .before .before .before .before .before .before .before .before .loop .inv) (c .before .before .before .before .before .before .before .before .before .before .before .before .loop-test .taken) _ (c .before .before .before .before .before .before .before .before .before .before .place-of .ensures) (sym (c .before .before .before .before .before .before .before .before .before .is-pending .ensures) ∙ back-ready _ _ _ _ _ (c .before .before .before .before .before .before .before .before .next-at .ensures) (c .before .before .before .before .before .before .next .given .1 ∙ ap Other (c .before .before .before .enum-told .given .1))) (step-back-read _ _ _ _ _ (c .before .before .before .before .before .before .before .before .next-at .ensures) (c .before .before .before .before .before .before .next .given .1 ∙ ap Other (c .before .before .before .enum-told .given .1))) _ _ _ _ _ (c .before .before .step-back .ensures) (c .if2 .taken)
+loop-again-2 c =
+    let told = c .before .before .before .before .before .before in
+    let read = told .before .before in
+    let turn = read .before .before .before .before in
+    stepped-refused _ _ _ _ _ (turn .before .loop .inv) (turn .loop-test .taken) _ (read .before .before .place-of .ensures) (sym (read .before .is-pending .ensures) ∙ back-ready _ _ _ _ _ (read .next-at .ensures) (told .next .given .1 ∙ ap Other (c .before .before .before .enum-told .given .1))) (step-back-read _ _ _ _ _ (read .next-at .ensures) (told .next .given .1 ∙ ap Other (c .before .before .before .enum-told .given .1))) _ _ _ _ _ (c .before .before .step-back .ensures) (c .if2 .taken)
 
 loop-less-3 : tie.Need-loop-less-3 Inv-loop2 μ-loop2 Inv-loop3 μ-loop3 Inv-loop μ-loop
-loop-less-3 c = omega (arith, back-nearer _ _ _ _ _ (c .before .before .before .before .before .before .before .before .before .before .before .before .before .before .before .before .before .before .loop .inv) (c .before .before .before .before .before .before .before .before .before .before .before .before .before .before .before .before .before .loop-test .taken) _ (c .before .before .before .before .before .before .before .before .before .before .before .before .before .before .before .place-of .ensures) (sym (c .before .before .before .before .before .before .before .before .before .before .before .before .before .before .is-pending .ensures) ∙ back-ready _ _ _ _ _ (c .before .before .before .before .before .before .before .before .before .before .before .before .before .next-at .ensures) (c .before .before .before .before .before .before .before .before .before .before .before .next .given .1 ∙ ap Other (c .before .before .before .before .before .before .before .before .enum-told .given .1))) (step-back-read _ _ _ _ _ (c .before .before .before .before .before .before .before .before .before .before .before .before .before .next-at .ensures) (c .before .before .before .before .before .before .before .before .before .before .before .next .given .1 ∙ ap Other (c .before .before .before .before .before .before .before .before .enum-told .given .1))) _ _ _ _ _ (c .before .before .before .before .before .before .before .step-back .ensures) (c .before .before .before .before .before .if2 .left))
+loop-less-3 c =
+    let told = c .before .before .before .before .before .before .before .before .before .before .before in
+    let read = told .before .before in
+    let turn = read .before .before .before .before in
+    omega (arith, back-nearer _ _ _ _ _ (turn .before .loop .inv) (turn .loop-test .taken) _ (read .before .before .place-of .ensures) (sym (read .before .is-pending .ensures) ∙ back-ready _ _ _ _ _ (read .next-at .ensures) (told .next .given .1 ∙ ap Other (c .before .before .before .before .before .before .before .before .enum-told .given .1))) (step-back-read _ _ _ _ _ (read .next-at .ensures) (told .next .given .1 ∙ ap Other (c .before .before .before .before .before .before .before .before .enum-told .given .1))) _ _ _ _ _ (c .before .before .before .before .before .before .before .step-back .ensures) (c .before .before .before .before .before .if2 .left))
 
 loop-again-3 : tie.Need-loop-again-3 Inv-loop2 μ-loop2 Inv-loop3 μ-loop3 Inv-loop μ-loop
 unfolding freshStation fresh unsentAll newRow
-loop-again-3 c = stepped-taken _ _ _ _ _ (c .before .before .before .before .before .before .before .before .before .before .before .before .before .before .before .before .before .before .loop .inv) (c .before .before .before .before .before .before .before .before .before .before .before .before .before .before .before .before .before .loop-test .taken) _ (c .before .before .before .before .before .before .before .before .before .before .before .before .before .before .before .place-of .ensures) (sym (c .before .before .before .before .before .before .before .before .before .before .before .before .before .before .is-pending .ensures) ∙ back-ready _ _ _ _ _ (c .before .before .before .before .before .before .before .before .before .before .before .before .before .next-at .ensures) (c .before .before .before .before .before .before .before .before .before .before .before .next .given .1 ∙ ap Other (c .before .before .before .before .before .before .before .before .enum-told .given .1))) (step-back-read _ _ _ _ _ (c .before .before .before .before .before .before .before .before .before .before .before .before .before .next-at .ensures) (c .before .before .before .before .before .before .before .before .before .before .before .next .given .1 ∙ ap Other (c .before .before .before .before .before .before .before .before .enum-told .given .1))) _ _ _ _ _ (c .before .before .before .before .before .before .before .step-back .ensures) (c .before .before .before .before .before .if2 .left) _ (c .before .before .before .before .kept-of .ensures)
+loop-again-3 c =
+    let told = c .before .before .before .before .before .before .before .before .before .before .before in
+    let read = told .before .before in
+    let turn = read .before .before .before .before in
+    stepped-taken _ _ _ _ _ (turn .before .loop .inv) (turn .loop-test .taken) _ (read .before .before .place-of .ensures) (sym (read .before .is-pending .ensures) ∙ back-ready _ _ _ _ _ (read .next-at .ensures) (told .next .given .1 ∙ ap Other (c .before .before .before .before .before .before .before .before .enum-told .given .1))) (step-back-read _ _ _ _ _ (read .next-at .ensures) (told .next .given .1 ∙ ap Other (c .before .before .before .before .before .before .before .before .enum-told .given .1))) _ _ _ _ _ (c .before .before .before .before .before .before .before .step-back .ensures) (c .before .before .before .before .before .if2 .left) _ (c .before .before .before .before .kept-of .ensures)
 
 sub-last : tie.Need-sub-last Inv-loop2 μ-loop2 Inv-loop3 μ-loop3 Inv-loop μ-loop
-sub-last c = omega (arith, (due-note _ _ _ _ _ (c .before .before .before .before .before .next-at .ensures) (c .before .before .before .before .before .before .before .before .before .before .loop .remembers) (c .before .before .before .before .before .before .before .before .before .before .loop .noted) (c .before .before .before .before .before .before .before .before .before .before .loop .k) (c .before .before .before .before .before .before .is-pending .ensures) (c .before .before .before .next .given .1 ∙ ap Other (c .enum-told2 .given .1))) .1)
+sub-last c =
+    let told = c .before .before .before in
+    let read = told .before .before in
+    let turn = read .before .before .before .before in
+    omega (arith, (due-note _ _ _ _ _ (read .next-at .ensures) (turn .before .loop .remembers) (turn .before .loop .noted) (turn .before .loop .k) (read .before .is-pending .ensures) (told .next .given .1 ∙ ap Other (c .enum-told2 .given .1))) .1)
 
 slice-read-if3 : tie.Need-slice-read-if3 Inv-loop2 μ-loop2 Inv-loop3 μ-loop3 Inv-loop μ-loop
-slice-read-if3 c = omega (arith, note-place _ _ _ _ _ (c .before .before .before .before .before .before .before .before .before .before .before .loop .inv) (c .before .before .before .before .before .before .before .before .before .before .loop-test .taken) ((due-note _ _ _ _ _ (c .before .before .before .before .before .before .next-at .ensures) (c .before .before .before .before .before .before .before .before .before .before .before .loop .remembers) (c .before .before .before .before .before .before .before .before .before .before .before .loop .noted) (c .before .before .before .before .before .before .before .before .before .before .before .loop .k) (c .before .before .before .before .before .before .before .is-pending .ensures) (c .before .before .before .before .next .given .1 ∙ ap Other (c .before .enum-told2 .given .1))) .0) ((due-note _ _ _ _ _ (c .before .before .before .before .before .before .next-at .ensures) (c .before .before .before .before .before .before .before .before .before .before .before .loop .remembers) (c .before .before .before .before .before .before .before .before .before .before .before .loop .noted) (c .before .before .before .before .before .before .before .before .before .before .before .loop .k) (c .before .before .before .before .before .before .before .is-pending .ensures) (c .before .before .before .before .next .given .1 ∙ ap Other (c .before .enum-told2 .given .1))) .1) _ refl)
+slice-read-if3 c =
+    let told = c .before .before .before .before in
+    let read = told .before .before in
+    let turn = read .before .before .before .before in
+    omega (arith, note-place _ _ _ _ _ (turn .before .loop .inv) (turn .loop-test .taken) ((due-note _ _ _ _ _ (read .next-at .ensures) (turn .before .loop .remembers) (turn .before .loop .noted) (turn .before .loop .k) (read .before .is-pending .ensures) (told .next .given .1 ∙ ap Other (c .before .enum-told2 .given .1))) .0) ((due-note _ _ _ _ _ (read .next-at .ensures) (turn .before .loop .remembers) (turn .before .loop .noted) (turn .before .loop .k) (read .before .is-pending .ensures) (told .next .given .1 ∙ ap Other (c .before .enum-told2 .given .1))) .1) _ refl)
 
 loop-less-4 : tie.Need-loop-less-4 Inv-loop2 μ-loop2 Inv-loop3 μ-loop3 Inv-loop μ-loop
-loop-less-4 c = omega (arith, (due-note _ _ _ _ _ (c .before .before .before .before .before .before .before .next-at .ensures) (c .before .before .before .before .before .before .before .before .before .before .before .before .loop .remembers) (c .before .before .before .before .before .before .before .before .before .before .before .before .loop .noted) (c .before .before .before .before .before .before .before .before .before .before .before .before .loop .k) (c .before .before .before .before .before .before .before .before .is-pending .ensures) (c .before .before .before .before .before .next .given .1 ∙ ap Other (c .before .before .enum-told2 .given .1))) .1, c .before .before .before .before .before .before .before .before .before .before .before .before .loop .inv .upto)
+loop-less-4 c =
+    let told = c .before .before .before .before .before in
+    let read = told .before .before in
+    let turn = read .before .before .before .before in
+    omega (arith, (due-note _ _ _ _ _ (read .next-at .ensures) (turn .before .loop .remembers) (turn .before .loop .noted) (turn .before .loop .k) (read .before .is-pending .ensures) (told .next .given .1 ∙ ap Other (c .before .before .enum-told2 .given .1))) .1, turn .before .loop .inv .upto)
 
 loop-again-4 : tie.Need-loop-again-4 Inv-loop2 μ-loop2 Inv-loop3 μ-loop3 Inv-loop μ-loop
 unfolding freshStation fresh unsentAll newRow
-loop-again-4 c = noted-refused _ _ _ _ _ (c .before .before .before .before .before .before .before .before .before .before .before .before .loop .inv) (c .before .before .before .before .before .before .before .before .before .before .before .loop-test .taken) ((due-note _ _ _ _ _ (c .before .before .before .before .before .before .before .next-at .ensures) (c .before .before .before .before .before .before .before .before .before .before .before .before .loop .remembers) (c .before .before .before .before .before .before .before .before .before .before .before .before .loop .noted) (c .before .before .before .before .before .before .before .before .before .before .before .before .loop .k) (c .before .before .before .before .before .before .before .before .is-pending .ensures) (c .before .before .before .before .before .next .given .1 ∙ ap Other (c .before .before .enum-told2 .given .1))) .0) ((due-note _ _ _ _ _ (c .before .before .before .before .before .before .before .next-at .ensures) (c .before .before .before .before .before .before .before .before .before .before .before .before .loop .remembers) (c .before .before .before .before .before .before .before .before .before .before .before .before .loop .noted) (c .before .before .before .before .before .before .before .before .before .before .before .before .loop .k) (c .before .before .before .before .before .before .before .before .is-pending .ensures) (c .before .before .before .before .before .next .given .1 ∙ ap Other (c .before .before .enum-told2 .given .1))) .1) _ refl (c .if3 .taken)
+loop-again-4 c =
+    let told = c .before .before .before .before .before in
+    let read = told .before .before in
+    let turn = read .before .before .before .before in
+    noted-refused _ _ _ _ _ (turn .before .loop .inv) (turn .loop-test .taken) ((due-note _ _ _ _ _ (read .next-at .ensures) (turn .before .loop .remembers) (turn .before .loop .noted) (turn .before .loop .k) (read .before .is-pending .ensures) (told .next .given .1 ∙ ap Other (c .before .before .enum-told2 .given .1))) .0) ((due-note _ _ _ _ _ (read .next-at .ensures) (turn .before .loop .remembers) (turn .before .loop .noted) (turn .before .loop .k) (read .before .is-pending .ensures) (told .next .given .1 ∙ ap Other (c .before .before .enum-told2 .given .1))) .1) _ refl (c .if3 .taken)
 
 add-left : tie.Need-add-left Inv-loop2 μ-loop2 Inv-loop3 μ-loop3 Inv-loop μ-loop
 add-left c =
-    let f = note-few _ _ _ _ _ (c .before .before .before .before .before .before .before .before .before .before .before .before .before .loop .inv) (c .before .before .before .before .before .before .before .before .before .before .before .before .loop-test .taken) ((due-note _ _ _ _ _ (c .before .before .before .before .before .before .before .before .next-at .ensures) (c .before .before .before .before .before .before .before .before .before .before .before .before .before .loop .remembers) (c .before .before .before .before .before .before .before .before .before .before .before .before .before .loop .noted) (c .before .before .before .before .before .before .before .before .before .before .before .before .before .loop .k) (c .before .before .before .before .before .before .before .before .before .is-pending .ensures) (c .before .before .before .before .before .before .next .given .1 ∙ ap Other (c .before .before .before .enum-told2 .given .1))) .0) ((due-note _ _ _ _ _ (c .before .before .before .before .before .before .before .before .next-at .ensures) (c .before .before .before .before .before .before .before .before .before .before .before .before .before .loop .remembers) (c .before .before .before .before .before .before .before .before .before .before .before .before .before .loop .noted) (c .before .before .before .before .before .before .before .before .before .before .before .before .before .loop .k) (c .before .before .before .before .before .before .before .before .before .is-pending .ensures) (c .before .before .before .before .before .before .next .given .1 ∙ ap Other (c .before .before .before .enum-told2 .given .1))) .1) _ refl in
-    let a = c .before .before .before .before .before .before .before .before .before .before .before .before .before .before .before .before .before .before .before .before .before .before .before in
-    let p = place-within (a .args .s .now) (a .args .from) (c .before .before .before .before .before .before .before .before .before .before .before .before .before .before .before .before .before .before .before .before .count-from .result) (c .before .before .before .before .before .before .before .before .before .before .before .before .before .loop .k) (c .before .before .before .before .before .before .before .before .before .before .before .before .before .loop .inv .whole) (c .before .before .before .before .before .before .before .before .before .before .before .before .loop-test .taken) in
+    let told = c .before .before .before .before .before .before in
+    let read = told .before .before in
+    let turn = read .before .before .before .before in
+    let ahead = turn .before .before .before .before .before .before .before .before in
+    let f = note-few _ _ _ _ _ (turn .before .loop .inv) (turn .loop-test .taken) ((due-note _ _ _ _ _ (read .next-at .ensures) (turn .before .loop .remembers) (turn .before .loop .noted) (turn .before .loop .k) (read .before .is-pending .ensures) (told .next .given .1 ∙ ap Other (c .before .before .before .enum-told2 .given .1))) .0) ((due-note _ _ _ _ _ (read .next-at .ensures) (turn .before .loop .remembers) (turn .before .loop .noted) (turn .before .loop .k) (read .before .is-pending .ensures) (told .next .given .1 ∙ ap Other (c .before .before .before .enum-told2 .given .1))) .1) _ refl in
+    let a = ahead .before .before .before in
+    let p = place-within (a .args .s .now) (a .args .from) (ahead .count-from .result) (turn .before .loop .k) (turn .before .loop .inv .whole) (turn .loop-test .taken) in
     omega (arith, f, p, a .good .0 .0)
 
 loop-less-5 : tie.Need-loop-less-5 Inv-loop2 μ-loop2 Inv-loop3 μ-loop3 Inv-loop μ-loop
-loop-less-5 c = omega (arith, (due-note _ _ _ _ _ (c .before .before .before .before .before .before .before .before .before .next-at .ensures) (c .before .before .before .before .before .before .before .before .before .before .before .before .before .before .loop .remembers) (c .before .before .before .before .before .before .before .before .before .before .before .before .before .before .loop .noted) (c .before .before .before .before .before .before .before .before .before .before .before .before .before .before .loop .k) (c .before .before .before .before .before .before .before .before .before .before .is-pending .ensures) (c .before .before .before .before .before .before .before .next .given .1 ∙ ap Other (c .before .before .before .before .enum-told2 .given .1))) .1, c .before .before .before .before .before .before .before .before .before .before .before .before .before .before .loop .inv .upto)
+loop-less-5 c =
+    let told = c .before .before .before .before .before .before .before in
+    let read = told .before .before in
+    let turn = read .before .before .before .before in
+    omega (arith, (due-note _ _ _ _ _ (read .next-at .ensures) (turn .before .loop .remembers) (turn .before .loop .noted) (turn .before .loop .k) (read .before .is-pending .ensures) (told .next .given .1 ∙ ap Other (c .before .before .before .before .enum-told2 .given .1))) .1, turn .before .loop .inv .upto)
 
 loop-again-5 : tie.Need-loop-again-5 Inv-loop2 μ-loop2 Inv-loop3 μ-loop3 Inv-loop μ-loop
 unfolding freshStation fresh unsentAll newRow
-loop-again-5 c = noted-within _ _ _ _ _ (c .before .before .before .before .before .before .before .before .before .before .before .before .before .before .loop .inv) (c .before .before .before .before .before .before .before .before .before .before .before .before .before .loop-test .taken) ((due-note _ _ _ _ _ (c .before .before .before .before .before .before .before .before .before .next-at .ensures) (c .before .before .before .before .before .before .before .before .before .before .before .before .before .before .loop .remembers) (c .before .before .before .before .before .before .before .before .before .before .before .before .before .before .loop .noted) (c .before .before .before .before .before .before .before .before .before .before .before .before .before .before .loop .k) (c .before .before .before .before .before .before .before .before .before .before .is-pending .ensures) (c .before .before .before .before .before .before .before .next .given .1 ∙ ap Other (c .before .before .before .before .enum-told2 .given .1))) .0) ((due-note _ _ _ _ _ (c .before .before .before .before .before .before .before .before .before .next-at .ensures) (c .before .before .before .before .before .before .before .before .before .before .before .before .before .before .loop .remembers) (c .before .before .before .before .before .before .before .before .before .before .before .before .before .before .loop .noted) (c .before .before .before .before .before .before .before .before .before .before .before .before .before .before .loop .k) (c .before .before .before .before .before .before .before .before .before .before .is-pending .ensures) (c .before .before .before .before .before .before .before .next .given .1 ∙ ap Other (c .before .before .before .before .enum-told2 .given .1))) .1) _ refl (c .before .before .if3 .left) _ (c .before .remembered .ensures) (c .if4 .taken)
+loop-again-5 c =
+    let told = c .before .before .before .before .before .before .before in
+    let read = told .before .before in
+    let turn = read .before .before .before .before in
+    noted-within _ _ _ _ _ (turn .before .loop .inv) (turn .loop-test .taken) ((due-note _ _ _ _ _ (read .next-at .ensures) (turn .before .loop .remembers) (turn .before .loop .noted) (turn .before .loop .k) (read .before .is-pending .ensures) (told .next .given .1 ∙ ap Other (c .before .before .before .before .enum-told2 .given .1))) .0) ((due-note _ _ _ _ _ (read .next-at .ensures) (turn .before .loop .remembers) (turn .before .loop .noted) (turn .before .loop .k) (read .before .is-pending .ensures) (told .next .given .1 ∙ ap Other (c .before .before .before .before .enum-told2 .given .1))) .1) _ refl (c .before .before .if3 .left) _ (c .before .remembered .ensures) (c .if4 .taken)
 
 loop-less-6 : tie.Need-loop-less-6 Inv-loop2 μ-loop2 Inv-loop3 μ-loop3 Inv-loop μ-loop
-loop-less-6 c = omega (arith, (due-note _ _ _ _ _ (c .before .before .before .before .before .before .before .before .before .before .next-at .ensures) (c .before .before .before .before .before .before .before .before .before .before .before .before .before .before .before .loop .remembers) (c .before .before .before .before .before .before .before .before .before .before .before .before .before .before .before .loop .noted) (c .before .before .before .before .before .before .before .before .before .before .before .before .before .before .before .loop .k) (c .before .before .before .before .before .before .before .before .before .before .before .is-pending .ensures) (c .before .before .before .before .before .before .before .before .next .given .1 ∙ ap Other (c .before .before .before .before .before .enum-told2 .given .1))) .1, c .before .before .before .before .before .before .before .before .before .before .before .before .before .before .before .loop .inv .upto)
+loop-less-6 c =
+    let told = c .before .before .before .before .before .before .before .before in
+    let read = told .before .before in
+    let turn = read .before .before .before .before in
+    omega (arith, (due-note _ _ _ _ _ (read .next-at .ensures) (turn .before .loop .remembers) (turn .before .loop .noted) (turn .before .loop .k) (read .before .is-pending .ensures) (told .next .given .1 ∙ ap Other (c .before .before .before .before .before .enum-told2 .given .1))) .1, turn .before .loop .inv .upto)
 
 loop-again-6 : tie.Need-loop-again-6 Inv-loop2 μ-loop2 Inv-loop3 μ-loop3 Inv-loop μ-loop
 unfolding freshStation fresh unsentAll newRow
-loop-again-6 c = noted-even _ _ _ _ _ (c .before .before .before .before .before .before .before .before .before .before .before .before .before .before .before .loop .inv) (c .before .before .before .before .before .before .before .before .before .before .before .before .before .before .loop-test .taken) ((due-note _ _ _ _ _ (c .before .before .before .before .before .before .before .before .before .before .next-at .ensures) (c .before .before .before .before .before .before .before .before .before .before .before .before .before .before .before .loop .remembers) (c .before .before .before .before .before .before .before .before .before .before .before .before .before .before .before .loop .noted) (c .before .before .before .before .before .before .before .before .before .before .before .before .before .before .before .loop .k) (c .before .before .before .before .before .before .before .before .before .before .before .is-pending .ensures) (c .before .before .before .before .before .before .before .before .next .given .1 ∙ ap Other (c .before .before .before .before .before .enum-told2 .given .1))) .0) ((due-note _ _ _ _ _ (c .before .before .before .before .before .before .before .before .before .before .next-at .ensures) (c .before .before .before .before .before .before .before .before .before .before .before .before .before .before .before .loop .remembers) (c .before .before .before .before .before .before .before .before .before .before .before .before .before .before .before .loop .noted) (c .before .before .before .before .before .before .before .before .before .before .before .before .before .before .before .loop .k) (c .before .before .before .before .before .before .before .before .before .before .before .is-pending .ensures) (c .before .before .before .before .before .before .before .before .next .given .1 ∙ ap Other (c .before .before .before .before .before .enum-told2 .given .1))) .1) _ refl (c .before .before .before .if3 .left) _ (c .before .before .remembered .ensures) (c .before .if4 .left) (c .if5 .taken) _ refl
+loop-again-6 c =
+    let told = c .before .before .before .before .before .before .before .before in
+    let read = told .before .before in
+    let turn = read .before .before .before .before in
+    noted-even _ _ _ _ _ (turn .before .loop .inv) (turn .loop-test .taken) ((due-note _ _ _ _ _ (read .next-at .ensures) (turn .before .loop .remembers) (turn .before .loop .noted) (turn .before .loop .k) (read .before .is-pending .ensures) (told .next .given .1 ∙ ap Other (c .before .before .before .before .before .enum-told2 .given .1))) .0) ((due-note _ _ _ _ _ (read .next-at .ensures) (turn .before .loop .remembers) (turn .before .loop .noted) (turn .before .loop .k) (read .before .is-pending .ensures) (told .next .given .1 ∙ ap Other (c .before .before .before .before .before .enum-told2 .given .1))) .1) _ refl (c .before .before .before .if3 .left) _ (c .before .before .remembered .ensures) (c .before .if4 .left) (c .if5 .taken) _ refl
 
 loop-less-7 : tie.Need-loop-less-7 Inv-loop2 μ-loop2 Inv-loop3 μ-loop3 Inv-loop μ-loop
-loop-less-7 c = omega (arith, (due-note _ _ _ _ _ (c .before .before .before .before .before .before .before .before .before .before .next-at .ensures) (c .before .before .before .before .before .before .before .before .before .before .before .before .before .before .before .loop .remembers) (c .before .before .before .before .before .before .before .before .before .before .before .before .before .before .before .loop .noted) (c .before .before .before .before .before .before .before .before .before .before .before .before .before .before .before .loop .k) (c .before .before .before .before .before .before .before .before .before .before .before .is-pending .ensures) (c .before .before .before .before .before .before .before .before .next .given .1 ∙ ap Other (c .before .before .before .before .before .enum-told2 .given .1))) .1, c .before .before .before .before .before .before .before .before .before .before .before .before .before .before .before .loop .inv .upto)
+loop-less-7 c =
+    let told = c .before .before .before .before .before .before .before .before in
+    let read = told .before .before in
+    let turn = read .before .before .before .before in
+    omega (arith, (due-note _ _ _ _ _ (read .next-at .ensures) (turn .before .loop .remembers) (turn .before .loop .noted) (turn .before .loop .k) (read .before .is-pending .ensures) (told .next .given .1 ∙ ap Other (c .before .before .before .before .before .enum-told2 .given .1))) .1, turn .before .loop .inv .upto)
 
 loop-again-7 : tie.Need-loop-again-7 Inv-loop2 μ-loop2 Inv-loop3 μ-loop3 Inv-loop μ-loop
 unfolding freshStation fresh unsentAll newRow
-loop-again-7 c = noted-odd _ _ _ _ _ (c .before .before .before .before .before .before .before .before .before .before .before .before .before .before .before .loop .inv) (c .before .before .before .before .before .before .before .before .before .before .before .before .before .before .loop-test .taken) ((due-note _ _ _ _ _ (c .before .before .before .before .before .before .before .before .before .before .next-at .ensures) (c .before .before .before .before .before .before .before .before .before .before .before .before .before .before .before .loop .remembers) (c .before .before .before .before .before .before .before .before .before .before .before .before .before .before .before .loop .noted) (c .before .before .before .before .before .before .before .before .before .before .before .before .before .before .before .loop .k) (c .before .before .before .before .before .before .before .before .before .before .before .is-pending .ensures) (c .before .before .before .before .before .before .before .before .next .given .1 ∙ ap Other (c .before .before .before .before .before .enum-told2 .given .1))) .0) ((due-note _ _ _ _ _ (c .before .before .before .before .before .before .before .before .before .before .next-at .ensures) (c .before .before .before .before .before .before .before .before .before .before .before .before .before .before .before .loop .remembers) (c .before .before .before .before .before .before .before .before .before .before .before .before .before .before .before .loop .noted) (c .before .before .before .before .before .before .before .before .before .before .before .before .before .before .before .loop .k) (c .before .before .before .before .before .before .before .before .before .before .before .is-pending .ensures) (c .before .before .before .before .before .before .before .before .next .given .1 ∙ ap Other (c .before .before .before .before .before .enum-told2 .given .1))) .1) _ refl (c .before .before .before .if3 .left) _ (c .before .before .remembered .ensures) (c .before .if4 .left) (c .if5 .left) _ refl
+loop-again-7 c =
+    let told = c .before .before .before .before .before .before .before .before in
+    let read = told .before .before in
+    let turn = read .before .before .before .before in
+    noted-odd _ _ _ _ _ (turn .before .loop .inv) (turn .loop-test .taken) ((due-note _ _ _ _ _ (read .next-at .ensures) (turn .before .loop .remembers) (turn .before .loop .noted) (turn .before .loop .k) (read .before .is-pending .ensures) (told .next .given .1 ∙ ap Other (c .before .before .before .before .before .enum-told2 .given .1))) .0) ((due-note _ _ _ _ _ (read .next-at .ensures) (turn .before .loop .remembers) (turn .before .loop .noted) (turn .before .loop .k) (read .before .is-pending .ensures) (told .next .given .1 ∙ ap Other (c .before .before .before .before .before .enum-told2 .given .1))) .1) _ refl (c .before .before .before .if3 .left) _ (c .before .before .remembered .ensures) (c .before .if4 .left) (c .if5 .left) _ refl
 
 slice-write-answers-3 : tie.Need-slice-write-answers-3 Inv-loop2 μ-loop2 Inv-loop3 μ-loop3 Inv-loop μ-loop
-slice-write-answers-3 c = omega (arith, in-place _ _ _ _ _ _ _ _ _ (reading _ _ _ _ _ _ _ _ _ _ _ _ (c .before .before .before .before .before .before .before .before .before .before .before .before .loop .inv) (c .before .before .before .before .before .before .before .before .before .before .before .loop-test .taken) (c .before .before .before .before .before .before .before .before .before .place-of .ensures) _ (c .before .before .before .before .before .before .before .before .is-pending .ensures) _ (c .before .before .before .before .before .before .before .next-at .ensures) (c .before .before .before .before .before .next2 .given .1 ∙ ap Plays (c .before .before .e .given .1))))
+slice-write-answers-3 c =
+    let told = c .before .before .before .before .before in
+    let read = told .before .before in
+    let turn = read .before .before .before .before in
+    omega (arith, in-place _ _ _ _ _ _ _ _ _ (reading _ _ _ _ _ _ _ _ _ _ _ _ (turn .before .loop .inv) (turn .loop-test .taken) (read .before .before .place-of .ensures) _ (read .before .is-pending .ensures) _ (read .next-at .ensures) (told .next2 .given .1 ∙ ap Plays (c .before .before .e .given .1))))
 
 add-k-3 : tie.Need-add-k-3 Inv-loop2 μ-loop2 Inv-loop3 μ-loop3 Inv-loop μ-loop
 add-k-3 c =
-    let a = c .before .before .before .before .before .before .before .before .before .before .before .before .before .before .before .before .before .before .before .before .before .before in
-    let p = place-within (a .args .s .now) (a .args .from) (c .before .before .before .before .before .before .before .before .before .before .before .before .before .before .before .before .before .before .before .count-from .result) (c .before .before .before .before .before .before .before .before .before .before .before .before .loop .k) (c .before .before .before .before .before .before .before .before .before .before .before .before .loop .inv .whole) (c .before .before .before .before .before .before .before .before .before .before .before .loop-test .taken) in
+    let turn = c .before .before .before .before .before .before .before .before .before .before .before in
+    let ahead = turn .before .before .before .before .before .before .before .before in
+    let a = ahead .before .before .before in
+    let p = place-within (a .args .s .now) (a .args .from) (ahead .count-from .result) (turn .before .loop .k) (turn .before .loop .inv .whole) (turn .loop-test .taken) in
     omega (arith, p, a .good .0 .0)
 
 loop-less-8 : tie.Need-loop-less-8 Inv-loop2 μ-loop2 Inv-loop3 μ-loop3 Inv-loop μ-loop
-loop-less-8 c = omega (arith, c .before .before .before .before .before .before .before .before .before .before .before .before .loop-test .taken)
+loop-less-8 c =
+    let turn = c .before .before .before .before .before .before .before .before .before .before .before .before in
+    omega (arith, turn .loop-test .taken)
 
 loop-again-8 : tie.Need-loop-again-8 Inv-loop2 μ-loop2 Inv-loop3 μ-loop3 Inv-loop μ-loop
 unfolding freshStation fresh unsentAll
 loop-again-8 c =
-    lock-refused _ _ _ _ _ _ _ _ _ _ _ _ (reading _ _ _ _ _ _ _ _ _ _ _ _ (c .before .before .before .before .before .before .before .before .before .before .before .before .before .loop .inv) (c .before .before .before .before .before .before .before .before .before .before .before .before .loop-test .taken) (c .before .before .before .before .before .before .before .before .before .before .place-of .ensures) _ (c .before .before .before .before .before .before .before .before .before .is-pending .ensures) _ (c .before .before .before .before .before .before .before .before .next-at .ensures) (c .before .before .before .before .before .before .next2 .given .1 ∙ ap Plays (c .before .before .before .e .given .1))) (c .before .lock-question .ensures false) (c .if6 .taken)
+    let told = c .before .before .before .before .before .before in
+    let read = told .before .before in
+    let turn = read .before .before .before .before in
+    lock-refused _ _ _ _ _ _ _ _ _ _ _ _ (reading _ _ _ _ _ _ _ _ _ _ _ _ (turn .before .loop .inv) (turn .loop-test .taken) (read .before .before .place-of .ensures) _ (read .before .is-pending .ensures) _ (read .next-at .ensures) (told .next2 .given .1 ∙ ap Plays (c .before .before .before .e .given .1))) (c .before .lock-question .ensures false) (c .if6 .taken)
 
 loop-less-9 : tie.Need-loop-less-9 Inv-loop2 μ-loop2 Inv-loop3 μ-loop3 Inv-loop μ-loop
-loop-less-9 c = omega (arith, c .before .before .before .before .before .before .before .before .before .before .before .before .before .loop-test .taken)
+loop-less-9 c =
+    let turn = c .before .before .before .before .before .before .before .before .before .before .before .before .before in
+    omega (arith, turn .loop-test .taken)
 
 loop-again-9 : tie.Need-loop-again-9 Inv-loop2 μ-loop2 Inv-loop3 μ-loop3 Inv-loop μ-loop
 unfolding freshStation fresh unsentAll
 loop-again-9 c =
-    lock-accepted _ _ _ _ _ _ _ _ _ _ _ _ (reading _ _ _ _ _ _ _ _ _ _ _ _ (c .before .before .before .before .before .before .before .before .before .before .before .before .before .before .loop .inv) (c .before .before .before .before .before .before .before .before .before .before .before .before .before .loop-test .taken) (c .before .before .before .before .before .before .before .before .before .before .before .place-of .ensures) _ (c .before .before .before .before .before .before .before .before .before .before .is-pending .ensures) _ (c .before .before .before .before .before .before .before .before .before .next-at .ensures) (c .before .before .before .before .before .before .before .next2 .given .1 ∙ ap Plays (c .before .before .before .before .e .given .1))) (c .before .before .lock-question .ensures false) (c .before .if6 .left) _ (c .locked .ensures)
+    let told = c .before .before .before .before .before .before .before in
+    let read = told .before .before in
+    let turn = read .before .before .before .before in
+    lock-accepted _ _ _ _ _ _ _ _ _ _ _ _ (reading _ _ _ _ _ _ _ _ _ _ _ _ (turn .before .loop .inv) (turn .loop-test .taken) (read .before .before .place-of .ensures) _ (read .before .is-pending .ensures) _ (read .next-at .ensures) (told .next2 .given .1 ∙ ap Plays (c .before .before .before .before .e .given .1))) (c .before .before .lock-question .ensures false) (c .before .if6 .left) _ (c .locked .ensures)
 
 slice-write-answers-4 : tie.Need-slice-write-answers-4 Inv-loop2 μ-loop2 Inv-loop3 μ-loop3 Inv-loop μ-loop
-slice-write-answers-4 c = omega (arith, in-place _ _ _ _ _ _ _ _ _ (reading _ _ _ _ _ _ _ _ _ _ _ _ (c .before .before .before .before .before .before .before .before .before .before .before .before .before .loop .inv) (c .before .before .before .before .before .before .before .before .before .before .before .before .loop-test .taken) (c .before .before .before .before .before .before .before .before .before .before .place-of .ensures) _ (c .before .before .before .before .before .before .before .before .before .is-pending .ensures) _ (c .before .before .before .before .before .before .before .before .next-at .ensures) (c .before .before .before .before .before .before .next2 .given .1 ∙ ap Plays (c .before .before .before .e2 .given .1))))
+slice-write-answers-4 c =
+    let told = c .before .before .before .before .before .before in
+    let read = told .before .before in
+    let turn = read .before .before .before .before in
+    omega (arith, in-place _ _ _ _ _ _ _ _ _ (reading _ _ _ _ _ _ _ _ _ _ _ _ (turn .before .loop .inv) (turn .loop-test .taken) (read .before .before .place-of .ensures) _ (read .before .is-pending .ensures) _ (read .next-at .ensures) (told .next2 .given .1 ∙ ap Plays (c .before .before .before .e2 .given .1))))
 
 add-k-4 : tie.Need-add-k-4 Inv-loop2 μ-loop2 Inv-loop3 μ-loop3 Inv-loop μ-loop
 add-k-4 c =
-    let a = c .before .before .before .before .before .before .before .before .before .before .before .before .before .before .before .before .before .before .before .before .before .before .before in
-    let p = place-within (a .args .s .now) (a .args .from) (c .before .before .before .before .before .before .before .before .before .before .before .before .before .before .before .before .before .before .before .before .count-from .result) (c .before .before .before .before .before .before .before .before .before .before .before .before .before .loop .k) (c .before .before .before .before .before .before .before .before .before .before .before .before .before .loop .inv .whole) (c .before .before .before .before .before .before .before .before .before .before .before .before .loop-test .taken) in
+    let turn = c .before .before .before .before .before .before .before .before .before .before .before .before in
+    let ahead = turn .before .before .before .before .before .before .before .before in
+    let a = ahead .before .before .before in
+    let p = place-within (a .args .s .now) (a .args .from) (ahead .count-from .result) (turn .before .loop .k) (turn .before .loop .inv .whole) (turn .loop-test .taken) in
     omega (arith, p, a .good .0 .0)
 
 loop-less-10 : tie.Need-loop-less-10 Inv-loop2 μ-loop2 Inv-loop3 μ-loop3 Inv-loop μ-loop
-loop-less-10 c = omega (arith, c .before .before .before .before .before .before .before .before .before .before .before .before .before .loop-test .taken)
+loop-less-10 c =
+    let turn = c .before .before .before .before .before .before .before .before .before .before .before .before .before in
+    omega (arith, turn .loop-test .taken)
 
 loop-again-10 : tie.Need-loop-again-10 Inv-loop2 μ-loop2 Inv-loop3 μ-loop3 Inv-loop μ-loop
 unfolding freshStation fresh unsentAll
 loop-again-10 c =
-    order-refused _ _ _ _ _ _ _ _ _ _ (reading _ _ _ _ _ _ _ _ _ _ _ _ (c .before .before .before .before .before .before .before .before .before .before .before .before .before .before .loop .inv) (c .before .before .before .before .before .before .before .before .before .before .before .before .before .loop-test .taken) (c .before .before .before .before .before .before .before .before .before .before .before .place-of .ensures) _ (c .before .before .before .before .before .before .before .before .before .before .is-pending .ensures) _ (c .before .before .before .before .before .before .before .before .before .next-at .ensures) (c .before .before .before .before .before .before .before .next2 .given .1 ∙ ap Plays (c .before .before .before .before .e2 .given .1))) _ (c .before .before .may-open .ensures) (c .before .order-question .ensures) (c .if7 .taken)
+    let told = c .before .before .before .before .before .before .before in
+    let read = told .before .before in
+    let turn = read .before .before .before .before in
+    order-refused _ _ _ _ _ _ _ _ _ _ (reading _ _ _ _ _ _ _ _ _ _ _ _ (turn .before .loop .inv) (turn .loop-test .taken) (read .before .before .place-of .ensures) _ (read .before .is-pending .ensures) _ (read .next-at .ensures) (told .next2 .given .1 ∙ ap Plays (c .before .before .before .before .e2 .given .1))) _ (c .before .before .may-open .ensures) (c .before .order-question .ensures) (c .if7 .taken)
 
 loop2-holds : tie.Need-loop2-holds Inv-loop2 μ-loop2 Inv-loop3 μ-loop3 Inv-loop μ-loop
-loop2-holds c = (omega arith, all-stations _ _ (c .before .before .before .before .before .before .before .before .before .before .before .before .before .before .before .before .loop .inv .here), first-none renewed _)
+loop2-holds c =
+    let turn = c .before .before .before .before .before .before .before .before .before .before .before .before .before .before .before in
+    (omega arith, all-stations _ _ (turn .before .loop .inv .here), first-none renewed _)
 
 loop2-again : tie.Need-loop2-again Inv-loop2 μ-loop2 Inv-loop3 μ-loop3 Inv-loop μ-loop
 unfolding freshStation fresh unsentAll
 loop2-again c =
+    let turn = c .before .before .before .before .before .before .before .before .before .before .before .before .before .before .before .before .before .before .before in
     let i = c .before .before .before .loop2 .inv in
-    (omega arith, i .1, ap (λ (x : List Station). set x (c .before .before .before .loop2 .i) (c .renewed .result)) (i .2) ∙ ap (set (mapFirst renewed (c .before .before .before .loop2 .i) (c .before .before .before .before .before .before .before .before .before .before .before .before .before .before .before .before .before .before .before .before .loop .stations)) (c .before .before .before .loop2 .i)) (c .renewed .ensures ∙ ap (λ (x : List Station). renewed (getD x (c .before .before .before .loop2 .i) (freshStation []))) (i .2)) ∙ first-more renewed (c .before .before .before .loop2 .i) (c .before .before .before .before .before .before .before .before .before .before .before .before .before .before .before .before .before .before .before .before .loop .stations) (freshStation []) (omega (arith, i .1, i .0)))
+    (omega arith, i .1, ap (λ (x : List Station). set x (c .before .before .before .loop2 .i) (c .renewed .result)) (i .2) ∙ ap (set (mapFirst renewed (c .before .before .before .loop2 .i) (turn .before .loop .stations)) (c .before .before .before .loop2 .i)) (c .renewed .ensures ∙ ap (λ (x : List Station). renewed (getD x (c .before .before .before .loop2 .i) (freshStation []))) (i .2)) ∙ first-more renewed (c .before .before .before .loop2 .i) (turn .before .loop .stations) (freshStation []) (omega (arith, i .1, i .0)))
 
 loop-less-11 : tie.Need-loop-less-11 Inv-loop2 μ-loop2 Inv-loop3 μ-loop3 Inv-loop μ-loop
-loop-less-11 c = omega (arith, c .before .before .before .before .before .before .before .before .before .before .before .before .before .before .before .before .before .before .before .loop-test .taken)
+loop-less-11 c =
+    let turn = c .before .before .before .before .before .before .before .before .before .before .before .before .before .before .before .before .before .before .before in
+    omega (arith, turn .loop-test .taken)
 
 loop-again-11 : tie.Need-loop-again-11 Inv-loop2 μ-loop2 Inv-loop3 μ-loop3 Inv-loop μ-loop
 unfolding freshStation fresh unsentAll newRow
 loop-again-11 c =
+    let told = c .before .before .before .before .before .before .before .before .before .before .before .before .before in
+    let read = told .before .before in
+    let turn = read .before .before .before .before in
     let i = c .before .before .before .loop2 .inv in
-    let all : c .before .before .before .loop2 .i ≡ min (c .before .before .before .before .before .before .before .before .before .before .before .before .before .before .before .before .before .before .before .before .loop .m .n) (length (c .before .before .before .before .before .before .before .before .before .before .before .before .before .before .before .before .before .before .before .before .loop .stations)) = order-size _ (c .before .before .before .before .before .before .before .before .before .before .before .before .before .before .before .before .before .before .before .before .loop .stations) _ _ (c .before .before .before .before .before .order-opened .ensures) _ _ (c .before .before .before .before .up-to-limit .ensures) (i .1) (omega (arith, i .0, c .before .before .loop2-test .left)) in
-    order-quiet _ _ _ _ _ _ _ _ _ _ (reading _ _ _ _ _ _ _ _ _ _ _ _ (c .before .before .before .before .before .before .before .before .before .before .before .before .before .before .before .before .before .before .before .before .loop .inv) (c .before .before .before .before .before .before .before .before .before .before .before .before .before .before .before .before .before .before .before .loop-test .taken) (c .before .before .before .before .before .before .before .before .before .before .before .before .before .before .before .before .before .place-of .ensures) _ (c .before .before .before .before .before .before .before .before .before .before .before .before .before .before .before .before .is-pending .ensures) _ (c .before .before .before .before .before .before .before .before .before .before .before .before .before .before .before .next-at .ensures) (c .before .before .before .before .before .before .before .before .before .before .before .before .before .next2 .given .1 ∙ ap Plays (c .before .before .before .before .before .before .before .before .before .before .e2 .given .1))) _ (c .before .before .before .before .before .before .before .before .may-open .ensures) (c .before .before .before .before .before .before .before .order-question .ensures) (c .before .before .before .before .before .before .if7 .left) _ (c .before .before .before .before .before .order-opened .ensures) (c .if8 .taken) _ (i .2 ∙ first-all renewed (c .before .before .before .before .before .before .before .before .before .before .before .before .before .before .before .before .before .before .before .before .loop .m .n) (c .before .before .before .loop2 .i) (c .before .before .before .before .before .before .before .before .before .before .before .before .before .before .before .before .before .before .before .before .loop .stations) all)
+    let all : c .before .before .before .loop2 .i ≡ min (turn .before .loop .m .n) (length (turn .before .loop .stations)) = order-size _ (turn .before .loop .stations) _ _ (c .before .before .before .before .before .order-opened .ensures) _ _ (c .before .before .before .before .up-to-limit .ensures) (i .1) (omega (arith, i .0, c .before .before .loop2-test .left)) in
+    order-quiet _ _ _ _ _ _ _ _ _ _ (reading _ _ _ _ _ _ _ _ _ _ _ _ (turn .before .loop .inv) (turn .loop-test .taken) (read .before .before .place-of .ensures) _ (read .before .is-pending .ensures) _ (read .next-at .ensures) (told .next2 .given .1 ∙ ap Plays (c .before .before .before .before .before .before .before .before .before .before .e2 .given .1))) _ (c .before .before .before .before .before .before .before .before .may-open .ensures) (c .before .before .before .before .before .before .before .order-question .ensures) (c .before .before .before .before .before .before .if7 .left) _ (c .before .before .before .before .before .order-opened .ensures) (c .if8 .taken) _ (i .2 ∙ first-all renewed (turn .before .loop .m .n) (c .before .before .before .loop2 .i) (turn .before .loop .stations) all)
 
 loop-less-12 : tie.Need-loop-less-12 Inv-loop2 μ-loop2 Inv-loop3 μ-loop3 Inv-loop μ-loop
-loop-less-12 c = omega (arith, c .before .before .before .before .before .before .before .before .before .before .before .before .before .before .before .before .before .before .before .before .before .loop-test .taken)
+loop-less-12 c =
+    let turn = c .before .before .before .before .before .before .before .before .before .before .before .before .before .before .before .before .before .before .before .before .before in
+    omega (arith, turn .loop-test .taken)
 
 loop-again-12 : tie.Need-loop-again-12 Inv-loop2 μ-loop2 Inv-loop3 μ-loop3 Inv-loop μ-loop
 unfolding freshStation fresh unsentAll newRow
 loop-again-12 c =
+    let told = c .before .before .before .before .before .before .before .before .before .before .before .before .before .before .before in
+    let read = told .before .before in
+    let turn = read .before .before .before .before in
     let i = c .before .before .before .before .before .loop2 .inv in
-    let all : c .before .before .before .before .before .loop2 .i ≡ min (c .before .before .before .before .before .before .before .before .before .before .before .before .before .before .before .before .before .before .before .before .before .before .loop .m .n) (length (c .before .before .before .before .before .before .before .before .before .before .before .before .before .before .before .before .before .before .before .before .before .before .loop .stations)) = order-size _ (c .before .before .before .before .before .before .before .before .before .before .before .before .before .before .before .before .before .before .before .before .before .before .loop .stations) _ _ (c .before .before .before .before .before .before .before .order-opened .ensures) _ _ (c .before .before .before .before .before .before .up-to-limit .ensures) (i .1) (omega (arith, i .0, c .before .before .before .before .loop2-test .left)) in
-    order-accepted _ _ _ _ _ _ _ _ _ _ (reading _ _ _ _ _ _ _ _ _ _ _ _ (c .before .before .before .before .before .before .before .before .before .before .before .before .before .before .before .before .before .before .before .before .before .before .loop .inv) (c .before .before .before .before .before .before .before .before .before .before .before .before .before .before .before .before .before .before .before .before .before .loop-test .taken) (c .before .before .before .before .before .before .before .before .before .before .before .before .before .before .before .before .before .before .before .place-of .ensures) _ (c .before .before .before .before .before .before .before .before .before .before .before .before .before .before .before .before .before .before .is-pending .ensures) _ (c .before .before .before .before .before .before .before .before .before .before .before .before .before .before .before .before .before .next-at .ensures) (c .before .before .before .before .before .before .before .before .before .before .before .before .before .before .before .next2 .given .1 ∙ ap Plays (c .before .before .before .before .before .before .before .before .before .before .before .before .e2 .given .1))) _ (c .before .before .before .before .before .before .before .before .before .before .may-open .ensures) (c .before .before .before .before .before .before .before .before .before .order-question .ensures) (c .before .before .before .before .before .before .before .before .if7 .left) _ (c .before .before .before .before .before .before .before .order-opened .ensures) _ (i .2 ∙ first-all renewed (c .before .before .before .before .before .before .before .before .before .before .before .before .before .before .before .before .before .before .before .before .before .before .loop .m .n) (c .before .before .before .before .before .loop2 .i) (c .before .before .before .before .before .before .before .before .before .before .before .before .before .before .before .before .before .before .before .before .before .before .loop .stations) all) _ (new-ballots _ _ (c .before .new-acceptor2 .ensures) (c .new-row2 .ensures))
+    let all : c .before .before .before .before .before .loop2 .i ≡ min (turn .before .loop .m .n) (length (turn .before .loop .stations)) = order-size _ (turn .before .loop .stations) _ _ (c .before .before .before .before .before .before .before .order-opened .ensures) _ _ (c .before .before .before .before .before .before .up-to-limit .ensures) (i .1) (omega (arith, i .0, c .before .before .before .before .loop2-test .left)) in
+    order-accepted _ _ _ _ _ _ _ _ _ _ (reading _ _ _ _ _ _ _ _ _ _ _ _ (turn .before .loop .inv) (turn .loop-test .taken) (read .before .before .place-of .ensures) _ (read .before .is-pending .ensures) _ (read .next-at .ensures) (told .next2 .given .1 ∙ ap Plays (c .before .before .before .before .before .before .before .before .before .before .before .before .e2 .given .1))) _ (c .before .before .before .before .before .before .before .before .before .before .may-open .ensures) (c .before .before .before .before .before .before .before .before .before .order-question .ensures) (c .before .before .before .before .before .before .before .before .if7 .left) _ (c .before .before .before .before .before .before .before .order-opened .ensures) _ (i .2 ∙ first-all renewed (turn .before .loop .m .n) (c .before .before .before .before .before .loop2 .i) (turn .before .loop .stations) all) _ (new-ballots _ _ (c .before .new-acceptor2 .ensures) (c .new-row2 .ensures))
 
 slice-write-answers-5 : tie.Need-slice-write-answers-5 Inv-loop2 μ-loop2 Inv-loop3 μ-loop3 Inv-loop μ-loop
-slice-write-answers-5 c = omega (arith, in-place _ _ _ _ _ _ _ _ _ (reading _ _ _ _ _ _ _ _ _ _ _ _ (c .before .before .before .before .before .before .before .before .before .before .before .before .before .before .before .loop .inv) (c .before .before .before .before .before .before .before .before .before .before .before .before .before .before .loop-test .taken) (c .before .before .before .before .before .before .before .before .before .before .before .before .place-of .ensures) _ (c .before .before .before .before .before .before .before .before .before .before .before .is-pending .ensures) _ (c .before .before .before .before .before .before .before .before .before .before .next-at .ensures) (c .before .before .before .before .before .before .before .before .next2 .given .1 ∙ ap Plays (c .before .before .before .before .before .e3 .given .1))))
+slice-write-answers-5 c =
+    let told = c .before .before .before .before .before .before .before .before in
+    let read = told .before .before in
+    let turn = read .before .before .before .before in
+    omega (arith, in-place _ _ _ _ _ _ _ _ _ (reading _ _ _ _ _ _ _ _ _ _ _ _ (turn .before .loop .inv) (turn .loop-test .taken) (read .before .before .place-of .ensures) _ (read .before .is-pending .ensures) _ (read .next-at .ensures) (told .next2 .given .1 ∙ ap Plays (c .before .before .before .before .before .e3 .given .1))))
 
 add-k-5 : tie.Need-add-k-5 Inv-loop2 μ-loop2 Inv-loop3 μ-loop3 Inv-loop μ-loop
 add-k-5 c =
-    let a = c .before .before .before .before .before .before .before .before .before .before .before .before .before .before .before .before .before .before .before .before .before .before .before .before .before in
-    let p = place-within (a .args .s .now) (a .args .from) (c .before .before .before .before .before .before .before .before .before .before .before .before .before .before .before .before .before .before .before .before .before .before .count-from .result) (c .before .before .before .before .before .before .before .before .before .before .before .before .before .before .before .loop .k) (c .before .before .before .before .before .before .before .before .before .before .before .before .before .before .before .loop .inv .whole) (c .before .before .before .before .before .before .before .before .before .before .before .before .before .before .loop-test .taken) in
+    let turn = c .before .before .before .before .before .before .before .before .before .before .before .before .before .before in
+    let ahead = turn .before .before .before .before .before .before .before .before in
+    let a = ahead .before .before .before in
+    let p = place-within (a .args .s .now) (a .args .from) (ahead .count-from .result) (turn .before .loop .k) (turn .before .loop .inv .whole) (turn .loop-test .taken) in
     omega (arith, p, a .good .0 .0)
 
 loop-less-13 : tie.Need-loop-less-13 Inv-loop2 μ-loop2 Inv-loop3 μ-loop3 Inv-loop μ-loop
-loop-less-13 c = omega (arith, c .before .before .before .before .before .before .before .before .before .before .before .before .before .before .before .loop-test .taken)
+loop-less-13 c =
+    let turn = c .before .before .before .before .before .before .before .before .before .before .before .before .before .before .before in
+    omega (arith, turn .loop-test .taken)
 
 loop-again-13 : tie.Need-loop-again-13 Inv-loop2 μ-loop2 Inv-loop3 μ-loop3 Inv-loop μ-loop
 unfolding freshStation fresh unsentAll
 loop-again-13 c =
+    let told = c .before .before .before .before .before .before .before .before .before in
+    let read = told .before .before in
+    let turn = read .before .before .before .before in
     cast-refused _ _ _ _ _ _ _ _ _ _ _ (c .before .before .before .before .seat .ensures) _ (c .before .before .condition-of .ensures) _ _
-    (reading _ _ _ _ _ _ _ _ _ _ _ _ (c .before .before .before .before .before .before .before .before .before .before .before .before .before .before .before .before .loop .inv) (c .before .before .before .before .before .before .before .before .before .before .before .before .before .before .before .loop-test .taken) (c .before .before .before .before .before .before .before .before .before .before .before .before .before .place-of .ensures) _ (c .before .before .before .before .before .before .before .before .before .before .before .before .is-pending .ensures) _ (c .before .before .before .before .before .before .before .before .before .before .before .next-at .ensures) (c .before .before .before .before .before .before .before .before .before .next2 .given .1 ∙ ap Plays (c .before .before .before .before .before .before .e3 .given .1))) (c .before .cast-question .ensures true)
+    (reading _ _ _ _ _ _ _ _ _ _ _ _ (turn .before .loop .inv) (turn .loop-test .taken) (read .before .before .place-of .ensures) _ (read .before .is-pending .ensures) _ (read .next-at .ensures) (told .next2 .given .1 ∙ ap Plays (c .before .before .before .before .before .before .e3 .given .1))) (c .before .cast-question .ensures true)
     (c .if9 .taken)
 
 mul-stations-2 : tie.Need-mul-stations-2 Inv-loop2 μ-loop2 Inv-loop3 μ-loop3 Inv-loop μ-loop
@@ -247,32 +380,48 @@ array-set-from-stations-2 : tie.Need-array-set-from-stations-2 Inv-loop2 μ-loop
 array-set-from-stations-2 c = omega (arith, c .before .before .before .before .before .before .seat .ensures .0)
 
 loop-less-14 : tie.Need-loop-less-14 Inv-loop2 μ-loop2 Inv-loop3 μ-loop3 Inv-loop μ-loop
-loop-less-14 c = omega (arith, c .before .before .before .before .before .before .before .before .before .before .before .before .before .before .before .before .before .loop-test .taken)
+loop-less-14 c =
+    let turn = c .before .before .before .before .before .before .before .before .before .before .before .before .before .before .before .before .before in
+    omega (arith, turn .loop-test .taken)
 
 loop-again-14 : tie.Need-loop-again-14 Inv-loop2 μ-loop2 Inv-loop3 μ-loop3 Inv-loop μ-loop
 unfolding freshStation fresh unsentAll
 loop-again-14 c =
+    let told = c .before .before .before .before .before .before .before .before .before .before .before in
+    let read = told .before .before in
+    let turn = read .before .before .before .before in
     cast-accepted _ _ _ _ _ _ _ _ _ _ _ (c .before .before .before .before .before .before .seat .ensures) _ (c .before .before .before .before .condition-of .ensures) _ _
-    (reading _ _ _ _ _ _ _ _ _ _ _ _ (c .before .before .before .before .before .before .before .before .before .before .before .before .before .before .before .before .before .before .loop .inv) (c .before .before .before .before .before .before .before .before .before .before .before .before .before .before .before .before .before .loop-test .taken) (c .before .before .before .before .before .before .before .before .before .before .before .before .before .before .before .place-of .ensures) _ (c .before .before .before .before .before .before .before .before .before .before .before .before .before .before .is-pending .ensures) _ (c .before .before .before .before .before .before .before .before .before .before .before .before .before .next-at .ensures) (c .before .before .before .before .before .before .before .before .before .before .before .next2 .given .1 ∙ ap Plays (c .before .before .before .before .before .before .before .before .e3 .given .1))) (c .before .before .before .cast-question .ensures true)
+    (reading _ _ _ _ _ _ _ _ _ _ _ _ (turn .before .loop .inv) (turn .loop-test .taken) (read .before .before .place-of .ensures) _ (read .before .is-pending .ensures) _ (read .next-at .ensures) (told .next2 .given .1 ∙ ap Plays (c .before .before .before .before .before .before .before .before .e3 .given .1))) (c .before .before .before .cast-question .ensures true)
     (c .before .before .if9 .left) _ (c .cast-turn .ensures)
 
 slice-write-answers-6 : tie.Need-slice-write-answers-6 Inv-loop2 μ-loop2 Inv-loop3 μ-loop3 Inv-loop μ-loop
-slice-write-answers-6 c = omega (arith, in-place _ _ _ _ _ _ _ _ _ (reading _ _ _ _ _ _ _ _ _ _ _ _ (c .before .before .before .before .before .before .before .before .before .before .before .before .before .before .before .before .before .before .loop .inv) (c .before .before .before .before .before .before .before .before .before .before .before .before .before .before .before .before .before .loop-test .taken) (c .before .before .before .before .before .before .before .before .before .before .before .before .before .before .before .place-of .ensures) _ (c .before .before .before .before .before .before .before .before .before .before .before .before .before .before .is-pending .ensures) _ (c .before .before .before .before .before .before .before .before .before .before .before .before .before .next-at .ensures) (c .before .before .before .before .before .before .before .before .before .before .before .next2 .given .1 ∙ ap Plays (c .before .before .before .before .before .before .before .before .e4 .given .1))))
+slice-write-answers-6 c =
+    let told = c .before .before .before .before .before .before .before .before .before .before .before in
+    let read = told .before .before in
+    let turn = read .before .before .before .before in
+    omega (arith, in-place _ _ _ _ _ _ _ _ _ (reading _ _ _ _ _ _ _ _ _ _ _ _ (turn .before .loop .inv) (turn .loop-test .taken) (read .before .before .place-of .ensures) _ (read .before .is-pending .ensures) _ (read .next-at .ensures) (told .next2 .given .1 ∙ ap Plays (c .before .before .before .before .before .before .before .before .e4 .given .1))))
 
 add-k-6 : tie.Need-add-k-6 Inv-loop2 μ-loop2 Inv-loop3 μ-loop3 Inv-loop μ-loop
 add-k-6 c =
-    let a = c .before .before .before .before .before .before .before .before .before .before .before .before .before .before .before .before .before .before .before .before .before .before .before .before .before .before .before .before in
-    let p = place-within (a .args .s .now) (a .args .from) (c .before .before .before .before .before .before .before .before .before .before .before .before .before .before .before .before .before .before .before .before .before .before .before .before .before .count-from .result) (c .before .before .before .before .before .before .before .before .before .before .before .before .before .before .before .before .before .before .loop .k) (c .before .before .before .before .before .before .before .before .before .before .before .before .before .before .before .before .before .before .loop .inv .whole) (c .before .before .before .before .before .before .before .before .before .before .before .before .before .before .before .before .before .loop-test .taken) in
+    let turn = c .before .before .before .before .before .before .before .before .before .before .before .before .before .before .before .before .before in
+    let ahead = turn .before .before .before .before .before .before .before .before in
+    let a = ahead .before .before .before in
+    let p = place-within (a .args .s .now) (a .args .from) (ahead .count-from .result) (turn .before .loop .k) (turn .before .loop .inv .whole) (turn .loop-test .taken) in
     omega (arith, p, a .good .0 .0)
 
 loop-less-15 : tie.Need-loop-less-15 Inv-loop2 μ-loop2 Inv-loop3 μ-loop3 Inv-loop μ-loop
-loop-less-15 c = omega (arith, c .before .before .before .before .before .before .before .before .before .before .before .before .before .before .before .before .before .before .loop-test .taken)
+loop-less-15 c =
+    let turn = c .before .before .before .before .before .before .before .before .before .before .before .before .before .before .before .before .before .before in
+    omega (arith, turn .loop-test .taken)
 
 loop-again-15 : tie.Need-loop-again-15 Inv-loop2 μ-loop2 Inv-loop3 μ-loop3 Inv-loop μ-loop
 unfolding freshStation fresh unsentAll
 loop-again-15 c =
+    let told = c .before .before .before .before .before .before .before .before .before .before .before .before in
+    let read = told .before .before in
+    let turn = read .before .before .before .before in
     delivery-refused _ _ _ _ _ _ _ _ _ _ _ (c .before .before .before .before .before .before .before .seat2 .ensures) _ (c .before .before .condition-of2 .ensures) _ _ (c .before .before .before .before .before .before .seat3 .ensures) _ _ (c .before .before .before .before .outgoing .ensures)
-    (reading _ _ _ _ _ _ _ _ _ _ _ _ (c .before .before .before .before .before .before .before .before .before .before .before .before .before .before .before .before .before .before .before .loop .inv) (c .before .before .before .before .before .before .before .before .before .before .before .before .before .before .before .before .before .before .loop-test .taken) (c .before .before .before .before .before .before .before .before .before .before .before .before .before .before .before .before .place-of .ensures) _ (c .before .before .before .before .before .before .before .before .before .before .before .before .before .before .before .is-pending .ensures) _ (c .before .before .before .before .before .before .before .before .before .before .before .before .before .before .next-at .ensures) (c .before .before .before .before .before .before .before .before .before .before .before .before .next2 .given .1 ∙ ap Plays (c .before .before .before .before .before .before .before .before .before .e4 .given .1))) (c .before .deliver-question .ensures)
+    (reading _ _ _ _ _ _ _ _ _ _ _ _ (turn .before .loop .inv) (turn .loop-test .taken) (read .before .before .place-of .ensures) _ (read .before .is-pending .ensures) _ (read .next-at .ensures) (told .next2 .given .1 ∙ ap Plays (c .before .before .before .before .before .before .before .before .before .e4 .given .1))) (c .before .deliver-question .ensures)
     (c .if10 .taken)
 
 mul-stations-3 : tie.Need-mul-stations-3 Inv-loop2 μ-loop2 Inv-loop3 μ-loop3 Inv-loop μ-loop
@@ -282,23 +431,33 @@ array-set-from-stations-3 : tie.Need-array-set-from-stations-3 Inv-loop2 μ-loop
 array-set-from-stations-3 c = omega (arith, c .before .before .before .before .before .before .before .before .before .before .before .seat2 .ensures .0)
 
 loop-less-16 : tie.Need-loop-less-16 Inv-loop2 μ-loop2 Inv-loop3 μ-loop3 Inv-loop μ-loop
-loop-less-16 c = omega (arith, c .before .before .before .before .before .before .before .before .before .before .before .before .before .before .before .before .before .before .before .before .before .before .loop-test .taken)
+loop-less-16 c =
+    let turn = c .before .before .before .before .before .before .before .before .before .before .before .before .before .before .before .before .before .before .before .before .before .before in
+    omega (arith, turn .loop-test .taken)
 
 loop-again-16 : tie.Need-loop-again-16 Inv-loop2 μ-loop2 Inv-loop3 μ-loop3 Inv-loop μ-loop
 unfolding freshStation fresh unsentAll
 loop-again-16 c =
+    let told = c .before .before .before .before .before .before .before .before .before .before .before .before .before .before .before .before in
+    let read = told .before .before in
+    let turn = read .before .before .before .before in
     vote-accepted _ _ _ _ _ _ _ _ _ _ _ (c .before .before .before .before .before .before .before .before .before .before .before .seat2 .ensures) _ (c .before .before .before .before .before .before .condition-of2 .ensures) _ _ (c .before .before .before .before .before .before .before .before .before .before .seat3 .ensures) _ _ (c .before .before .before .before .before .before .before .before .outgoing .ensures)
-    (reading _ _ _ _ _ _ _ _ _ _ _ _ (c .before .before .before .before .before .before .before .before .before .before .before .before .before .before .before .before .before .before .before .before .before .before .before .loop .inv) (c .before .before .before .before .before .before .before .before .before .before .before .before .before .before .before .before .before .before .before .before .before .before .loop-test .taken) (c .before .before .before .before .before .before .before .before .before .before .before .before .before .before .before .before .before .before .before .before .place-of .ensures) _ (c .before .before .before .before .before .before .before .before .before .before .before .before .before .before .before .before .before .before .before .is-pending .ensures) _ (c .before .before .before .before .before .before .before .before .before .before .before .before .before .before .before .before .before .before .next-at .ensures) (c .before .before .before .before .before .before .before .before .before .before .before .before .before .before .before .before .next2 .given .1 ∙ ap Plays (c .before .before .before .before .before .before .before .before .before .before .before .before .before .e4 .given .1))) (c .before .before .before .before .before .deliver-question .ensures)
+    (reading _ _ _ _ _ _ _ _ _ _ _ _ (turn .before .loop .inv) (turn .loop-test .taken) (read .before .before .place-of .ensures) _ (read .before .is-pending .ensures) _ (read .next-at .ensures) (told .next2 .given .1 ∙ ap Plays (c .before .before .before .before .before .before .before .before .before .before .before .before .before .e4 .given .1))) (c .before .before .before .before .before .deliver-question .ensures)
     (c .before .before .enum-told3 .given .1) (c .before .before .before .before .if10 .left) _ (c .vote-turn .ensures)
 
 loop-less-17 : tie.Need-loop-less-17 Inv-loop2 μ-loop2 Inv-loop3 μ-loop3 Inv-loop μ-loop
-loop-less-17 c = omega (arith, c .before .before .before .before .before .before .before .before .before .before .before .before .before .before .before .before .before .before .before .before .before .before .before .before .loop-test .taken)
+loop-less-17 c =
+    let turn = c .before .before .before .before .before .before .before .before .before .before .before .before .before .before .before .before .before .before .before .before .before .before .before .before in
+    omega (arith, turn .loop-test .taken)
 
 loop-again-17 : tie.Need-loop-again-17 Inv-loop2 μ-loop2 Inv-loop3 μ-loop3 Inv-loop μ-loop
 unfolding freshStation fresh unsentAll
 loop-again-17 c =
+    let told = c .before .before .before .before .before .before .before .before .before .before .before .before .before .before .before .before .before .before in
+    let read = told .before .before in
+    let turn = read .before .before .before .before in
     ack-passed-over _ _ _ _ _ _ _ _ _ _ _ (c .before .before .before .before .before .before .before .before .before .before .before .before .before .seat2 .ensures) _ (c .before .before .before .before .before .before .before .before .condition-of2 .ensures) _ _ (c .before .before .before .before .before .before .before .before .before .before .before .before .seat3 .ensures) _ _ (c .before .before .before .before .before .before .before .before .before .before .outgoing .ensures)
-    (reading _ _ _ _ _ _ _ _ _ _ _ _ (c .before .before .before .before .before .before .before .before .before .before .before .before .before .before .before .before .before .before .before .before .before .before .before .before .before .loop .inv) (c .before .before .before .before .before .before .before .before .before .before .before .before .before .before .before .before .before .before .before .before .before .before .before .before .loop-test .taken) (c .before .before .before .before .before .before .before .before .before .before .before .before .before .before .before .before .before .before .before .before .before .before .place-of .ensures) _ (c .before .before .before .before .before .before .before .before .before .before .before .before .before .before .before .before .before .before .before .before .before .is-pending .ensures) _ (c .before .before .before .before .before .before .before .before .before .before .before .before .before .before .before .before .before .before .before .before .next-at .ensures) (c .before .before .before .before .before .before .before .before .before .before .before .before .before .before .before .before .before .before .next2 .given .1 ∙ ap Plays (c .before .before .before .before .before .before .before .before .before .before .before .before .before .before .before .e4 .given .1))) (c .before .before .before .before .before .before .before .deliver-question .ensures)
+    (reading _ _ _ _ _ _ _ _ _ _ _ _ (turn .before .loop .inv) (turn .loop-test .taken) (read .before .before .place-of .ensures) _ (read .before .is-pending .ensures) _ (read .next-at .ensures) (told .next2 .given .1 ∙ ap Plays (c .before .before .before .before .before .before .before .before .before .before .before .before .before .before .before .e4 .given .1))) (c .before .before .before .before .before .before .before .deliver-question .ensures)
     (c .before .before .before .before .enum-told4 .given .1) (c .before .before .before .before .before .before .if10 .left) _ (c .before .before .condition-of3 .ensures) _ (c .before .takes-ack .ensures) (not-true (c .before .takes-ack .result) (c .if11 .taken))
 
 mul-stations-4 : tie.Need-mul-stations-4 Inv-loop2 μ-loop2 Inv-loop3 μ-loop3 Inv-loop μ-loop
@@ -308,13 +467,18 @@ array-set-from-stations-4 : tie.Need-array-set-from-stations-4 Inv-loop2 μ-loop
 array-set-from-stations-4 c = omega (arith, c .before .before .before .before .before .before .before .before .before .before .before .before .before .before .before .before .before .before .before .before .before .before .before .seat2 .ensures .0)
 
 loop-less-18 : tie.Need-loop-less-18 Inv-loop2 μ-loop2 Inv-loop3 μ-loop3 Inv-loop μ-loop
-loop-less-18 c = omega (arith, c .before .before .before .before .before .before .before .before .before .before .before .before .before .before .before .before .before .before .before .before .before .before .before .before .before .before .before .before .before .before .before .before .before .before .before .loop-test .taken)
+loop-less-18 c =
+    let turn = c .before .before .before .before .before .before .before .before .before .before .before .before .before .before .before .before .before .before .before .before .before .before .before .before .before .before .before .before .before .before .before .before .before .before .before in
+    omega (arith, turn .loop-test .taken)
 
 loop-again-18 : tie.Need-loop-again-18 Inv-loop2 μ-loop2 Inv-loop3 μ-loop3 Inv-loop μ-loop
 unfolding freshStation fresh unsentAll
 loop-again-18 c =
+    let told = c .before .before .before .before .before .before .before .before .before .before .before .before .before .before .before .before .before .before .before .before .before .before .before .before .before .before .before .before .before in
+    let read = told .before .before in
+    let turn = read .before .before .before .before in
     ack-held _ _ _ _ _ _ _ _ _ _ _ (c .before .before .before .before .before .before .before .before .before .before .before .before .before .before .before .before .before .before .before .before .before .before .before .before .seat2 .ensures) _ (c .before .before .before .before .before .before .before .before .before .before .before .before .before .before .before .before .before .before .before .condition-of2 .ensures) _ _ (c .before .before .before .before .before .before .before .before .before .before .before .before .before .before .before .before .before .before .before .before .before .before .before .seat3 .ensures) _ _ (c .before .before .before .before .before .before .before .before .before .before .before .before .before .before .before .before .before .before .before .before .before .outgoing .ensures)
-    (reading _ _ _ _ _ _ _ _ _ _ _ _ (c .before .before .before .before .before .before .before .before .before .before .before .before .before .before .before .before .before .before .before .before .before .before .before .before .before .before .before .before .before .before .before .before .before .before .before .before .loop .inv) (c .before .before .before .before .before .before .before .before .before .before .before .before .before .before .before .before .before .before .before .before .before .before .before .before .before .before .before .before .before .before .before .before .before .before .before .loop-test .taken) (c .before .before .before .before .before .before .before .before .before .before .before .before .before .before .before .before .before .before .before .before .before .before .before .before .before .before .before .before .before .before .before .before .before .place-of .ensures) _ (c .before .before .before .before .before .before .before .before .before .before .before .before .before .before .before .before .before .before .before .before .before .before .before .before .before .before .before .before .before .before .before .before .is-pending .ensures) _ (c .before .before .before .before .before .before .before .before .before .before .before .before .before .before .before .before .before .before .before .before .before .before .before .before .before .before .before .before .before .before .before .next-at .ensures) (c .before .before .before .before .before .before .before .before .before .before .before .before .before .before .before .before .before .before .before .before .before .before .before .before .before .before .before .before .before .next2 .given .1 ∙ ap Plays (c .before .before .before .before .before .before .before .before .before .before .before .before .before .before .before .before .before .before .before .before .before .before .before .before .before .before .e4 .given .1))) (c .before .before .before .before .before .before .before .before .before .before .before .before .before .before .before .before .before .before .deliver-question .ensures)
+    (reading _ _ _ _ _ _ _ _ _ _ _ _ (turn .before .loop .inv) (turn .loop-test .taken) (read .before .before .place-of .ensures) _ (read .before .is-pending .ensures) _ (read .next-at .ensures) (told .next2 .given .1 ∙ ap Plays (c .before .before .before .before .before .before .before .before .before .before .before .before .before .before .before .before .before .before .before .before .before .before .before .before .before .before .e4 .given .1))) (c .before .before .before .before .before .before .before .before .before .before .before .before .before .before .before .before .before .before .deliver-question .ensures)
     (c .before .before .before .before .before .before .before .before .before .before .before .before .before .before .before .enum-told4 .given .1) (c .before .before .before .before .before .before .before .before .before .before .before .before .before .before .before .before .before .if10 .left) _ (c .before .before .before .before .before .before .before .before .before .before .before .before .before .condition-of3 .ensures) _ (c .before .before .before .before .before .before .before .before .before .before .before .before .takes-ack .ensures) (not-false (c .before .before .before .before .before .before .before .before .before .before .before .before .takes-ack .result) (c .before .before .before .before .before .before .before .before .before .before .before .if11 .left)) (not-true _ (c .if12 .taken)) _ _ _ (c .before .before .before .before .before .before .before .insert .ensures) (c .before .before .before .before .before .before .bump .ensures) refl
 
 mul-stations-5 : tie.Need-mul-stations-5 Inv-loop2 μ-loop2 Inv-loop3 μ-loop3 Inv-loop μ-loop
@@ -324,13 +488,18 @@ array-set-from-stations-5 : tie.Need-array-set-from-stations-5 Inv-loop2 μ-loop
 array-set-from-stations-5 c = omega (arith, c .before .before .before .before .before .before .before .before .before .before .before .before .before .before .before .before .before .before .before .before .before .before .before .before .before .before .before .before .seat2 .ensures .0)
 
 loop-less-19 : tie.Need-loop-less-19 Inv-loop2 μ-loop2 Inv-loop3 μ-loop3 Inv-loop μ-loop
-loop-less-19 c = omega (arith, c .before .before .before .before .before .before .before .before .before .before .before .before .before .before .before .before .before .before .before .before .before .before .before .before .before .before .before .before .before .before .before .before .before .before .before .before .before .before .before .loop-test .taken)
+loop-less-19 c =
+    let turn = c .before .before .before .before .before .before .before .before .before .before .before .before .before .before .before .before .before .before .before .before .before .before .before .before .before .before .before .before .before .before .before .before .before .before .before .before .before .before .before in
+    omega (arith, turn .loop-test .taken)
 
 loop-again-19 : tie.Need-loop-again-19 Inv-loop2 μ-loop2 Inv-loop3 μ-loop3 Inv-loop μ-loop
 unfolding freshStation fresh unsentAll
 loop-again-19 c =
+    let told = c .before .before .before .before .before .before .before .before .before .before .before .before .before .before .before .before .before .before .before .before .before .before .before .before .before .before .before .before .before .before .before .before .before in
+    let read = told .before .before in
+    let turn = read .before .before .before .before in
     ack-put _ _ _ _ _ _ _ _ _ _ _ (c .before .before .before .before .before .before .before .before .before .before .before .before .before .before .before .before .before .before .before .before .before .before .before .before .before .before .before .before .seat2 .ensures) _ (c .before .before .before .before .before .before .before .before .before .before .before .before .before .before .before .before .before .before .before .before .before .before .before .condition-of2 .ensures) _ _ (c .before .before .before .before .before .before .before .before .before .before .before .before .before .before .before .before .before .before .before .before .before .before .before .before .before .before .before .seat3 .ensures) _ _ (c .before .before .before .before .before .before .before .before .before .before .before .before .before .before .before .before .before .before .before .before .before .before .before .before .before .outgoing .ensures)
-    (reading _ _ _ _ _ _ _ _ _ _ _ _ (c .before .before .before .before .before .before .before .before .before .before .before .before .before .before .before .before .before .before .before .before .before .before .before .before .before .before .before .before .before .before .before .before .before .before .before .before .before .before .before .before .loop .inv) (c .before .before .before .before .before .before .before .before .before .before .before .before .before .before .before .before .before .before .before .before .before .before .before .before .before .before .before .before .before .before .before .before .before .before .before .before .before .before .before .loop-test .taken) (c .before .before .before .before .before .before .before .before .before .before .before .before .before .before .before .before .before .before .before .before .before .before .before .before .before .before .before .before .before .before .before .before .before .before .before .before .before .place-of .ensures) _ (c .before .before .before .before .before .before .before .before .before .before .before .before .before .before .before .before .before .before .before .before .before .before .before .before .before .before .before .before .before .before .before .before .before .before .before .before .is-pending .ensures) _ (c .before .before .before .before .before .before .before .before .before .before .before .before .before .before .before .before .before .before .before .before .before .before .before .before .before .before .before .before .before .before .before .before .before .before .before .next-at .ensures) (c .before .before .before .before .before .before .before .before .before .before .before .before .before .before .before .before .before .before .before .before .before .before .before .before .before .before .before .before .before .before .before .before .before .next2 .given .1 ∙ ap Plays (c .before .before .before .before .before .before .before .before .before .before .before .before .before .before .before .before .before .before .before .before .before .before .before .before .before .before .before .before .before .before .e4 .given .1))) (c .before .before .before .before .before .before .before .before .before .before .before .before .before .before .before .before .before .before .before .before .before .before .deliver-question .ensures)
+    (reading _ _ _ _ _ _ _ _ _ _ _ _ (turn .before .loop .inv) (turn .loop-test .taken) (read .before .before .place-of .ensures) _ (read .before .is-pending .ensures) _ (read .next-at .ensures) (told .next2 .given .1 ∙ ap Plays (c .before .before .before .before .before .before .before .before .before .before .before .before .before .before .before .before .before .before .before .before .before .before .before .before .before .before .before .before .before .before .e4 .given .1))) (c .before .before .before .before .before .before .before .before .before .before .before .before .before .before .before .before .before .before .before .before .before .before .deliver-question .ensures)
     (c .before .before .before .before .before .before .before .before .before .before .before .before .before .before .before .before .before .before .before .enum-told4 .given .1) (c .before .before .before .before .before .before .before .before .before .before .before .before .before .before .before .before .before .before .before .before .before .if10 .left) _ (c .before .before .before .before .before .before .before .before .before .before .before .before .before .before .before .before .before .condition-of3 .ensures) _ (c .before .before .before .before .before .before .before .before .before .before .before .before .before .before .before .before .takes-ack .ensures) (not-false (c .before .before .before .before .before .before .before .before .before .before .before .before .before .before .before .before .takes-ack .result) (c .before .before .before .before .before .before .before .before .before .before .before .before .before .before .before .if11 .left)) _ _ _ (c .before .before .before .before .before .before .before .before .before .before .before .insert .ensures) (c .before .before .before .before .before .before .before .before .before .before .bump .ensures) refl _ (c .before .before .settled-turn .ensures)
 
 mul-stations-6 : tie.Need-mul-stations-6 Inv-loop2 μ-loop2 Inv-loop3 μ-loop3 Inv-loop μ-loop
@@ -340,13 +509,18 @@ array-set-from-stations-6 : tie.Need-array-set-from-stations-6 Inv-loop2 μ-loop
 array-set-from-stations-6 c = omega (arith, c .before .before .before .before .before .before .before .before .before .before .before .seat2 .ensures .0)
 
 loop-less-20 : tie.Need-loop-less-20 Inv-loop2 μ-loop2 Inv-loop3 μ-loop3 Inv-loop μ-loop
-loop-less-20 c = omega (arith, c .before .before .before .before .before .before .before .before .before .before .before .before .before .before .before .before .before .before .before .before .before .before .loop-test .taken)
+loop-less-20 c =
+    let turn = c .before .before .before .before .before .before .before .before .before .before .before .before .before .before .before .before .before .before .before .before .before .before in
+    omega (arith, turn .loop-test .taken)
 
 loop-again-20 : tie.Need-loop-again-20 Inv-loop2 μ-loop2 Inv-loop3 μ-loop3 Inv-loop μ-loop
 unfolding freshStation fresh unsentAll
 loop-again-20 c =
+    let told = c .before .before .before .before .before .before .before .before .before .before .before .before .before .before .before .before in
+    let read = told .before .before in
+    let turn = read .before .before .before .before in
     help-accepted _ _ _ _ _ _ _ _ _ _ _ (c .before .before .before .before .before .before .before .before .before .before .before .seat2 .ensures) _ (c .before .before .before .before .before .before .condition-of2 .ensures) _ _ (c .before .before .before .before .before .before .before .before .before .before .seat3 .ensures) _ _ (c .before .before .before .before .before .before .before .before .outgoing .ensures)
-    (reading _ _ _ _ _ _ _ _ _ _ _ _ (c .before .before .before .before .before .before .before .before .before .before .before .before .before .before .before .before .before .before .before .before .before .before .before .loop .inv) (c .before .before .before .before .before .before .before .before .before .before .before .before .before .before .before .before .before .before .before .before .before .before .loop-test .taken) (c .before .before .before .before .before .before .before .before .before .before .before .before .before .before .before .before .before .before .before .before .place-of .ensures) _ (c .before .before .before .before .before .before .before .before .before .before .before .before .before .before .before .before .before .before .before .is-pending .ensures) _ (c .before .before .before .before .before .before .before .before .before .before .before .before .before .before .before .before .before .before .next-at .ensures) (c .before .before .before .before .before .before .before .before .before .before .before .before .before .before .before .before .next2 .given .1 ∙ ap Plays (c .before .before .before .before .before .before .before .before .before .before .before .before .before .e4 .given .1))) (c .before .before .before .before .before .deliver-question .ensures)
+    (reading _ _ _ _ _ _ _ _ _ _ _ _ (turn .before .loop .inv) (turn .loop-test .taken) (read .before .before .place-of .ensures) _ (read .before .is-pending .ensures) _ (read .next-at .ensures) (told .next2 .given .1 ∙ ap Plays (c .before .before .before .before .before .before .before .before .before .before .before .before .before .e4 .given .1))) (c .before .before .before .before .before .deliver-question .ensures)
     (c .before .before .enum-told5 .given .1) (c .before .before .before .before .if10 .left) _ (c .help-turn .ensures)
 
 mul-stations-7 : tie.Need-mul-stations-7 Inv-loop2 μ-loop2 Inv-loop3 μ-loop3 Inv-loop μ-loop
@@ -356,32 +530,48 @@ array-set-from-stations-7 : tie.Need-array-set-from-stations-7 Inv-loop2 μ-loop
 array-set-from-stations-7 c = omega (arith, c .before .before .before .before .before .before .before .before .before .before .before .before .before .before .before .seat2 .ensures .0)
 
 loop-less-21 : tie.Need-loop-less-21 Inv-loop2 μ-loop2 Inv-loop3 μ-loop3 Inv-loop μ-loop
-loop-less-21 c = omega (arith, c .before .before .before .before .before .before .before .before .before .before .before .before .before .before .before .before .before .before .before .before .before .before .before .before .before .before .loop-test .taken)
+loop-less-21 c =
+    let turn = c .before .before .before .before .before .before .before .before .before .before .before .before .before .before .before .before .before .before .before .before .before .before .before .before .before .before in
+    omega (arith, turn .loop-test .taken)
 
 loop-again-21 : tie.Need-loop-again-21 Inv-loop2 μ-loop2 Inv-loop3 μ-loop3 Inv-loop μ-loop
 unfolding freshStation fresh unsentAll
 loop-again-21 c =
+    let told = c .before .before .before .before .before .before .before .before .before .before .before .before .before .before .before .before .before .before .before .before in
+    let read = told .before .before in
+    let turn = read .before .before .before .before in
     helped-accepted _ _ _ _ _ _ _ _ _ _ _ (c .before .before .before .before .before .before .before .before .before .before .before .before .before .before .before .seat2 .ensures) _ (c .before .before .before .before .before .before .before .before .before .before .condition-of2 .ensures) _ _ (c .before .before .before .before .before .before .before .before .before .before .before .before .before .before .seat3 .ensures) _ _ (c .before .before .before .before .before .before .before .before .before .before .before .before .outgoing .ensures)
-    (reading _ _ _ _ _ _ _ _ _ _ _ _ (c .before .before .before .before .before .before .before .before .before .before .before .before .before .before .before .before .before .before .before .before .before .before .before .before .before .before .before .loop .inv) (c .before .before .before .before .before .before .before .before .before .before .before .before .before .before .before .before .before .before .before .before .before .before .before .before .before .before .loop-test .taken) (c .before .before .before .before .before .before .before .before .before .before .before .before .before .before .before .before .before .before .before .before .before .before .before .before .place-of .ensures) _ (c .before .before .before .before .before .before .before .before .before .before .before .before .before .before .before .before .before .before .before .before .before .before .before .is-pending .ensures) _ (c .before .before .before .before .before .before .before .before .before .before .before .before .before .before .before .before .before .before .before .before .before .before .next-at .ensures) (c .before .before .before .before .before .before .before .before .before .before .before .before .before .before .before .before .before .before .before .before .next2 .given .1 ∙ ap Plays (c .before .before .before .before .before .before .before .before .before .before .before .before .before .before .before .before .before .e4 .given .1))) (c .before .before .before .before .before .before .before .before .before .deliver-question .ensures)
+    (reading _ _ _ _ _ _ _ _ _ _ _ _ (turn .before .loop .inv) (turn .loop-test .taken) (read .before .before .place-of .ensures) _ (read .before .is-pending .ensures) _ (read .next-at .ensures) (told .next2 .given .1 ∙ ap Plays (c .before .before .before .before .before .before .before .before .before .before .before .before .before .before .before .before .before .e4 .given .1))) (c .before .before .before .before .before .before .before .before .before .deliver-question .ensures)
     (c .before .before .before .before .before .before .enum-told6 .given .1) (c .before .before .before .before .before .before .before .before .if10 .left) _ (c .before .before .before .before .outgoing2 .ensures) _ (c .before .before .helped-turn .ensures)
 
 slice-write-answers-7 : tie.Need-slice-write-answers-7 Inv-loop2 μ-loop2 Inv-loop3 μ-loop3 Inv-loop μ-loop
-slice-write-answers-7 c = omega (arith, in-place _ _ _ _ _ _ _ _ _ (reading _ _ _ _ _ _ _ _ _ _ _ _ (c .before .before .before .before .before .before .before .before .before .before .before .before .before .before .before .loop .inv) (c .before .before .before .before .before .before .before .before .before .before .before .before .before .before .loop-test .taken) (c .before .before .before .before .before .before .before .before .before .before .before .before .place-of .ensures) _ (c .before .before .before .before .before .before .before .before .before .before .before .is-pending .ensures) _ (c .before .before .before .before .before .before .before .before .before .before .next-at .ensures) (c .before .before .before .before .before .before .before .before .next2 .given .1 ∙ ap Plays (c .before .before .before .before .before .e5 .given .1))))
+slice-write-answers-7 c =
+    let told = c .before .before .before .before .before .before .before .before in
+    let read = told .before .before in
+    let turn = read .before .before .before .before in
+    omega (arith, in-place _ _ _ _ _ _ _ _ _ (reading _ _ _ _ _ _ _ _ _ _ _ _ (turn .before .loop .inv) (turn .loop-test .taken) (read .before .before .place-of .ensures) _ (read .before .is-pending .ensures) _ (read .next-at .ensures) (told .next2 .given .1 ∙ ap Plays (c .before .before .before .before .before .e5 .given .1))))
 
 add-k-7 : tie.Need-add-k-7 Inv-loop2 μ-loop2 Inv-loop3 μ-loop3 Inv-loop μ-loop
 add-k-7 c =
-    let a = c .before .before .before .before .before .before .before .before .before .before .before .before .before .before .before .before .before .before .before .before .before .before .before .before .before in
-    let p = place-within (a .args .s .now) (a .args .from) (c .before .before .before .before .before .before .before .before .before .before .before .before .before .before .before .before .before .before .before .before .before .before .count-from .result) (c .before .before .before .before .before .before .before .before .before .before .before .before .before .before .before .loop .k) (c .before .before .before .before .before .before .before .before .before .before .before .before .before .before .before .loop .inv .whole) (c .before .before .before .before .before .before .before .before .before .before .before .before .before .before .loop-test .taken) in
+    let turn = c .before .before .before .before .before .before .before .before .before .before .before .before .before .before in
+    let ahead = turn .before .before .before .before .before .before .before .before in
+    let a = ahead .before .before .before in
+    let p = place-within (a .args .s .now) (a .args .from) (ahead .count-from .result) (turn .before .loop .k) (turn .before .loop .inv .whole) (turn .loop-test .taken) in
     omega (arith, p, a .good .0 .0)
 
 loop-less-22 : tie.Need-loop-less-22 Inv-loop2 μ-loop2 Inv-loop3 μ-loop3 Inv-loop μ-loop
-loop-less-22 c = omega (arith, c .before .before .before .before .before .before .before .before .before .before .before .before .before .before .before .loop-test .taken)
+loop-less-22 c =
+    let turn = c .before .before .before .before .before .before .before .before .before .before .before .before .before .before .before in
+    omega (arith, turn .loop-test .taken)
 
 loop-again-22 : tie.Need-loop-again-22 Inv-loop2 μ-loop2 Inv-loop3 μ-loop3 Inv-loop μ-loop
 unfolding freshStation fresh unsentAll
 loop-again-22 c =
+    let told = c .before .before .before .before .before .before .before .before .before in
+    let read = told .before .before in
+    let turn = read .before .before .before .before in
     timeout-refused _ _ _ _ _ _ _ _ _ _ _ (c .before .before .before .before .seat4 .ensures) _ (c .before .before .condition-of4 .ensures)
-    (reading _ _ _ _ _ _ _ _ _ _ _ _ (c .before .before .before .before .before .before .before .before .before .before .before .before .before .before .before .before .loop .inv) (c .before .before .before .before .before .before .before .before .before .before .before .before .before .before .before .loop-test .taken) (c .before .before .before .before .before .before .before .before .before .before .before .before .before .place-of .ensures) _ (c .before .before .before .before .before .before .before .before .before .before .before .before .is-pending .ensures) _ (c .before .before .before .before .before .before .before .before .before .before .before .next-at .ensures) (c .before .before .before .before .before .before .before .before .before .next2 .given .1 ∙ ap Plays (c .before .before .before .before .before .before .e5 .given .1))) (c .before .timeout-question .ensures)
+    (reading _ _ _ _ _ _ _ _ _ _ _ _ (turn .before .loop .inv) (turn .loop-test .taken) (read .before .before .place-of .ensures) _ (read .before .is-pending .ensures) _ (read .next-at .ensures) (told .next2 .given .1 ∙ ap Plays (c .before .before .before .before .before .before .e5 .given .1))) (c .before .timeout-question .ensures)
     (c .if13 .taken)
 
 mul-stations-8 : tie.Need-mul-stations-8 Inv-loop2 μ-loop2 Inv-loop3 μ-loop3 Inv-loop μ-loop
@@ -391,13 +581,18 @@ array-set-from-stations-8 : tie.Need-array-set-from-stations-8 Inv-loop2 μ-loop
 array-set-from-stations-8 c = omega (arith, c .before .before .before .before .before .before .before .before .before .before .before .before .before .before .before .before .before .before .before .before .before .seat4 .ensures .0)
 
 loop-less-23 : tie.Need-loop-less-23 Inv-loop2 μ-loop2 Inv-loop3 μ-loop3 Inv-loop μ-loop
-loop-less-23 c = omega (arith, c .before .before .before .before .before .before .before .before .before .before .before .before .before .before .before .before .before .before .before .before .before .before .before .before .before .before .before .before .before .before .before .before .loop-test .taken)
+loop-less-23 c =
+    let turn = c .before .before .before .before .before .before .before .before .before .before .before .before .before .before .before .before .before .before .before .before .before .before .before .before .before .before .before .before .before .before .before .before in
+    omega (arith, turn .loop-test .taken)
 
 loop-again-23 : tie.Need-loop-again-23 Inv-loop2 μ-loop2 Inv-loop3 μ-loop3 Inv-loop μ-loop
 unfolding freshStation fresh unsentAll
 loop-again-23 c =
+    let told = c .before .before .before .before .before .before .before .before .before .before .before .before .before .before .before .before .before .before .before .before .before .before .before .before .before .before in
+    let read = told .before .before in
+    let turn = read .before .before .before .before in
     first-laid _ _ _ _ _ _ _ _ _ _ _ (c .before .before .before .before .before .before .before .before .before .before .before .before .before .before .before .before .before .before .before .before .before .seat4 .ensures) _ (c .before .before .before .before .before .before .before .before .before .before .before .before .before .before .before .before .before .before .before .condition-of4 .ensures)
-    (reading _ _ _ _ _ _ _ _ _ _ _ _ (c .before .before .before .before .before .before .before .before .before .before .before .before .before .before .before .before .before .before .before .before .before .before .before .before .before .before .before .before .before .before .before .before .before .loop .inv) (c .before .before .before .before .before .before .before .before .before .before .before .before .before .before .before .before .before .before .before .before .before .before .before .before .before .before .before .before .before .before .before .before .loop-test .taken) (c .before .before .before .before .before .before .before .before .before .before .before .before .before .before .before .before .before .before .before .before .before .before .before .before .before .before .before .before .before .before .place-of .ensures) _ (c .before .before .before .before .before .before .before .before .before .before .before .before .before .before .before .before .before .before .before .before .before .before .before .before .before .before .before .before .before .is-pending .ensures) _ (c .before .before .before .before .before .before .before .before .before .before .before .before .before .before .before .before .before .before .before .before .before .before .before .before .before .before .before .before .next-at .ensures) (c .before .before .before .before .before .before .before .before .before .before .before .before .before .before .before .before .before .before .before .before .before .before .before .before .before .before .next2 .given .1 ∙ ap Plays (c .before .before .before .before .before .before .before .before .before .before .before .before .before .before .before .before .before .before .before .before .before .before .before .e5 .given .1))) (c .before .before .before .before .before .before .before .before .before .before .before .before .before .before .before .before .before .before .timeout-question .ensures)
+    (reading _ _ _ _ _ _ _ _ _ _ _ _ (turn .before .loop .inv) (turn .loop-test .taken) (read .before .before .place-of .ensures) _ (read .before .is-pending .ensures) _ (read .next-at .ensures) (told .next2 .given .1 ∙ ap Plays (c .before .before .before .before .before .before .before .before .before .before .before .before .before .before .before .before .before .before .before .before .before .before .before .e5 .given .1))) (c .before .before .before .before .before .before .before .before .before .before .before .before .before .before .before .before .before .before .timeout-question .ensures)
     (c .before .before .before .before .before .before .before .before .before .before .before .before .before .before .before .before .before .if13 .left) _ (c .before .before .before .before .before .before .before .before .before .before .before .before .before .before .before .before .phase-in .ensures ∙ ap phaseIn (c .before .before .before .before .before .before .before .before .before .before .before .before .before .before .before .before .before .before .before .condition-of4 .ensures)) (c .before .before .before .before .before .before .before .before .before .before .before .before .before .before .before .if14 .taken) _ (c .before .before .before .before .before .before .before .before .before .before .before .before .counts-own .ensures) _ (c .before .before .before .before .before .before .before .before .set-if .ensures) _ (c .before .before .before .before .before .before .before .from-if .ensures) _ (c .before .before .before .before .before .before .cnt-if .ensures) _ refl _ (c .first-turn .ensures)
 
 mul-stations-9 : tie.Need-mul-stations-9 Inv-loop2 μ-loop2 Inv-loop3 μ-loop3 Inv-loop μ-loop
@@ -407,13 +602,18 @@ array-set-from-stations-9 : tie.Need-array-set-from-stations-9 Inv-loop2 μ-loop
 array-set-from-stations-9 c = omega (arith, c .before .before .before .before .before .before .before .before .before .before .seat4 .ensures .0)
 
 loop-less-24 : tie.Need-loop-less-24 Inv-loop2 μ-loop2 Inv-loop3 μ-loop3 Inv-loop μ-loop
-loop-less-24 c = omega (arith, c .before .before .before .before .before .before .before .before .before .before .before .before .before .before .before .before .before .before .before .before .before .loop-test .taken)
+loop-less-24 c =
+    let turn = c .before .before .before .before .before .before .before .before .before .before .before .before .before .before .before .before .before .before .before .before .before in
+    omega (arith, turn .loop-test .taken)
 
 loop-again-24 : tie.Need-loop-again-24 Inv-loop2 μ-loop2 Inv-loop3 μ-loop3 Inv-loop μ-loop
 unfolding freshStation fresh unsentAll
 loop-again-24 c =
+    let told = c .before .before .before .before .before .before .before .before .before .before .before .before .before .before .before in
+    let read = told .before .before in
+    let turn = read .before .before .before .before in
     second-accepted _ _ _ _ _ _ _ _ _ _ _ (c .before .before .before .before .before .before .before .before .before .before .seat4 .ensures) _ (c .before .before .before .before .before .before .before .before .condition-of4 .ensures)
-    (reading _ _ _ _ _ _ _ _ _ _ _ _ (c .before .before .before .before .before .before .before .before .before .before .before .before .before .before .before .before .before .before .before .before .before .before .loop .inv) (c .before .before .before .before .before .before .before .before .before .before .before .before .before .before .before .before .before .before .before .before .before .loop-test .taken) (c .before .before .before .before .before .before .before .before .before .before .before .before .before .before .before .before .before .before .before .place-of .ensures) _ (c .before .before .before .before .before .before .before .before .before .before .before .before .before .before .before .before .before .before .is-pending .ensures) _ (c .before .before .before .before .before .before .before .before .before .before .before .before .before .before .before .before .before .next-at .ensures) (c .before .before .before .before .before .before .before .before .before .before .before .before .before .before .before .next2 .given .1 ∙ ap Plays (c .before .before .before .before .before .before .before .before .before .before .before .before .e5 .given .1))) (c .before .before .before .before .before .before .before .timeout-question .ensures)
+    (reading _ _ _ _ _ _ _ _ _ _ _ _ (turn .before .loop .inv) (turn .loop-test .taken) (read .before .before .place-of .ensures) _ (read .before .is-pending .ensures) _ (read .next-at .ensures) (told .next2 .given .1 ∙ ap Plays (c .before .before .before .before .before .before .before .before .before .before .before .before .e5 .given .1))) (c .before .before .before .before .before .before .before .timeout-question .ensures)
     (c .before .before .before .before .before .before .if13 .left) (λ z. c .before .before .before .before .if14 .left (c .before .before .before .before .before .phase-in .ensures ∙ ap phaseIn (c .before .before .before .before .before .before .before .before .condition-of4 .ensures) ∙ z)) _ (c .before .before .second-turn .ensures)
 
 loop3-holds : tie.Need-loop3-holds Inv-loop2 μ-loop2 Inv-loop3 μ-loop3 Inv-loop μ-loop
@@ -436,23 +636,34 @@ unfolding freshStation fresh unsentAll newRow
 loop3-again c = (omega arith, more-chosen _ _ _ _ _ _ (c .before .before .before .loop3 .inv .1) (c .chosen-at .ensures))
 
 slice-write-answers-8 : tie.Need-slice-write-answers-8 Inv-loop2 μ-loop2 Inv-loop3 μ-loop3 Inv-loop μ-loop
-slice-write-answers-8 c = omega (arith, in-place _ _ _ _ _ _ _ _ _ (reading _ _ _ _ _ _ _ _ _ _ _ _ (c .before .before .before .before .before .before .before .before .before .before .before .before .before .before .before .before .before .before .before .loop .inv) (c .before .before .before .before .before .before .before .before .before .before .before .before .before .before .before .before .before .before .loop-test .taken) (c .before .before .before .before .before .before .before .before .before .before .before .before .before .before .before .before .place-of .ensures) _ (c .before .before .before .before .before .before .before .before .before .before .before .before .before .before .before .is-pending .ensures) _ (c .before .before .before .before .before .before .before .before .before .before .before .before .before .before .next-at .ensures) (c .before .before .before .before .before .before .before .before .before .before .before .before .next2 .given .1 ∙ ap Plays (c .before .before .before .before .before .before .before .before .before .e6 .given .1))))
+slice-write-answers-8 c =
+    let told = c .before .before .before .before .before .before .before .before .before .before .before .before in
+    let read = told .before .before in
+    let turn = read .before .before .before .before in
+    omega (arith, in-place _ _ _ _ _ _ _ _ _ (reading _ _ _ _ _ _ _ _ _ _ _ _ (turn .before .loop .inv) (turn .loop-test .taken) (read .before .before .place-of .ensures) _ (read .before .is-pending .ensures) _ (read .next-at .ensures) (told .next2 .given .1 ∙ ap Plays (c .before .before .before .before .before .before .before .before .before .e6 .given .1))))
 
 add-k-8 : tie.Need-add-k-8 Inv-loop2 μ-loop2 Inv-loop3 μ-loop3 Inv-loop μ-loop
 add-k-8 c =
-    let a = c .before .before .before .before .before .before .before .before .before .before .before .before .before .before .before .before .before .before .before .before .before .before .before .before .before .before .before .before .before in
-    let p = place-within (a .args .s .now) (a .args .from) (c .before .before .before .before .before .before .before .before .before .before .before .before .before .before .before .before .before .before .before .before .before .before .before .before .before .before .count-from .result) (c .before .before .before .before .before .before .before .before .before .before .before .before .before .before .before .before .before .before .before .loop .k) (c .before .before .before .before .before .before .before .before .before .before .before .before .before .before .before .before .before .before .before .loop .inv .whole) (c .before .before .before .before .before .before .before .before .before .before .before .before .before .before .before .before .before .before .loop-test .taken) in
+    let turn = c .before .before .before .before .before .before .before .before .before .before .before .before .before .before .before .before .before .before in
+    let ahead = turn .before .before .before .before .before .before .before .before in
+    let a = ahead .before .before .before in
+    let p = place-within (a .args .s .now) (a .args .from) (ahead .count-from .result) (turn .before .loop .k) (turn .before .loop .inv .whole) (turn .loop-test .taken) in
     omega (arith, p, a .good .0 .0)
 
 loop-less-25 : tie.Need-loop-less-25 Inv-loop2 μ-loop2 Inv-loop3 μ-loop3 Inv-loop μ-loop
-loop-less-25 c = omega (arith, c .before .before .before .before .before .before .before .before .before .before .before .before .before .before .before .before .before .before .before .loop-test .taken)
+loop-less-25 c =
+    let turn = c .before .before .before .before .before .before .before .before .before .before .before .before .before .before .before .before .before .before .before in
+    omega (arith, turn .loop-test .taken)
 
 loop-again-25 : tie.Need-loop-again-25 Inv-loop2 μ-loop2 Inv-loop3 μ-loop3 Inv-loop μ-loop
 unfolding freshStation fresh unsentAll newRow
 loop-again-25 c =
+    let told = c .before .before .before .before .before .before .before .before .before .before .before .before .before in
+    let read = told .before .before in
+    let turn = read .before .before .before .before in
     let end : c .before .before .before .before .before .before .loop3 .i ≡ c .before .before .before .before .before .before .before .ballots-asked .result = omega (arith, c .before .before .before .before .before .before .loop3 .inv .0, c .before .before .before .before .before .loop3-test .left) in
-    decide-refused _ _ _ _ _ _ _ _ _ _ _ (c .before .before .before .before .before .before .before .before .seat5 .ensures) _ (c .before .before .condition-of5 .ensures) _ _ (may-give (c .before .before .before .before .before .before .before .before .before .before .before .before .before .before .before .before .before .before .before .before .loop .m) _ _ _ _ _ _ (c .before .before .before .before .before .before .before .ballots-asked .ensures .0) end (c .before .before .before .before .before .before .loop3 .inv .1) (c .before .before .before .before .may-give .ensures))
-    (reading _ _ _ _ _ _ _ _ _ _ _ _ (c .before .before .before .before .before .before .before .before .before .before .before .before .before .before .before .before .before .before .before .before .loop .inv) (c .before .before .before .before .before .before .before .before .before .before .before .before .before .before .before .before .before .before .before .loop-test .taken) (c .before .before .before .before .before .before .before .before .before .before .before .before .before .before .before .before .before .place-of .ensures) _ (c .before .before .before .before .before .before .before .before .before .before .before .before .before .before .before .before .is-pending .ensures) _ (c .before .before .before .before .before .before .before .before .before .before .before .before .before .before .before .next-at .ensures) (c .before .before .before .before .before .before .before .before .before .before .before .before .before .next2 .given .1 ∙ ap Plays (c .before .before .before .before .before .before .before .before .before .before .e6 .given .1))) (c .before .decide-question .ensures false) (c .if15 .taken)
+    decide-refused _ _ _ _ _ _ _ _ _ _ _ (c .before .before .before .before .before .before .before .before .seat5 .ensures) _ (c .before .before .condition-of5 .ensures) _ _ (may-give (turn .before .loop .m) _ _ _ _ _ _ (c .before .before .before .before .before .before .before .ballots-asked .ensures .0) end (c .before .before .before .before .before .before .loop3 .inv .1) (c .before .before .before .before .may-give .ensures))
+    (reading _ _ _ _ _ _ _ _ _ _ _ _ (turn .before .loop .inv) (turn .loop-test .taken) (read .before .before .place-of .ensures) _ (read .before .is-pending .ensures) _ (read .next-at .ensures) (told .next2 .given .1 ∙ ap Plays (c .before .before .before .before .before .before .before .before .before .before .e6 .given .1))) (c .before .decide-question .ensures false) (c .if15 .taken)
 
 mul-stations-10 : tie.Need-mul-stations-10 Inv-loop2 μ-loop2 Inv-loop3 μ-loop3 Inv-loop μ-loop
 mul-stations-10 c = omega (arith, c .before .before .before .before .before .before .before .before .before .before .before .before .seat5 .ensures .0)
@@ -461,32 +672,48 @@ array-set-from-stations-10 : tie.Need-array-set-from-stations-10 Inv-loop2 μ-lo
 array-set-from-stations-10 c = omega (arith, c .before .before .before .before .before .before .before .before .before .before .before .before .seat5 .ensures .0)
 
 loop-less-26 : tie.Need-loop-less-26 Inv-loop2 μ-loop2 Inv-loop3 μ-loop3 Inv-loop μ-loop
-loop-less-26 c = omega (arith, c .before .before .before .before .before .before .before .before .before .before .before .before .before .before .before .before .before .before .before .before .before .before .before .loop-test .taken)
+loop-less-26 c =
+    let turn = c .before .before .before .before .before .before .before .before .before .before .before .before .before .before .before .before .before .before .before .before .before .before .before in
+    omega (arith, turn .loop-test .taken)
 
 loop-again-26 : tie.Need-loop-again-26 Inv-loop2 μ-loop2 Inv-loop3 μ-loop3 Inv-loop μ-loop
 unfolding freshStation fresh unsentAll newRow
 loop-again-26 c =
+    let told = c .before .before .before .before .before .before .before .before .before .before .before .before .before .before .before .before .before in
+    let read = told .before .before in
+    let turn = read .before .before .before .before in
     let end : c .before .before .before .before .before .before .before .before .before .before .loop3 .i ≡ c .before .before .before .before .before .before .before .before .before .before .before .ballots-asked .result = omega (arith, c .before .before .before .before .before .before .before .before .before .before .loop3 .inv .0, c .before .before .before .before .before .before .before .before .before .loop3-test .left) in
-    decide-accepted _ _ _ _ _ _ _ _ _ _ _ (c .before .before .before .before .before .before .before .before .before .before .before .before .seat5 .ensures) _ (c .before .before .before .before .before .before .condition-of5 .ensures) _ _ (may-give (c .before .before .before .before .before .before .before .before .before .before .before .before .before .before .before .before .before .before .before .before .before .before .before .before .loop .m) _ _ _ _ _ _ (c .before .before .before .before .before .before .before .before .before .before .before .ballots-asked .ensures .0) end (c .before .before .before .before .before .before .before .before .before .before .loop3 .inv .1) (c .before .before .before .before .before .before .before .before .may-give .ensures))
-    (reading _ _ _ _ _ _ _ _ _ _ _ _ (c .before .before .before .before .before .before .before .before .before .before .before .before .before .before .before .before .before .before .before .before .before .before .before .before .loop .inv) (c .before .before .before .before .before .before .before .before .before .before .before .before .before .before .before .before .before .before .before .before .before .before .before .loop-test .taken) (c .before .before .before .before .before .before .before .before .before .before .before .before .before .before .before .before .before .before .before .before .before .place-of .ensures) _ (c .before .before .before .before .before .before .before .before .before .before .before .before .before .before .before .before .before .before .before .before .is-pending .ensures) _ (c .before .before .before .before .before .before .before .before .before .before .before .before .before .before .before .before .before .before .before .next-at .ensures) (c .before .before .before .before .before .before .before .before .before .before .before .before .before .before .before .before .before .next2 .given .1 ∙ ap Plays (c .before .before .before .before .before .before .before .before .before .before .before .before .before .before .e6 .given .1))) (c .before .before .before .before .before .decide-question .ensures false) (c .before .before .before .before .if15 .left) _ (c .before .before .decide-turn .ensures)
+    decide-accepted _ _ _ _ _ _ _ _ _ _ _ (c .before .before .before .before .before .before .before .before .before .before .before .before .seat5 .ensures) _ (c .before .before .before .before .before .before .condition-of5 .ensures) _ _ (may-give (turn .before .loop .m) _ _ _ _ _ _ (c .before .before .before .before .before .before .before .before .before .before .before .ballots-asked .ensures .0) end (c .before .before .before .before .before .before .before .before .before .before .loop3 .inv .1) (c .before .before .before .before .before .before .before .before .may-give .ensures))
+    (reading _ _ _ _ _ _ _ _ _ _ _ _ (turn .before .loop .inv) (turn .loop-test .taken) (read .before .before .place-of .ensures) _ (read .before .is-pending .ensures) _ (read .next-at .ensures) (told .next2 .given .1 ∙ ap Plays (c .before .before .before .before .before .before .before .before .before .before .before .before .before .before .e6 .given .1))) (c .before .before .before .before .before .decide-question .ensures false) (c .before .before .before .before .if15 .left) _ (c .before .before .decide-turn .ensures)
 
 slice-write-answers-9 : tie.Need-slice-write-answers-9 Inv-loop2 μ-loop2 Inv-loop3 μ-loop3 Inv-loop μ-loop
-slice-write-answers-9 c = omega (arith, in-place _ _ _ _ _ _ _ _ _ (reading _ _ _ _ _ _ _ _ _ _ _ _ (c .before .before .before .before .before .before .before .before .before .before .before .before .before .before .before .loop .inv) (c .before .before .before .before .before .before .before .before .before .before .before .before .before .before .loop-test .taken) (c .before .before .before .before .before .before .before .before .before .before .before .before .place-of .ensures) _ (c .before .before .before .before .before .before .before .before .before .before .before .is-pending .ensures) _ (c .before .before .before .before .before .before .before .before .before .before .next-at .ensures) (c .before .before .before .before .before .before .before .before .next2 .given .1 ∙ ap Plays (c .before .before .before .before .before .e7 .given .1))))
+slice-write-answers-9 c =
+    let told = c .before .before .before .before .before .before .before .before in
+    let read = told .before .before in
+    let turn = read .before .before .before .before in
+    omega (arith, in-place _ _ _ _ _ _ _ _ _ (reading _ _ _ _ _ _ _ _ _ _ _ _ (turn .before .loop .inv) (turn .loop-test .taken) (read .before .before .place-of .ensures) _ (read .before .is-pending .ensures) _ (read .next-at .ensures) (told .next2 .given .1 ∙ ap Plays (c .before .before .before .before .before .e7 .given .1))))
 
 add-k-9 : tie.Need-add-k-9 Inv-loop2 μ-loop2 Inv-loop3 μ-loop3 Inv-loop μ-loop
 add-k-9 c =
-    let a = c .before .before .before .before .before .before .before .before .before .before .before .before .before .before .before .before .before .before .before .before .before .before .before .before .before in
-    let p = place-within (a .args .s .now) (a .args .from) (c .before .before .before .before .before .before .before .before .before .before .before .before .before .before .before .before .before .before .before .before .before .before .count-from .result) (c .before .before .before .before .before .before .before .before .before .before .before .before .before .before .before .loop .k) (c .before .before .before .before .before .before .before .before .before .before .before .before .before .before .before .loop .inv .whole) (c .before .before .before .before .before .before .before .before .before .before .before .before .before .before .loop-test .taken) in
+    let turn = c .before .before .before .before .before .before .before .before .before .before .before .before .before .before in
+    let ahead = turn .before .before .before .before .before .before .before .before in
+    let a = ahead .before .before .before in
+    let p = place-within (a .args .s .now) (a .args .from) (ahead .count-from .result) (turn .before .loop .k) (turn .before .loop .inv .whole) (turn .loop-test .taken) in
     omega (arith, p, a .good .0 .0)
 
 loop-less-27 : tie.Need-loop-less-27 Inv-loop2 μ-loop2 Inv-loop3 μ-loop3 Inv-loop μ-loop
-loop-less-27 c = omega (arith, c .before .before .before .before .before .before .before .before .before .before .before .before .before .before .before .loop-test .taken)
+loop-less-27 c =
+    let turn = c .before .before .before .before .before .before .before .before .before .before .before .before .before .before .before in
+    omega (arith, turn .loop-test .taken)
 
 loop-again-27 : tie.Need-loop-again-27 Inv-loop2 μ-loop2 Inv-loop3 μ-loop3 Inv-loop μ-loop
 unfolding freshStation fresh unsentAll
 loop-again-27 c =
+    let told = c .before .before .before .before .before .before .before .before .before in
+    let read = told .before .before in
+    let turn = read .before .before .before .before in
     stop-refused _ _ _ _ _ _ _ _ _ _ _ (c .before .before .before .before .seat6 .ensures) _ (c .before .before .condition-of6 .ensures)
-    (reading _ _ _ _ _ _ _ _ _ _ _ _ (c .before .before .before .before .before .before .before .before .before .before .before .before .before .before .before .before .loop .inv) (c .before .before .before .before .before .before .before .before .before .before .before .before .before .before .before .loop-test .taken) (c .before .before .before .before .before .before .before .before .before .before .before .before .before .place-of .ensures) _ (c .before .before .before .before .before .before .before .before .before .before .before .before .is-pending .ensures) _ (c .before .before .before .before .before .before .before .before .before .before .before .next-at .ensures) (c .before .before .before .before .before .before .before .before .before .next2 .given .1 ∙ ap Plays (c .before .before .before .before .before .before .e7 .given .1))) (c .before .present-question .ensures .0)
+    (reading _ _ _ _ _ _ _ _ _ _ _ _ (turn .before .loop .inv) (turn .loop-test .taken) (read .before .before .place-of .ensures) _ (read .before .is-pending .ensures) _ (read .next-at .ensures) (told .next2 .given .1 ∙ ap Plays (c .before .before .before .before .before .before .e7 .given .1))) (c .before .present-question .ensures .0)
     (c .if16 .taken)
 
 mul-stations-11 : tie.Need-mul-stations-11 Inv-loop2 μ-loop2 Inv-loop3 μ-loop3 Inv-loop μ-loop
@@ -496,32 +723,48 @@ array-set-from-stations-11 : tie.Need-array-set-from-stations-11 Inv-loop2 μ-lo
 array-set-from-stations-11 c = omega (arith, c .before .before .before .before .before .before .before .before .seat6 .ensures .0)
 
 loop-less-28 : tie.Need-loop-less-28 Inv-loop2 μ-loop2 Inv-loop3 μ-loop3 Inv-loop μ-loop
-loop-less-28 c = omega (arith, c .before .before .before .before .before .before .before .before .before .before .before .before .before .before .before .before .before .before .before .loop-test .taken)
+loop-less-28 c =
+    let turn = c .before .before .before .before .before .before .before .before .before .before .before .before .before .before .before .before .before .before .before in
+    omega (arith, turn .loop-test .taken)
 
 loop-again-28 : tie.Need-loop-again-28 Inv-loop2 μ-loop2 Inv-loop3 μ-loop3 Inv-loop μ-loop
 unfolding freshStation fresh unsentAll
 loop-again-28 c =
+    let told = c .before .before .before .before .before .before .before .before .before .before .before .before .before in
+    let read = told .before .before in
+    let turn = read .before .before .before .before in
     stop-accepted _ _ _ _ _ _ _ _ _ _ _ (c .before .before .before .before .before .before .before .before .seat6 .ensures) _ (c .before .before .before .before .before .before .condition-of6 .ensures)
-    (reading _ _ _ _ _ _ _ _ _ _ _ _ (c .before .before .before .before .before .before .before .before .before .before .before .before .before .before .before .before .before .before .before .before .loop .inv) (c .before .before .before .before .before .before .before .before .before .before .before .before .before .before .before .before .before .before .before .loop-test .taken) (c .before .before .before .before .before .before .before .before .before .before .before .before .before .before .before .before .before .place-of .ensures) _ (c .before .before .before .before .before .before .before .before .before .before .before .before .before .before .before .before .is-pending .ensures) _ (c .before .before .before .before .before .before .before .before .before .before .before .before .before .before .before .next-at .ensures) (c .before .before .before .before .before .before .before .before .before .before .before .before .before .next2 .given .1 ∙ ap Plays (c .before .before .before .before .before .before .before .before .before .before .e7 .given .1))) (c .before .before .before .before .before .present-question .ensures .0)
+    (reading _ _ _ _ _ _ _ _ _ _ _ _ (turn .before .loop .inv) (turn .loop-test .taken) (read .before .before .place-of .ensures) _ (read .before .is-pending .ensures) _ (read .next-at .ensures) (told .next2 .given .1 ∙ ap Plays (c .before .before .before .before .before .before .before .before .before .before .e7 .given .1))) (c .before .before .before .before .before .present-question .ensures .0)
     (c .before .before .before .before .if16 .left) _ (c .before .before .stop-turn .ensures)
 
 slice-write-answers-10 : tie.Need-slice-write-answers-10 Inv-loop2 μ-loop2 Inv-loop3 μ-loop3 Inv-loop μ-loop
-slice-write-answers-10 c = omega (arith, in-place _ _ _ _ _ _ _ _ _ (reading _ _ _ _ _ _ _ _ _ _ _ _ (c .before .before .before .before .before .before .before .before .before .before .before .before .before .before .before .loop .inv) (c .before .before .before .before .before .before .before .before .before .before .before .before .before .before .loop-test .taken) (c .before .before .before .before .before .before .before .before .before .before .before .before .place-of .ensures) _ (c .before .before .before .before .before .before .before .before .before .before .before .is-pending .ensures) _ (c .before .before .before .before .before .before .before .before .before .before .next-at .ensures) (c .before .before .before .before .before .before .before .before .next2 .given .1 ∙ ap Plays (c .before .before .before .before .before .e8 .given .1))))
+slice-write-answers-10 c =
+    let told = c .before .before .before .before .before .before .before .before in
+    let read = told .before .before in
+    let turn = read .before .before .before .before in
+    omega (arith, in-place _ _ _ _ _ _ _ _ _ (reading _ _ _ _ _ _ _ _ _ _ _ _ (turn .before .loop .inv) (turn .loop-test .taken) (read .before .before .place-of .ensures) _ (read .before .is-pending .ensures) _ (read .next-at .ensures) (told .next2 .given .1 ∙ ap Plays (c .before .before .before .before .before .e8 .given .1))))
 
 add-k-10 : tie.Need-add-k-10 Inv-loop2 μ-loop2 Inv-loop3 μ-loop3 Inv-loop μ-loop
 add-k-10 c =
-    let a = c .before .before .before .before .before .before .before .before .before .before .before .before .before .before .before .before .before .before .before .before .before .before .before .before .before in
-    let p = place-within (a .args .s .now) (a .args .from) (c .before .before .before .before .before .before .before .before .before .before .before .before .before .before .before .before .before .before .before .before .before .before .count-from .result) (c .before .before .before .before .before .before .before .before .before .before .before .before .before .before .before .loop .k) (c .before .before .before .before .before .before .before .before .before .before .before .before .before .before .before .loop .inv .whole) (c .before .before .before .before .before .before .before .before .before .before .before .before .before .before .loop-test .taken) in
+    let turn = c .before .before .before .before .before .before .before .before .before .before .before .before .before .before in
+    let ahead = turn .before .before .before .before .before .before .before .before in
+    let a = ahead .before .before .before in
+    let p = place-within (a .args .s .now) (a .args .from) (ahead .count-from .result) (turn .before .loop .k) (turn .before .loop .inv .whole) (turn .loop-test .taken) in
     omega (arith, p, a .good .0 .0)
 
 loop-less-29 : tie.Need-loop-less-29 Inv-loop2 μ-loop2 Inv-loop3 μ-loop3 Inv-loop μ-loop
-loop-less-29 c = omega (arith, c .before .before .before .before .before .before .before .before .before .before .before .before .before .before .before .loop-test .taken)
+loop-less-29 c =
+    let turn = c .before .before .before .before .before .before .before .before .before .before .before .before .before .before .before in
+    omega (arith, turn .loop-test .taken)
 
 loop-again-29 : tie.Need-loop-again-29 Inv-loop2 μ-loop2 Inv-loop3 μ-loop3 Inv-loop μ-loop
 unfolding freshStation fresh unsentAll
 loop-again-29 c =
+    let told = c .before .before .before .before .before .before .before .before .before in
+    let read = told .before .before in
+    let turn = read .before .before .before .before in
     save-refused _ _ _ _ _ _ _ _ _ _ _ (c .before .before .before .before .seat7 .ensures) _ (c .before .before .condition-of7 .ensures)
-    (reading _ _ _ _ _ _ _ _ _ _ _ _ (c .before .before .before .before .before .before .before .before .before .before .before .before .before .before .before .before .loop .inv) (c .before .before .before .before .before .before .before .before .before .before .before .before .before .before .before .loop-test .taken) (c .before .before .before .before .before .before .before .before .before .before .before .before .before .place-of .ensures) _ (c .before .before .before .before .before .before .before .before .before .before .before .before .is-pending .ensures) _ (c .before .before .before .before .before .before .before .before .before .before .before .next-at .ensures) (c .before .before .before .before .before .before .before .before .before .next2 .given .1 ∙ ap Plays (c .before .before .before .before .before .before .e8 .given .1))) (c .before .present-question2 .ensures .1)
+    (reading _ _ _ _ _ _ _ _ _ _ _ _ (turn .before .loop .inv) (turn .loop-test .taken) (read .before .before .place-of .ensures) _ (read .before .is-pending .ensures) _ (read .next-at .ensures) (told .next2 .given .1 ∙ ap Plays (c .before .before .before .before .before .before .e8 .given .1))) (c .before .present-question2 .ensures .1)
     (c .if17 .taken)
 
 mul-stations-12 : tie.Need-mul-stations-12 Inv-loop2 μ-loop2 Inv-loop3 μ-loop3 Inv-loop μ-loop
@@ -531,32 +774,48 @@ array-set-from-stations-12 : tie.Need-array-set-from-stations-12 Inv-loop2 μ-lo
 array-set-from-stations-12 c = omega (arith, c .before .before .before .before .before .before .seat7 .ensures .0)
 
 loop-less-30 : tie.Need-loop-less-30 Inv-loop2 μ-loop2 Inv-loop3 μ-loop3 Inv-loop μ-loop
-loop-less-30 c = omega (arith, c .before .before .before .before .before .before .before .before .before .before .before .before .before .before .before .before .before .loop-test .taken)
+loop-less-30 c =
+    let turn = c .before .before .before .before .before .before .before .before .before .before .before .before .before .before .before .before .before in
+    omega (arith, turn .loop-test .taken)
 
 loop-again-30 : tie.Need-loop-again-30 Inv-loop2 μ-loop2 Inv-loop3 μ-loop3 Inv-loop μ-loop
 unfolding freshStation fresh unsentAll
 loop-again-30 c =
+    let told = c .before .before .before .before .before .before .before .before .before .before .before in
+    let read = told .before .before in
+    let turn = read .before .before .before .before in
     save-accepted _ _ _ _ _ _ _ _ _ _ _ (c .before .before .before .before .before .before .seat7 .ensures) _ (c .before .before .before .before .condition-of7 .ensures)
-    (reading _ _ _ _ _ _ _ _ _ _ _ _ (c .before .before .before .before .before .before .before .before .before .before .before .before .before .before .before .before .before .before .loop .inv) (c .before .before .before .before .before .before .before .before .before .before .before .before .before .before .before .before .before .loop-test .taken) (c .before .before .before .before .before .before .before .before .before .before .before .before .before .before .before .place-of .ensures) _ (c .before .before .before .before .before .before .before .before .before .before .before .before .before .before .is-pending .ensures) _ (c .before .before .before .before .before .before .before .before .before .before .before .before .before .next-at .ensures) (c .before .before .before .before .before .before .before .before .before .before .before .next2 .given .1 ∙ ap Plays (c .before .before .before .before .before .before .before .before .e8 .given .1))) (c .before .before .before .present-question2 .ensures .1)
+    (reading _ _ _ _ _ _ _ _ _ _ _ _ (turn .before .loop .inv) (turn .loop-test .taken) (read .before .before .place-of .ensures) _ (read .before .is-pending .ensures) _ (read .next-at .ensures) (told .next2 .given .1 ∙ ap Plays (c .before .before .before .before .before .before .before .before .e8 .given .1))) (c .before .before .before .present-question2 .ensures .1)
     (c .before .before .if17 .left) _ (c .save-turn .ensures)
 
 slice-write-answers-11 : tie.Need-slice-write-answers-11 Inv-loop2 μ-loop2 Inv-loop3 μ-loop3 Inv-loop μ-loop
-slice-write-answers-11 c = omega (arith, in-place _ _ _ _ _ _ _ _ _ (reading _ _ _ _ _ _ _ _ _ _ _ _ (c .before .before .before .before .before .before .before .before .before .before .before .before .before .before .before .before .loop .inv) (c .before .before .before .before .before .before .before .before .before .before .before .before .before .before .before .loop-test .taken) (c .before .before .before .before .before .before .before .before .before .before .before .before .before .place-of .ensures) _ (c .before .before .before .before .before .before .before .before .before .before .before .before .is-pending .ensures) _ (c .before .before .before .before .before .before .before .before .before .before .before .next-at .ensures) (c .before .before .before .before .before .before .before .before .before .next2 .given .1 ∙ ap Plays (c .before .before .before .before .before .before .e9 .given .1))))
+slice-write-answers-11 c =
+    let told = c .before .before .before .before .before .before .before .before .before in
+    let read = told .before .before in
+    let turn = read .before .before .before .before in
+    omega (arith, in-place _ _ _ _ _ _ _ _ _ (reading _ _ _ _ _ _ _ _ _ _ _ _ (turn .before .loop .inv) (turn .loop-test .taken) (read .before .before .place-of .ensures) _ (read .before .is-pending .ensures) _ (read .next-at .ensures) (told .next2 .given .1 ∙ ap Plays (c .before .before .before .before .before .before .e9 .given .1))))
 
 add-k-11 : tie.Need-add-k-11 Inv-loop2 μ-loop2 Inv-loop3 μ-loop3 Inv-loop μ-loop
 add-k-11 c =
-    let a = c .before .before .before .before .before .before .before .before .before .before .before .before .before .before .before .before .before .before .before .before .before .before .before .before .before .before in
-    let p = place-within (a .args .s .now) (a .args .from) (c .before .before .before .before .before .before .before .before .before .before .before .before .before .before .before .before .before .before .before .before .before .before .before .count-from .result) (c .before .before .before .before .before .before .before .before .before .before .before .before .before .before .before .before .loop .k) (c .before .before .before .before .before .before .before .before .before .before .before .before .before .before .before .before .loop .inv .whole) (c .before .before .before .before .before .before .before .before .before .before .before .before .before .before .before .loop-test .taken) in
+    let turn = c .before .before .before .before .before .before .before .before .before .before .before .before .before .before .before in
+    let ahead = turn .before .before .before .before .before .before .before .before in
+    let a = ahead .before .before .before in
+    let p = place-within (a .args .s .now) (a .args .from) (ahead .count-from .result) (turn .before .loop .k) (turn .before .loop .inv .whole) (turn .loop-test .taken) in
     omega (arith, p, a .good .0 .0)
 
 loop-less-31 : tie.Need-loop-less-31 Inv-loop2 μ-loop2 Inv-loop3 μ-loop3 Inv-loop μ-loop
-loop-less-31 c = omega (arith, c .before .before .before .before .before .before .before .before .before .before .before .before .before .before .before .before .loop-test .taken)
+loop-less-31 c =
+    let turn = c .before .before .before .before .before .before .before .before .before .before .before .before .before .before .before .before in
+    omega (arith, turn .loop-test .taken)
 
 loop-again-31 : tie.Need-loop-again-31 Inv-loop2 μ-loop2 Inv-loop3 μ-loop3 Inv-loop μ-loop
 unfolding freshStation fresh unsentAll
 loop-again-31 c =
+    let told = c .before .before .before .before .before .before .before .before .before .before in
+    let read = told .before .before in
+    let turn = read .before .before .before .before in
     restore-refused _ _ _ _ _ _ _ _ _ _ _ (c .before .before .before .before .before .seat8 .ensures) _ (c .before .before .before .condition-of8 .ensures) _ (c .before .before .is-saved .ensures)
-    (reading _ _ _ _ _ _ _ _ _ _ _ _ (c .before .before .before .before .before .before .before .before .before .before .before .before .before .before .before .before .before .loop .inv) (c .before .before .before .before .before .before .before .before .before .before .before .before .before .before .before .before .loop-test .taken) (c .before .before .before .before .before .before .before .before .before .before .before .before .before .before .place-of .ensures) _ (c .before .before .before .before .before .before .before .before .before .before .before .before .before .is-pending .ensures) _ (c .before .before .before .before .before .before .before .before .before .before .before .before .next-at .ensures) (c .before .before .before .before .before .before .before .before .before .before .next2 .given .1 ∙ ap Plays (c .before .before .before .before .before .before .before .e9 .given .1))) (c .before .restore-question .ensures)
+    (reading _ _ _ _ _ _ _ _ _ _ _ _ (turn .before .loop .inv) (turn .loop-test .taken) (read .before .before .place-of .ensures) _ (read .before .is-pending .ensures) _ (read .next-at .ensures) (told .next2 .given .1 ∙ ap Plays (c .before .before .before .before .before .before .before .e9 .given .1))) (c .before .restore-question .ensures)
     (c .if18 .taken)
 
 mul-stations-13 : tie.Need-mul-stations-13 Inv-loop2 μ-loop2 Inv-loop3 μ-loop3 Inv-loop μ-loop
@@ -566,13 +825,18 @@ array-set-from-stations-13 : tie.Need-array-set-from-stations-13 Inv-loop2 μ-lo
 array-set-from-stations-13 c = omega (arith, c .before .before .before .before .before .before .before .before .before .seat8 .ensures .0)
 
 loop-less-32 : tie.Need-loop-less-32 Inv-loop2 μ-loop2 Inv-loop3 μ-loop3 Inv-loop μ-loop
-loop-less-32 c = omega (arith, c .before .before .before .before .before .before .before .before .before .before .before .before .before .before .before .before .before .before .before .before .loop-test .taken)
+loop-less-32 c =
+    let turn = c .before .before .before .before .before .before .before .before .before .before .before .before .before .before .before .before .before .before .before .before in
+    omega (arith, turn .loop-test .taken)
 
 loop-again-32 : tie.Need-loop-again-32 Inv-loop2 μ-loop2 Inv-loop3 μ-loop3 Inv-loop μ-loop
 unfolding freshStation fresh unsentAll
 loop-again-32 c =
+    let told = c .before .before .before .before .before .before .before .before .before .before .before .before .before .before in
+    let read = told .before .before in
+    let turn = read .before .before .before .before in
     restore-accepted _ _ _ _ _ _ _ _ _ _ _ (c .before .before .before .before .before .before .before .before .before .seat8 .ensures) _ (c .before .before .before .before .before .before .before .condition-of8 .ensures) _ (c .before .before .before .before .before .before .is-saved .ensures)
-    (reading _ _ _ _ _ _ _ _ _ _ _ _ (c .before .before .before .before .before .before .before .before .before .before .before .before .before .before .before .before .before .before .before .before .before .loop .inv) (c .before .before .before .before .before .before .before .before .before .before .before .before .before .before .before .before .before .before .before .before .loop-test .taken) (c .before .before .before .before .before .before .before .before .before .before .before .before .before .before .before .before .before .before .place-of .ensures) _ (c .before .before .before .before .before .before .before .before .before .before .before .before .before .before .before .before .before .is-pending .ensures) _ (c .before .before .before .before .before .before .before .before .before .before .before .before .before .before .before .before .next-at .ensures) (c .before .before .before .before .before .before .before .before .before .before .before .before .before .before .next2 .given .1 ∙ ap Plays (c .before .before .before .before .before .before .before .before .before .before .before .e9 .given .1))) (c .before .before .before .before .before .restore-question .ensures)
+    (reading _ _ _ _ _ _ _ _ _ _ _ _ (turn .before .loop .inv) (turn .loop-test .taken) (read .before .before .place-of .ensures) _ (read .before .is-pending .ensures) _ (read .next-at .ensures) (told .next2 .given .1 ∙ ap Plays (c .before .before .before .before .before .before .before .before .before .before .before .e9 .given .1))) (c .before .before .before .before .before .restore-question .ensures)
     (c .before .before .before .before .if18 .left) _ (c .before .before .restore-turn .ensures)
 
 mul-report-in : tie.Need-mul-report-in Inv-loop2 μ-loop2 Inv-loop3 μ-loop3 Inv-loop μ-loop
@@ -606,12 +870,18 @@ array-copy-out-ballot-turn-3 : tie.Need-array-copy-out-ballot-turn-3 Inv-loop2 �
 array-copy-out-ballot-turn-3 c = omega (arith, c .before .before .before .before .before .before .before .slot .ensures .0)
 
 slice-write-answers-12 : tie.Need-slice-write-answers-12 Inv-loop2 μ-loop2 Inv-loop3 μ-loop3 Inv-loop μ-loop
-slice-write-answers-12 c = omega (arith, in-place _ _ _ _ _ _ _ _ _ (reading _ _ _ _ _ _ _ _ _ _ _ _ (c .before .before .before .before .before .before .before .before .before .before .before .before .before .before .before .before .before .before .before .before .before .before .before .before .before .loop .inv) (c .before .before .before .before .before .before .before .before .before .before .before .before .before .before .before .before .before .before .before .before .before .before .before .before .loop-test .taken) (c .before .before .before .before .before .before .before .before .before .before .before .before .before .before .before .before .before .before .before .before .before .before .place-of .ensures) _ (c .before .before .before .before .before .before .before .before .before .before .before .before .before .before .before .before .before .before .before .before .before .is-pending .ensures) _ (c .before .before .before .before .before .before .before .before .before .before .before .before .before .before .before .before .before .before .before .before .next-at .ensures) (c .before .before .before .before .before .before .before .before .before .before .before .before .before .before .before .before .before .before .next2 .given .1 ∙ ap Plays (c .before .before .before .before .before .before .before .before .before .before .before .before .before .before .before .e10 .given .1))))
+slice-write-answers-12 c =
+    let told = c .before .before .before .before .before .before .before .before .before .before .before .before .before .before .before .before .before .before in
+    let read = told .before .before in
+    let turn = read .before .before .before .before in
+    omega (arith, in-place _ _ _ _ _ _ _ _ _ (reading _ _ _ _ _ _ _ _ _ _ _ _ (turn .before .loop .inv) (turn .loop-test .taken) (read .before .before .place-of .ensures) _ (read .before .is-pending .ensures) _ (read .next-at .ensures) (told .next2 .given .1 ∙ ap Plays (c .before .before .before .before .before .before .before .before .before .before .before .before .before .before .before .e10 .given .1))))
 
 add-k-12 : tie.Need-add-k-12 Inv-loop2 μ-loop2 Inv-loop3 μ-loop3 Inv-loop μ-loop
 add-k-12 c =
-    let a = c .before .before .before .before .before .before .before .before .before .before .before .before .before .before .before .before .before .before .before .before .before .before .before .before .before .before .before .before .before .before .before .before .before .before .before in
-    let p = place-within (a .args .s .now) (a .args .from) (c .before .before .before .before .before .before .before .before .before .before .before .before .before .before .before .before .before .before .before .before .before .before .before .before .before .before .before .before .before .before .before .before .count-from .result) (c .before .before .before .before .before .before .before .before .before .before .before .before .before .before .before .before .before .before .before .before .before .before .before .before .before .loop .k) (c .before .before .before .before .before .before .before .before .before .before .before .before .before .before .before .before .before .before .before .before .before .before .before .before .before .loop .inv .whole) (c .before .before .before .before .before .before .before .before .before .before .before .before .before .before .before .before .before .before .before .before .before .before .before .before .loop-test .taken) in
+    let turn = c .before .before .before .before .before .before .before .before .before .before .before .before .before .before .before .before .before .before .before .before .before .before .before .before in
+    let ahead = turn .before .before .before .before .before .before .before .before in
+    let a = ahead .before .before .before in
+    let p = place-within (a .args .s .now) (a .args .from) (ahead .count-from .result) (turn .before .loop .k) (turn .before .loop .inv .whole) (turn .loop-test .taken) in
     omega (arith, p, a .good .0 .0)
 
 mul-acceptors : tie.Need-mul-acceptors Inv-loop2 μ-loop2 Inv-loop3 μ-loop3 Inv-loop μ-loop
@@ -627,12 +897,17 @@ array-set-from-rows : tie.Need-array-set-from-rows Inv-loop2 μ-loop2 Inv-loop3 
 array-set-from-rows c = omega (arith, c .before .before .before .before .before .before .before .before .before .before .before .slot .ensures .0)
 
 loop-less-33 : tie.Need-loop-less-33 Inv-loop2 μ-loop2 Inv-loop3 μ-loop3 Inv-loop μ-loop
-loop-less-33 c = omega (arith, c .before .before .before .before .before .before .before .before .before .before .before .before .before .before .before .before .before .before .before .before .before .before .before .before .before .before .loop-test .taken)
+loop-less-33 c =
+    let turn = c .before .before .before .before .before .before .before .before .before .before .before .before .before .before .before .before .before .before .before .before .before .before .before .before .before .before in
+    omega (arith, turn .loop-test .taken)
 
 loop-again-33 : tie.Need-loop-again-33 Inv-loop2 μ-loop2 Inv-loop3 μ-loop3 Inv-loop μ-loop
 unfolding freshStation fresh unsentAll newRow
 loop-again-33 c =
-    ballot-played _ _ _ _ _ _ _ _ _ (reading _ _ _ _ _ _ _ _ _ _ _ _ (c .before .before .before .before .before .before .before .before .before .before .before .before .before .before .before .before .before .before .before .before .before .before .before .before .before .before .before .loop .inv) (c .before .before .before .before .before .before .before .before .before .before .before .before .before .before .before .before .before .before .before .before .before .before .before .before .before .before .loop-test .taken) (c .before .before .before .before .before .before .before .before .before .before .before .before .before .before .before .before .before .before .before .before .before .before .before .before .place-of .ensures) _ (c .before .before .before .before .before .before .before .before .before .before .before .before .before .before .before .before .before .before .before .before .before .before .before .is-pending .ensures) _ (c .before .before .before .before .before .before .before .before .before .before .before .before .before .before .before .before .before .before .before .before .before .before .next-at .ensures) (c .before .before .before .before .before .before .before .before .before .before .before .before .before .before .before .before .before .before .before .before .next2 .given .1 ∙ ap Plays (c .before .before .before .before .before .before .before .before .before .before .before .before .before .before .before .before .before .e10 .given .1 ∙ ap OfBallots (sym (c .before .before .before .before .before .before .before .before .before .before .before .before .before .before .before .rebuilt .ensures)))))
+    let told = c .before .before .before .before .before .before .before .before .before .before .before .before .before .before .before .before .before .before .before .before in
+    let read = told .before .before in
+    let turn = read .before .before .before .before in
+    ballot-played _ _ _ _ _ _ _ _ _ (reading _ _ _ _ _ _ _ _ _ _ _ _ (turn .before .loop .inv) (turn .loop-test .taken) (read .before .before .place-of .ensures) _ (read .before .is-pending .ensures) _ (read .next-at .ensures) (told .next2 .given .1 ∙ ap Plays (c .before .before .before .before .before .before .before .before .before .before .before .before .before .before .before .before .before .e10 .given .1 ∙ ap OfBallots (sym (c .before .before .before .before .before .before .before .before .before .before .before .before .before .before .before .rebuilt .ensures)))))
     _ (c .before .before .before .before .before .before .before .before .before .before .before .before .before .before .subject-of .ensures) _ (c .before .before .before .before .before .before .before .before .before .before .before .before .before .seat9 .ensures) _ (c .before .before .before .before .before .before .before .before .before .before .before .before .ballot-of .ensures) _ (c .before .before .before .before .before .before .before .before .before .before .before .slot .ensures)
     _ (c .before .before .before .before .before .before .before .before .before .report-in .ensures) _ (c .before .before .before .before .before .before .before .before .slot-reported .ensures) _ (c .before .before .before .before .before .before .word-in .ensures) _ (c .before .before .ballot-turn .ensures)
 
