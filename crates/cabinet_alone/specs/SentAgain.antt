@@ -1,5 +1,5 @@
 -- WHAT IS SENT AGAIN IS WHAT WAS SENT. A cabinet keeps of each kind one vote set and its receivers; what was sent stays so, whatever is called and whatever comes over the
--- line, until a new order or a waking. So each telegram of kinds 1 to 4 in the list of those sent stays in it, byte for byte. `sent_again` in src/lib.rt has it as its contract.
+-- line, until a new order or a waking. So a telegram of kinds 1 to 4 that was sent can be sent again, to the same receiver with the same vote set. `sent_again` in src/lib.rt has it as its contract.
 use Prim.Native.Nat.{ℕ}
 use mathlib.Core.Path.{_≡_}
 use mathlib.Core.Bool.{Bool, true, false, not, _&&_}
