@@ -1,5 +1,6 @@
 // One act on a bench by value that remembers (document 02, U11): an event, or a step back. Who calls it keeps the benches before the remembered events, hands
 // in the newest of them, and is told what becomes of them.
+#![tactic(auto)]
 ghost use Rattle.std.specs.Prelude.{◌≡◌, List};
 ghost use Rattle.model.specs.declared.Act.TheVariants.{Play, Back};
 ghost use Rattle.steps_back.specs.Memory.{can_be_undone};
@@ -11,7 +12,7 @@ use protocol::Bench;
 use steps_back::back_question;
 
 // What is remembered after an act: what was before; the bench before the act too, and no more benches than `steps_back::MOST_REMEMBERED`; all but the newest; nothing.
-#[derive(Drop)]
+#[derive(Clone, Copy)]
 pub enum Recall {
     Same,
     More,
@@ -20,7 +21,7 @@ pub enum Recall {
 }
 
 // What an act returns: the answer, 0 or the first question answered "no"; the bench after it; what is remembered.
-#[derive(Drop)]
+#[derive(Clone, Copy)]
 pub struct Acted {
     pub answer: u8,
     pub bench: Bench,

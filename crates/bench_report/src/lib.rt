@@ -1,4 +1,5 @@
 // What the bench program prints of the answers to a schedule and of the bench after it, written into a lent buffer.
+#![tactic(auto)]
 ghost use Rattle.std.specs.Prelude.{◌≡◌, ◌≤◌, length};
 ghost use Rattle.text.specs.Writing.{Put, fitted, fitted_length};
 ghost use Rattle.bench_report.specs.Limits.{most_answers, is_too_long, longest_report};
@@ -32,7 +33,7 @@ pub const LONGEST_OUTPUT: usize = MOST_ANSWERS * ANSWER_LINE
     + MESSAGE_LINE;
 
 // The last four digits of a number, as they are printed.
-#[derive(Drop)]
+#[derive(Clone, Copy)]
 pub(crate) struct Digits {
     pub thousands: u8,
     pub hundreds: u8,
@@ -41,7 +42,7 @@ pub(crate) struct Digits {
 }
 
 // What a C line shows of a controller.
-#[derive(Drop)]
+#[derive(Clone, Copy)]
 pub struct Row {
     pub stage: u8,
     pub outcome: Outcome,
@@ -50,7 +51,7 @@ pub struct Row {
 }
 
 // What the T line shows: the messages sent in this order, by kind.
-#[derive(Drop)]
+#[derive(Clone, Copy)]
 pub struct MessageCounts {
     pub vote: u32,
     pub ack: u32,
@@ -59,7 +60,7 @@ pub struct MessageCounts {
 }
 
 // What the report shows of a bench.
-#[derive(Drop)]
+#[derive(Clone, Copy)]
 pub struct Summary {
     pub n: u8,
     // by controller

@@ -1,4 +1,5 @@
 // A whole schedule, played on a new bench. The bench of a run is an array of stations by value, of which an event changes one element.
+#![tactic(auto)]
 mod memory;
 mod runs;
 
@@ -8,7 +9,7 @@ pub use runs::run;
 
 // What a run returns: whether there was room for all answers, so that it was run; how many there are; of the bench at the end, how many gates are still open
 // and what a report shows.
-#[derive(Drop)]
+#[derive(Clone, Copy)]
 pub struct RunResult {
     pub complete: bool,
     pub count: usize,
@@ -17,14 +18,14 @@ pub struct RunResult {
 }
 
 // What comes next in a run: an event is played, or something else is done.
-#[derive(Drop)]
+#[derive(Clone, Copy)]
 pub enum Next {
     Play(Event),
     Other(Pause),
 }
 
 // A record is refused in reading; a step is taken back; or what the record before came to is noted.
-#[derive(Drop)]
+#[derive(Clone, Copy)]
 pub enum Pause {
     Refused(u8),
     Back,

@@ -120,7 +120,7 @@ pub(crate) fn remembered(undoable: usize, left: usize) -> usize
 }
 
 // What a step back leaves of what a run remembers.
-#[derive(Drop)]
+#[derive(Clone, Copy)]
 pub(crate) struct Taken {
     pub answer: u8,
     pub k: usize,

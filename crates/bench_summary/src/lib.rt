@@ -1,4 +1,5 @@
 // What a report shows of a bench.
+#![tactic(auto)]
 mod rows;
 mod sending;
 mod summary;

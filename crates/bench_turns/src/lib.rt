@@ -1,4 +1,5 @@
 // What an accepted event leaves of the station of the controller that it concerns: a turn. The step by value and the run go by these.
+#![tactic(auto)]
 mod ballots;
 mod effects;
 mod stations;
@@ -16,7 +17,7 @@ pub use turns::{
 };
 
 // What an event of ballots leaves: its answer, the acceptor of the controller that it concerns, and the row of its ballot.
-#[derive(Drop)]
+#[derive(Clone, Copy)]
 pub struct BallotTurn {
     pub answer: u8,
     pub acceptor: Acceptor,

@@ -1,4 +1,5 @@
 // A controller in a cabinet as words of 32 bits: what is kept, how it is written, and which words are taken.
+#![tactic(auto)]
 mod checks;
 mod reading;
 mod writing;
@@ -33,7 +34,7 @@ const WORDS: usize = 114;
 // What a cabinet keeps of the ballots of its order: what it has promised and accepted; the promise that it gave
 // last, as it was given; its own ballot that it opened last, 0 for none, with what it has counted for that one, and
 // who has accepted its word, by what came in.
-#[derive(Drop)]
+#[derive(Clone, Copy)]
 pub struct BallotState {
     pub acceptor: Acceptor,
     pub report: Report,
@@ -44,7 +45,7 @@ pub struct BallotState {
 
 // Which controller of which lock in which order, and whether the lock settles the word by ballots; the controller
 // itself; what it has sent in this order.
-#[derive(Drop)]
+#[derive(Clone, Copy)]
 pub struct Cabinet {
     pub me: Identity,
     pub own: bool,

@@ -1,5 +1,6 @@
 // What each call makes of a cabinet: what is asked of it, the next cabinet, the telegrams that it has sent, and what
 // a display shows.
+#![tactic(auto)]
 mod asked;
 mod ballots;
 mod display;
@@ -17,7 +18,7 @@ pub use telegrams::nth_telegram;
 pub use turns::{begun, decided, halted, ordered, timed_out, voted, woken};
 
 // One of the telegrams that a cabinet has sent in its order, or there are no more.
-#[derive(Drop)]
+#[derive(Clone, Copy)]
 pub enum SentTelegram {
     Nothing,
     Sent(Telegram),

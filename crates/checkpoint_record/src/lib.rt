@@ -1,4 +1,5 @@
 // Checkpoint records, the cards of document 01: their reader and writer.
+#![tactic(auto)]
 ghost use Rattle.std.specs.Prelude.{◌≡◌, [], ◌∷◌, length};
 ghost use Rattle.model.specs.Questions.{first_no, number};
 ghost use Rattle.records.specs.Codec.{form_length, value_on, bytes_of, reads, write_reply, writes};
@@ -9,7 +10,7 @@ use model::Checkpoint;
 use records::{frame_question, is_outcome, low_byte, number4, outcome_of, write_record};
 
 // A record, or the number of the first question that was answered "no".
-#[derive(Drop)]
+#[derive(Clone, Copy)]
 pub enum ReadCheckpoint {
     Read(Checkpoint),
     Refused(u8),

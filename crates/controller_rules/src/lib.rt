@@ -1,6 +1,7 @@
 // The rules of a controller (document 01, "A controller's rules"): what it does with its vote, with each kind of message and at its two timeouts, each
 // equal to its definition. Beside them what the vote sets that it holds say: whether they decide, whether they suffice to put a word, and whether another
 // contradicts one of them. Whether a call is taken at all, crate `controller` asks.
+#![tactic(auto)]
 mod arrivals;
 mod deciding;
 mod first;

@@ -14,7 +14,7 @@ use protocol::{
 use votes::{VoteSet, agreed_or, empty_set, join, tallied_with, tallied_word};
 
 // What a second timeout comes to: the outcome, or else a word put, or else it waits.
-#[derive(Drop)]
+#[derive(Clone, Copy)]
 pub(crate) enum Conclusion {
     Decides,
     Proposes,

@@ -1,4 +1,5 @@
 // A sheet of lockages: the questions put to it, what the two owners get of it, and what is printed of that.
+#![tactic(auto)]
 mod output;
 mod pieces;
 mod sheet;
@@ -9,7 +10,7 @@ pub use sheet::dues;
 use tariff::Shares;
 
 // A lockage as it stands on a sheet: the boat's length in cm, and the bytes for the outcome and for a return.
-#[derive(Drop)]
+#[derive(Clone, Copy)]
 pub(crate) struct Lockage {
     pub length: u32,
     pub outcome: u8,
@@ -17,14 +18,14 @@ pub(crate) struct Lockage {
 }
 
 // Both owners' totals, or the number with which the sheet is refused.
-#[derive(Drop)]
+#[derive(Clone, Copy)]
 pub enum Answer {
     Totals(Shares),
     Refused(u8),
 }
 
 // What is kept of the pieces of a sheet, before the last: were there any, and are all their lockages listed?
-#[derive(Drop)]
+#[derive(Clone, Copy)]
 pub struct Kept {
     pub some: bool,
     pub listed: bool,

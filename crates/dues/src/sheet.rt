@@ -39,7 +39,7 @@ fn in_range(l: Lockage) -> bool
 }
 
 // Which questions every lockage of a sheet passes: 3, and the lengths' part of 22.
-#[derive(Drop)]
+#[derive(Clone, Copy)]
 struct Checks {
     listed: bool,
     in_range: bool,

@@ -100,7 +100,7 @@ fn opening(id: u8, ballot: u32) -> Event
 }
 
 // What a record's fields stand for: whether they are listed values, and the act if they are.
-#[derive(Drop)]
+#[derive(Clone, Copy)]
 pub(crate) struct Row {
     pub listed: bool,
     pub act: Act,

@@ -1,4 +1,5 @@
 // Event records: their reader and writer. A record stands for an act: an event, or a step back.
+#![tactic(auto)]
 mod event;
 mod kinds;
 
@@ -10,7 +11,7 @@ pub use event::{
 use model::Act;
 
 // What stands in an event record after its mark.
-#[derive(Drop)]
+#[derive(Clone, Copy)]
 pub struct Fields {
     pub kind: u8,
     pub a: u8,
@@ -20,7 +21,7 @@ pub struct Fields {
 }
 
 // A record, or the number of the first question that was answered "no".
-#[derive(Drop)]
+#[derive(Clone, Copy)]
 pub enum ReadEvent {
     Read(Act),
     Refused(u8),

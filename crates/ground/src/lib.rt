@@ -1,4 +1,6 @@
 // What everything stands on: general laws of tests, counts and lists (specs/), and sets of controllers as masks.
+#![tactic(auto)]
+
 ghost use Rattle.std.specs.Prelude.{◌≡◌, min};
 ghost use Rattle.ground.specs.Limit.{limit};
 

@@ -10,7 +10,7 @@ const RISE: u32 = 100000;
 
 const HIGHEST: u32 = 200000;
 
-#[derive(Drop)]
+#[derive(Clone, Copy)]
 pub(crate) struct Heights {
     pub(crate) low: u32,
     pub(crate) high: u32,

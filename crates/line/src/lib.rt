@@ -1,4 +1,5 @@
 // The one line to the arbiter that the locks of a flight share: who calls for it, and who is served next.
+#![tactic(auto)]
 ghost use Rattle.std.specs.Prelude.{◌≡◌};
 ghost use Rattle.line.specs.Turns.{new_line, calls, unchanged, call_of, up, first_caller, turn_of, perform, number};
 ghost use Rattle.line.specs.Claim.{FairLine};
@@ -7,7 +8,7 @@ ghost use Rattle.line.specs.Examples.{ExamplesHold};
 // Locks are numbered from 1 to this.
 pub(crate) const LOCKS: u8 = 8;
 
-#[derive(Drop)]
+#[derive(Clone, Copy)]
 pub struct Line {
     // at k - 1: is lock k calling
     pub calling: [bool; 8],
@@ -15,13 +16,13 @@ pub struct Line {
     pub last: u8,
 }
 
-#[derive(Drop)]
+#[derive(Clone, Copy)]
 pub enum Act {
     Turn,
     Call(u8),
 }
 
-#[derive(Drop)]
+#[derive(Clone, Copy)]
 pub enum Answer {
     // to a call
     Accepted,
@@ -32,7 +33,7 @@ pub enum Answer {
 }
 
 // What an act leaves and what it answers.
-#[derive(Drop)]
+#[derive(Clone, Copy)]
 pub struct Done {
     pub line: Line,
     pub answer: Answer,

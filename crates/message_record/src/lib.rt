@@ -1,5 +1,6 @@
 // Telegrams, of document 01 and of document 02, U12 and U14, as records: in which forms they stand as bytes, what is asked of them, and what is promised.
 // `message_bytes` reads and writes them.
+#![tactic(auto)]
 mod ballots;
 mod questions;
 
@@ -16,35 +17,35 @@ pub use questions::{suits, telegram_question};
 use votes::VoteSet;
 
 // A record, or the number of the first question that was answered "no".
-#[derive(Drop)]
+#[derive(Clone, Copy)]
 pub enum ReadTelegram {
     Read(Telegram),
     Refused(u8),
 }
 
 // How wide the two vote sets stand on the record: two bytes each in the short forms, for locks up to Telegram::SHORT_LIMIT controllers, and four in the long ones.
-#[derive(Drop)]
+#[derive(Clone, Copy)]
 pub enum MessageWidth {
     Short,
     Long,
 }
 
 // What stands on the record after its head: the two vote sets, or beside them the four bytes more of a ballot.
-#[derive(Drop)]
+#[derive(Clone, Copy)]
 pub enum MessageBody {
     Votes,
     Ballot,
 }
 
 // The four forms.
-#[derive(Drop)]
+#[derive(Clone, Copy)]
 pub struct TelegramForm {
     pub width: MessageWidth,
     pub body: MessageBody,
 }
 
 // The four bytes more; 0 where there are none.
-#[derive(Drop)]
+#[derive(Clone, Copy)]
 pub struct BallotFields {
     pub ballot: u8,
     pub last: u8,
@@ -53,7 +54,7 @@ pub struct BallotFields {
 }
 
 // What stands on a record after its mark.
-#[derive(Drop)]
+#[derive(Clone, Copy)]
 pub struct Fields {
     pub kind: u8,
     pub n: u8,

@@ -1,4 +1,5 @@
 // The records of document 01 as values: telegrams, cards, events, and what they are made of.
+#![tactic(auto)]
 mod numbers;
 mod ranges;
 mod routes;
@@ -13,7 +14,7 @@ pub use routes::{recipients, route};
 use votes::VoteSet;
 
 // The kinds of telegram, numbered 1 to 4 on a record: vote, acknowledgement, help call, help answer.
-#[derive(Drop)]
+#[derive(Clone, Copy)]
 pub enum Kind {
     Vote,
     Ack,
@@ -22,7 +23,7 @@ pub enum Kind {
 }
 
 // An outcome, a word put, or the arbiter's word; None where there is none.
-#[derive(Drop)]
+#[derive(Clone, Copy)]
 pub enum Outcome {
     None,
     Stay,
@@ -30,7 +31,7 @@ pub enum Outcome {
 }
 
 // A telegram.
-#[derive(Drop)]
+#[derive(Clone, Copy)]
 pub struct Message {
     pub kind: Kind,
     pub n: u8,
@@ -42,7 +43,7 @@ pub struct Message {
 }
 
 // The kinds of telegram of a ballot, numbered 5 to 8 on a record: ask, promise, put, taken.
-#[derive(Drop)]
+#[derive(Clone, Copy)]
 pub enum BallotKind {
     Prepare,
     Promise,
@@ -51,7 +52,7 @@ pub enum BallotKind {
 }
 
 // A telegram of a ballot (document 02, U14): beside what every telegram has, its ballot, the ballot that its sender last took (0 none), and a word.
-#[derive(Drop)]
+#[derive(Clone, Copy)]
 pub struct BallotMessage {
     pub kind: BallotKind,
     pub n: u8,
@@ -66,14 +67,14 @@ pub struct BallotMessage {
 }
 
 // A telegram of any kind.
-#[derive(Drop)]
+#[derive(Clone, Copy)]
 pub enum Telegram {
     Plain(Message),
     OfBallot(BallotMessage),
 }
 
 // A card. The position is the two's complement of its millimetres.
-#[derive(Drop)]
+#[derive(Clone, Copy)]
 pub struct Checkpoint {
     pub id: u8,
     pub n: u8,
@@ -84,7 +85,7 @@ pub struct Checkpoint {
 }
 
 // An event of a ballot: its owner opens it (kind 10); a telegram of it is delivered (kind 3).
-#[derive(Drop)]
+#[derive(Clone, Copy)]
 pub enum BallotEvent {
     Open {
         id: u8,
@@ -99,7 +100,7 @@ pub enum BallotEvent {
 }
 
 // An event of the bench, in the sequence of its kinds 0 to 8; and those of ballots.
-#[derive(Drop)]
+#[derive(Clone, Copy)]
 pub enum Event {
     // a lock; do its controllers settle the word by ballots of their own
     Lock { n: u8, f: u8, own: bool },
@@ -118,7 +119,7 @@ pub enum Event {
 }
 
 // What a schedule has: an event, or a step back (kind 9; document 02, U11). It stands above events: no rule and no question of one knows of it.
-#[derive(Drop)]
+#[derive(Clone, Copy)]
 pub enum Act {
     Play(Event),
     Back,

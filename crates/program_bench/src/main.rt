@@ -1,4 +1,5 @@
 // The bench program: a schedule in either form on standard input, the report on standard output.
+#![tactic(auto)]
 use bench_report::LONGEST_OUTPUT;
 use schedule_input::LONGEST_TEXT;
 use streams::{read_input, write_output};

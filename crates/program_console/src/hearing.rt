@@ -13,7 +13,7 @@ use words::{Class, end_of_run};
 pub const ROOM: usize = LONGEST_TEXT + 1;
 
 // What a line stands for: nothing, a call for help at a terminal, an act; or which of its words was not expected.
-#[derive(Drop)]
+#[derive(Clone, Copy)]
 pub enum Heard {
     Nothing,
     Help,
@@ -22,14 +22,14 @@ pub enum Heard {
 }
 
 // What was read: how many bytes of text lie in the buffer, and whether there is nothing more to do.
-#[derive(Drop)]
+#[derive(Clone, Copy)]
 pub struct First {
     pub have: usize,
     pub over: bool,
 }
 
 // Where the line ends that begins at a place, how many bytes were read by then, whether it is the last, and whether reading failed before its end.
-#[derive(Drop)]
+#[derive(Clone, Copy)]
 pub struct Found {
     pub end: usize,
     pub have: usize,

@@ -1,4 +1,5 @@
 // The console: a bench to sit at. It reads a schedule in text a line at a time, plays each event by the bench's own act, and shows what came of it.
+#![tactic(auto)]
 mod hearing;
 mod telling;
 

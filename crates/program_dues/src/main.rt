@@ -1,10 +1,11 @@
 // The dues program: a sheet of lockages on standard input, both owners' totals or the refusal on standard output. It is read in pieces, since 1 and 3 are
 // asked of all of it before 22.
+#![tactic(auto)]
 use dues::{Kept, LONGEST_OUTPUT, PIECE, kept_with, nothing_kept};
 use streams::{read_input, write_output};
 
 // What is kept of the pieces read, and whether there may be more.
-#[derive(Drop)]
+#[derive(Clone, Copy)]
 struct Read {
     kept: Kept,
     more: bool,

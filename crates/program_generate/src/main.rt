@@ -1,4 +1,5 @@
 // The generator program: n, f, count and start on standard input, the file or a refusal on standard output.
+#![tactic(auto)]
 use generator::LONGEST_OUTPUT;
 use streams::{read_input, write_output};
 

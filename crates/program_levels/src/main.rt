@@ -1,4 +1,5 @@
 // The keeper's program: the range above a gate and the one below it on standard input, the gate's willingness on standard output.
+#![tactic(auto)]
 use levels_text::ROOM;
 use streams::{read_input, write_output};
 

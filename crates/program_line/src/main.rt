@@ -1,4 +1,5 @@
 // The line program: acts on standard input, a line for each on standard output.
+#![tactic(auto)]
 use line_output::MOST;
 use streams::{read_input, write_output};
 

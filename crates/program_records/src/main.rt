@@ -1,4 +1,5 @@
 // The records program: a schedule in either form on standard input, its records or the refusal on standard output.
+#![tactic(auto)]
 use bench_report::LONGEST_SCHEDULE;
 use schedule_input::LONGEST_TEXT;
 use streams::{read_input, write_output};

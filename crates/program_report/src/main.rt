@@ -1,4 +1,5 @@
 // The report program: n, f, count, s and k on standard input, the page of a report over k schedules or a refusal on standard output.
+#![tactic(auto)]
 use streams::{read_input, write_output};
 use survey_output::LONGEST_OUTPUT;
 

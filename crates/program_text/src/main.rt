@@ -1,4 +1,5 @@
 // The text program: a schedule in either form on standard input, its text or the refusal on standard output.
+#![tactic(auto)]
 use schedule_input::{LONGEST_OUTPUT, LONGEST_TEXT};
 use streams::{read_input, write_output};
 

@@ -1,4 +1,5 @@
 // The state of the controllers and of the bench. The rules over it stand in specs/, and so does the claim about them.
+#![tactic(auto)]
 ghost use Rattle.protocol.specs.Alone.{ControllerAlone};
 ghost use Rattle.protocol.specs.AskedInSequence.{AskedInSequence};
 ghost use Rattle.protocol.specs.BallotClaim.{BallotsAgree};
@@ -21,14 +22,14 @@ use model::{BallotMessage, Checkpoint, Message, Outcome};
 use votes::VoteSet;
 
 // How far a running controller is in its order (document 01: its stage, 0 to 3), and its outcome.
-#[derive(Drop)]
+#[derive(Clone, Copy)]
 pub struct Progress {
     pub phase: u8,
     pub outcome: Outcome,
 }
 
 // "A controller's condition is running, stopped or standing by, and it carries the outcome, if any."
-#[derive(Drop)]
+#[derive(Clone, Copy)]
 pub enum Condition {
     Running(Progress),
     Stopped,
@@ -36,15 +37,15 @@ pub enum Condition {
 }
 
 // How many acknowledgements are held, one per sender: the paper's cnt.
-#[derive(Drop)]
+#[derive(Clone, Copy)]
 pub struct Cnt(pub u8);
 
 // How many help answers came in, one per sender: the paper's cnt_help.
-#[derive(Drop)]
+#[derive(Clone, Copy)]
 pub struct CntHelp(pub u8);
 
 // The acknowledgements held: by sender, who has sent one, and how many.
-#[derive(Drop)]
+#[derive(Clone, Copy)]
 pub struct Acks {
     pub sets: [VoteSet; LIMIT],
     pub from: u32,
@@ -52,7 +53,7 @@ pub struct Acks {
 }
 
 // The help answers that came in: their join, who has sent one, and how many.
-#[derive(Drop)]
+#[derive(Clone, Copy)]
 pub struct HelpAnswers {
     pub votes: VoteSet,
     pub from: u32,
@@ -61,7 +62,7 @@ pub struct HelpAnswers {
 
 // A controller's own help: does it wait for answers (it has called, and put no word yet); its help vote set, frozen at the second timeout; whose help
 // calls it has taken: before the second timeout they are kept, from then on they are answered.
-#[derive(Drop)]
+#[derive(Clone, Copy)]
 pub struct HelpState {
     pub waiting: bool,
     pub votes: VoteSet,
@@ -69,13 +70,13 @@ pub struct HelpState {
 }
 
 // The gate: where it is to go, and where it stands, in two's complement of millimetres.
-#[derive(Drop)]
+#[derive(Clone, Copy)]
 pub struct Gate {
     pub target: u32,
     pub position: u32,
 }
 
-#[derive(Drop)]
+#[derive(Clone, Copy)]
 pub struct Controller {
     pub condition: Condition,
     // its own vote set
@@ -90,7 +91,7 @@ pub struct Controller {
 }
 
 // Which controller of which lock in which order: what does not change while the order lasts.
-#[derive(Drop)]
+#[derive(Clone, Copy)]
 pub struct Identity {
     pub n: u8,
     pub f: u8,
@@ -99,14 +100,14 @@ pub struct Identity {
 }
 
 // What a call sends of one kind: nothing, or one vote set to a set of controllers.
-#[derive(Drop)]
+#[derive(Clone, Copy)]
 pub enum Send {
     Nothing,
     To(u32, VoteSet),
 }
 
 // What a call sends, by kind.
-#[derive(Drop)]
+#[derive(Clone, Copy)]
 pub struct Sends {
     pub vote: Send,
     pub ack: Send,
@@ -115,7 +116,7 @@ pub struct Sends {
 }
 
 // How a controller took a call: taken; passed over; or refused, since the message's vote set contradicts one that it holds (document 02, U7).
-#[derive(Drop)]
+#[derive(Clone, Copy)]
 pub enum Reception {
     Taken,
     PassedOver,
@@ -123,7 +124,7 @@ pub enum Reception {
 }
 
 // What a controller answers to a call: how it took it; the next controller; what it sends; the word it puts, if any.
-#[derive(Drop)]
+#[derive(Clone, Copy)]
 pub struct Answer {
     pub reception: Reception,
     pub controller: Controller,
@@ -132,28 +133,28 @@ pub struct Answer {
 }
 
 // One of the messages (document 01: telegrams) of an answer, which a cabinet sends one by one; or there are no more.
-#[derive(Drop)]
+#[derive(Clone, Copy)]
 pub enum ToSend {
     AllSent,
     Next(Message),
 }
 
 // A checkpoint (document 01: a card), if there is one.
-#[derive(Drop)]
+#[derive(Clone, Copy)]
 pub enum Saved {
     Nothing,
     Newest(Checkpoint),
 }
 
 // A vote set, and to whom it was sent.
-#[derive(Drop)]
+#[derive(Clone, Copy)]
 pub struct Outgoing {
     pub to: u32,
     pub votes: VoteSet,
 }
 
 // What a controller has sent in this order, by kind. It outlives a stop.
-#[derive(Drop)]
+#[derive(Clone, Copy)]
 pub struct Sent {
     pub vote: Outgoing,
     pub ack: Outgoing,
@@ -162,7 +163,7 @@ pub struct Sent {
 }
 
 // One controller on the bench: itself, what it has sent, its newest checkpoint.
-#[derive(Drop)]
+#[derive(Clone, Copy)]
 pub struct Station {
     pub controller: Controller,
     pub sent: Sent,
@@ -170,7 +171,7 @@ pub struct Station {
 }
 
 // The consensus (document 01: the arbiter) of one order: was Move put to it, was Stay, and its choice.
-#[derive(Drop)]
+#[derive(Clone, Copy)]
 pub struct Consensus {
     pub move_proposed: bool,
     pub stay_proposed: bool,
@@ -179,7 +180,7 @@ pub struct Consensus {
 
 // How many controllers of the lock are undecided (they run, and have no outcome: document 02's gates still open), and how many are present (they run
 // or stand by). A new order makes all that are present undecided.
-#[derive(Drop)]
+#[derive(Clone, Copy)]
 pub struct Counts {
     pub undecided: u8,
     pub present: u8,
@@ -190,7 +191,7 @@ pub const BALLOTS: usize = 255;
 
 // What a controller has promised and accepted in the ballots of its order (Lamport's acceptor): its highest promise; the ballot that it gave its last promise
 // in; the ballot that it last accepted (document 02: took), and the word of it. 0 stands for none.
-#[derive(Drop)]
+#[derive(Clone, Copy)]
 pub struct Acceptor {
     pub highest: u8,
     pub promised: u8,
@@ -199,7 +200,7 @@ pub struct Acceptor {
 }
 
 // What the owner of a ballot has counted for it: whose promises came in; the highest ballot that these report, and its word; the word that it put, if any.
-#[derive(Drop)]
+#[derive(Clone, Copy)]
 pub struct Tally {
     pub from: u32,
     pub top: u8,
@@ -208,7 +209,7 @@ pub struct Tally {
 }
 
 // A promise, if one is given: it reports the ballot that its giver had last accepted, and the word of it.
-#[derive(Drop)]
+#[derive(Clone, Copy)]
 pub struct Report {
     pub given: bool,
     pub last: u8,
@@ -217,7 +218,7 @@ pub struct Report {
 
 // What a controller answers to a call of one ballot: what it has promised and accepted now; what it has counted; the promise that it gives; whether it puts a
 // word (the tally's), and whether it accepts one.
-#[derive(Drop)]
+#[derive(Clone, Copy)]
 pub struct BallotAnswer {
     pub acceptor: Acceptor,
     pub tally: Tally,
@@ -227,7 +228,7 @@ pub struct BallotAnswer {
 }
 
 // One of the messages of such an answer, which a cabinet sends one by one; or there are no more.
-#[derive(Drop)]
+#[derive(Clone, Copy)]
 pub enum ToSendBallot {
     AllSent,
     Next(BallotMessage),
@@ -235,7 +236,7 @@ pub enum ToSendBallot {
 
 // One ballot on the bench: what its owner has counted; who has promised it, and which ballot each of them had last accepted then; who has accepted it ("the
 // bench notes each taking, and a stop keeps the note"). What was sent in it follows from these.
-#[derive(Drop)]
+#[derive(Clone, Copy)]
 pub struct BallotRow {
     pub tally: Tally,
     pub promised_by: u32,
@@ -244,7 +245,7 @@ pub struct BallotRow {
 }
 
 // The ballots of an order: what each controller has promised and accepted, and each ballot.
-#[derive(Drop)]
+#[derive(Clone, Copy)]
 pub struct Ballots {
     pub acceptors: [Acceptor; LIMIT],
     pub rows: [BallotRow; BALLOTS],
@@ -252,7 +253,7 @@ pub struct Ballots {
 
 // What the controllers of a bench share: their lock (`own`: do they settle the word by ballots of their own), their order (0 before the first), the consensus,
 // and how many of them are undecided.
-#[derive(Drop)]
+#[derive(Clone, Copy)]
 pub struct Shared {
     pub locked: bool,
     pub n: u8,
@@ -264,7 +265,7 @@ pub struct Shared {
 }
 
 // The bench: what is shared, the ballots, and up to LIMIT controllers.
-#[derive(Drop)]
+#[derive(Clone, Copy)]
 pub struct Bench {
     pub shared: Shared,
     pub ballots: Ballots,
@@ -272,7 +273,7 @@ pub struct Bench {
 }
 
 // What an event of one controller leaves: what is shared, and that controller's station.
-#[derive(Drop)]
+#[derive(Clone, Copy)]
 pub struct Effect {
     pub shared: Shared,
     pub station: Station,

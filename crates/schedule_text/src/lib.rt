@@ -1,4 +1,5 @@
 // A schedule as text, one act a line in the documents' words, and as records: the one from the other.
+#![tactic(auto)]
 mod forms;
 mod reading;
 mod writing;
@@ -13,7 +14,7 @@ pub use writing::write;
 
 // What may stand at a place of a line: the word for the kind; controllers, or n and f, in a and b; a number in the value; a target in it; willing or not; the
 // arbiter's word; the kind of a telegram; that a lock's controllers are their own arbiter; nothing more.
-#[derive(Drop)]
+#[derive(Clone, Copy)]
 pub enum Slot {
     Verb,
     A,
@@ -28,7 +29,7 @@ pub enum Slot {
 }
 
 // The form of a line after its first word.
-#[derive(Drop)]
+#[derive(Clone, Copy)]
 pub(crate) struct Row {
     pub first: Slot,
     pub second: Slot,
@@ -37,7 +38,7 @@ pub(crate) struct Row {
 }
 
 // What a line stands for: nothing, the fields of a record; or which of its words was not expected.
-#[derive(Drop)]
+#[derive(Clone, Copy)]
 pub(crate) enum LineRead {
     Blank,
     Record(Fields),
@@ -46,7 +47,7 @@ pub(crate) enum LineRead {
 
 // How many bytes were written; or what was refused, and for which fault: line and word of a text, record and question of a schedule; or too little room. In
 // both of these nothing was written.
-#[derive(Drop)]
+#[derive(Clone, Copy)]
 pub enum Turned {
     Done(usize),
     Refused { at: usize, by: usize },

@@ -62,7 +62,7 @@ fn read_line(l: &[u8]) -> LineRead
 }
 
 // What the line from a place of a text on stands for, and where it ends.
-#[derive(Drop)]
+#[derive(Clone, Copy)]
 struct Met {
     read: LineRead,
     end: usize,

@@ -1,4 +1,5 @@
 // Standard input and output of a program. Where one fails, a line on standard error says which, and the system's word for it.
+#![tactic(auto)]
 ghost use Rattle.std.specs.Prelude.{◌+◌, ◌≤◌, ◌≡◌, length};
 ghost use Rattle.io.specs.Counts.{IsPrefixLen};
 ghost use Rattle.streams.specs.Streams.{EitherWay};
@@ -6,7 +7,7 @@ ghost use Rattle.streams.specs.Streams.{EitherWay};
 use libc::{STDIN_FILENO, STDOUT_FILENO};
 
 // How many bytes were read, and whether reading failed before the buffer was full or the input at its end.
-#[derive(Drop)]
+#[derive(Clone, Copy)]
 pub struct Input {
     pub count: usize,
     pub failed: bool,

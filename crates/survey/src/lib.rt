@@ -1,4 +1,5 @@
 // A report over many schedules (document 02, U13): what is counted of a schedule's end, the questions put to the record, and the page that is printed.
+#![tactic(auto)]
 mod ended;
 mod page;
 mod questions;
@@ -11,7 +12,7 @@ pub use page::{LONGEST_PAGE, write_page};
 pub use questions::refusal_of;
 
 // How a schedule ended: every controller not stopped Move, every one Stay, or neither.
-#[derive(Drop)]
+#[derive(Clone, Copy)]
 pub enum Ending {
     Moved,
     Stayed,
@@ -19,7 +20,7 @@ pub enum Ending {
 }
 
 // How many schedules ended in which way.
-#[derive(Drop)]
+#[derive(Clone, Copy)]
 pub struct Endings {
     pub moved: u32,
     pub stayed: u32,
@@ -27,14 +28,14 @@ pub struct Endings {
 }
 
 // The most messages that were sent in one schedule, and its generator number.
-#[derive(Drop)]
+#[derive(Clone, Copy)]
 pub struct Most {
     pub sent: u32,
     pub number: u32,
 }
 
 // What is counted of some schedules.
-#[derive(Drop)]
+#[derive(Clone, Copy)]
 pub struct Survey {
     pub endings: Endings,
     pub messages: MessageCounts,

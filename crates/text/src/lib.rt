@@ -1,6 +1,8 @@
 // Writers of text. A `put` function puts a text into a buffer from an index on, and answers the index after it; what would stand past the
 // buffer's end is left out, so that a buffer of no bytes serves to measure a text. A `write` function writes a whole text to the front of
 // the buffer and answers its length; or, where the buffer is too short, nothing and 0.
+#![tactic(auto)]
+
 ghost use Rattle.std.specs.Prelude.{◌≡◌, ◌∷◌, [], ◌++◌};
 ghost use Rattle.text.specs.Text.{ascii, decimal, signed, refusal};
 ghost use Rattle.text.specs.Writing.{Put, fitted, fitted_length, line_to};

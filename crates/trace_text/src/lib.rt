@@ -1,4 +1,5 @@
 // What the console shows of one act, as text in a lent buffer.
+#![tactic(auto)]
 mod ballots;
 mod changes;
 mod lines;

@@ -9,7 +9,7 @@ use votes::empty_set;
 
 // Its part in the ballots of an order: does its lock settle the word by them (own), what has it promised and accepted, and what has it counted
 // for each ballot that is its own.
-#[derive(Drop)]
+#[derive(Clone, Copy)]
 pub(crate) struct Part {
     pub own: bool,
     pub acceptor: Acceptor,
@@ -17,7 +17,7 @@ pub(crate) struct Part {
 }
 
 // What a command did in its ballot. One that is not of a ballot did nothing, in whichever.
-#[derive(Drop)]
+#[derive(Clone, Copy)]
 pub(crate) struct Call {
     pub own: bool,
     pub ballot: u8,

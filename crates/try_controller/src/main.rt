@@ -1,5 +1,6 @@
 // Drives one controller by commands of 24 bytes from standard input, and prints a line for each: what the controller answered, what it
 // shows, and what it sent. For comparison with another implementation.
+#![tactic(auto)]
 mod ballots;
 mod command;
 mod print;
@@ -13,7 +14,7 @@ use print_ballots::put_call;
 use protocol::{Controller, Identity};
 
 // The controller under trial, who it is, its part in ballots, and how many bytes of text wait in the buffer.
-#[derive(Drop)]
+#[derive(Clone, Copy)]
 struct Trial {
     pub me: Identity,
     pub c: Controller,

@@ -1,5 +1,6 @@
 // Reads pairs of ranges, sixteen bytes each with nothing between, and prints of each what the levels program prints, a short last one
 // included. Another implementation prints the same.
+#![tactic(auto)]
 use levels_text::ROOM;
 use streams::{read_input, write_output};
 

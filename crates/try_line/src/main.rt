@@ -1,5 +1,6 @@
 // Runs sequences of 40 acts, one after the other on standard input, each on a new line, and prints the lines of each. For comparison with
 // another implementation.
+#![tactic(auto)]
 use streams::{read_input, write_output};
 
 // The next sequence; how many acts it has, or 0 where reading or writing failed.

@@ -1,7 +1,7 @@
 // A line of output, made byte by byte. The longest has 70 bytes; what does not fit is left out.
 ghost use Rattle.std.specs.Prelude.{◌≤◌};
 
-#[derive(Drop)]
+#[derive(Clone, Copy)]
 pub(crate) struct Line {
     pub(crate) text: [u8; 80],
     pub(crate) used: usize,

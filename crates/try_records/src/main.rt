@@ -2,6 +2,7 @@
 //
 // Byte 0 says what to do: 0, 1, 2 read a telegram, a checkpoint, an event; 3, 4, 5 write one. Byte 1 is the length of the slice or of the buffer, 0 to
 // 32. What is read, or the fields of what is written, starts at byte 2. A short last frame is ignored.
+#![tactic(auto)]
 mod line;
 mod reading;
 mod writing;

@@ -1,4 +1,5 @@
 // Plays the schedule on standard input as the bench program does, but record by record, by the step by value; steps back too. For comparison with another implementation.
+#![tactic(auto)]
 ghost use Rattle.std.specs.Prelude.{◌≤◌, ◌≡◌, length, take};
 
 use bench_back::{Acted, Recall, act};

@@ -1,5 +1,6 @@
 // Reads frames of 512 bytes: 0 for the records or 1 for the text of a schedule, its length (2), and the schedule with noughts after it. Writes of each what `records`
 // or `text` prints, after the length of that (2). Another implementation writes the same.
+#![tactic(auto)]
 ghost use Rattle.std.specs.Prelude.{◌<◌};
 
 use schedule_input::{render_records, render_text};

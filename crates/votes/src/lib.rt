@@ -1,4 +1,6 @@
 // Vote sets (document 01: sheets).
+#![tactic(auto)]
+
 ghost use Rattle.std.specs.Prelude.{◌≡◌};
 ghost use Rattle.votes.specs.VoteSets.{empty, single, complete, unanimous};
 ghost use Rattle.votes.specs.Joining.{contradicts, join, join_all, agreed_or};
@@ -11,21 +13,21 @@ mod tallies;
 pub use tallies::{one_pass, tallied_with, tallied_word, tally_all};
 
 // A vote set: the controllers whose vote is known, and those of them known to be willing. Bit k - 1 is controller k.
-#[derive(Drop)]
+#[derive(Clone, Copy)]
 pub struct VoteSet {
     pub known: u32,
     pub willing: u32,
 }
 
 // What joining answers (document 02, U7): the join, or that the vote sets contradict each other.
-#[derive(Drop)]
+#[derive(Clone, Copy)]
 pub enum Joined {
     Agreed(VoteSet),
     Contradiction,
 }
 
 // What one pass over vote sets that agree gives: their join, whether it is complete, and whether it is unanimous.
-#[derive(Drop)]
+#[derive(Clone, Copy)]
 pub struct Tally {
     pub votes: VoteSet,
     pub complete: bool,
@@ -33,7 +35,7 @@ pub struct Tally {
 }
 
 // What one pass over vote sets answers: that, or that the vote sets contradict each other.
-#[derive(Drop)]
+#[derive(Clone, Copy)]
 pub enum Tallied {
     Counted(Tally),
     Contradicting,

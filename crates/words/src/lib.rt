@@ -1,4 +1,5 @@
 // Text as lines and words, and the numbers and names that words stand for.
+#![tactic(auto)]
 mod meaning;
 mod scan;
 
@@ -6,7 +7,7 @@ pub use meaning::{name_in, number_in, signed_in};
 pub use scan::{end_of_run, next_word, nth_line, nth_span, same};
 
 // The bytes between words; those of a word; those of a line, before its newline; and those of a line before its comment.
-#[derive(Drop)]
+#[derive(Clone, Copy)]
 pub enum Class {
     Gap,
     Word,
@@ -15,14 +16,14 @@ pub enum Class {
 }
 
 // From where to where a word stands; at an end where there is none, both are that end.
-#[derive(Drop)]
+#[derive(Clone, Copy)]
 pub struct Span {
     pub from: usize,
     pub to: usize,
 }
 
 // What a word stands for, if for anything.
-#[derive(Drop)]
+#[derive(Clone, Copy)]
 pub enum Found {
     Value(usize),
     Nothing,

@@ -1,4 +1,6 @@
 // Marsaglia's 32-bit xorshift, shifts 13 left, 17 right, 5 left.
+#![tactic(auto)]
+
 ghost use Rattle.std.specs.Prelude.{◌≡◌};
 ghost use Rattle.xorshift.specs.Xorshift.{draw};
 ghost use Rattle.xorshift.specs.Claim.{Draws};

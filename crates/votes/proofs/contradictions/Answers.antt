@@ -1,0 +1,7 @@
+-- `votes::contradictions` meets its contract.
+use Rattle.votes.specs.MemberLaws.{contradictions}
+use Rattle.std.proofs.Common.{rules}
+use Rattle.votes.proofs.contradictions.Goals as goal
+
+pub returns : goal.returns
+returns c = contradictions

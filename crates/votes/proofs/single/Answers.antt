@@ -1,0 +1,12 @@
+-- `votes::single` meets its contract, by what `insert` ensures.
+use Rattle.votes.specs.VoteSets.{single}
+use Rattle.std.proofs.Common.{rules}
+use Rattle.votes.proofs.single.Goals as goal
+
+pub returns-then-willing : goal.returns-then-willing
+unfolding single
+returns-then-willing c = rw (c.insert-known.ensures, c.if-willing.true)
+
+pub returns : goal.returns
+unfolding single
+returns c = rw (c.insert-known.ensures, c.if-willing.false)

@@ -1,0 +1,6 @@
+use Rattle.xorshift.specs.XorshiftLaws.{draws}
+use Rattle.std.proofs.Common.{rules}
+use Rattle.xorshift.proofs.draws.Goals as goal
+
+pub returns : goal.returns
+returns c = draws
