@@ -1,5 +1,6 @@
 // The records of document 01 as values: telegrams, cards, events, and what they are made of.
 #![tactic(auto)]
+
 mod numbers;
 mod ranges;
 mod routes;
