@@ -28,6 +28,6 @@ pub fn write_record(out: &mut [u8], content: &[u8], refusal: u8) -> u8
     if refusal != 0 {
         return refusal;
     }
-    bytes::copy(content, out);
+    out.copy_from_slice(content);
     0
 }

@@ -1,5 +1,6 @@
 // What the records of document 01 share as bytes: one description of a record and its laws (in specs/), length and mark, big-endian numbers, and listed values.
 #![tactic(auto)]
+
 mod codes;
 mod frame;
 mod number;
