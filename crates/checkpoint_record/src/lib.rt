@@ -1,5 +1,6 @@
 // Checkpoint records, the cards of document 01: their reader and writer.
 #![tactic(auto)]
+
 ghost use Rattle.std.specs.Prelude.{◌≡◌, [], ◌∷◌, length};
 ghost use Rattle.model.specs.Questions.{first_no, number};
 ghost use Rattle.records.specs.Codec.{form_length, value_on, bytes_of, reads, write_reply, writes};

@@ -1,5 +1,6 @@
 // Event records: their reader and writer. A record stands for an act: an event, or a step back.
 #![tactic(auto)]
+
 mod event;
 mod kinds;
 

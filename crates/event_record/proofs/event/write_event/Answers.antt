@@ -1,0 +1,12 @@
+-- `write_event` meets its contract.
+use mathlib.Core.Path.{refl}
+use Rattle.model.specs.Questions.{first_no}
+use Rattle.records.specs.FrameLaws.{record-written}
+use Rattle.event_record.specs.Events.{events}
+use Rattle.std.proofs.Common.{rules}
+use Rattle.event_record.proofs.event.write_event.Goals as goal
+
+pub returns : goal.returns
+unfolding first_no
+returns c =
+    record-written events _ _ _ c.event_bytes-content.ensures refl 0 refl refl c.write_record.ensures

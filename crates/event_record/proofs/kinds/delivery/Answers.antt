@@ -1,0 +1,8 @@
+use Rattle.std.proofs.Common.{rules}
+use Rattle.event_record.proofs.kinds.delivery.Goals as goal
+
+pub returns-then-is_kind : goal.returns-then-is_kind
+returns-then-is_kind c = simp (← c.is_kind.ensures, c.if-is_kind.true, c.kind_of.ensures)
+
+pub returns : goal.returns
+returns c = simp (← c.is_kind.ensures, c.if-is_kind.false, c.ballot_kind_of.ensures)

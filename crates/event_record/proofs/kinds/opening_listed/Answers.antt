@@ -1,0 +1,9 @@
+use borrow.Author.Tests.{eq-eqb, ne_eqb}
+use Rattle.std.proofs.Common.{rules}
+use Rattle.event_record.proofs.kinds.opening_listed.Goals as goal
+
+pub returns-then-b-eq0 : goal.returns-then-b-eq0
+returns-then-b-eq0 c = simp (eq-eqb _ _ c.if-b-eq0.true)
+
+pub returns-else-b-eq0 : goal.returns-else-b-eq0
+returns-else-b-eq0 c = simp (ne_eqb _ _ c.if-b-eq0.false)

@@ -1,0 +1,9 @@
+use borrow.Author.Tests.{eq-eqb, ne_eqb}
+use Rattle.std.proofs.Common.{rules}
+use Rattle.event_record.proofs.kinds.rest_unused.Goals as goal
+
+pub returns-then-c-eq0 : goal.returns-then-c-eq0
+returns-then-c-eq0 c = simp (eq-eqb _ _ c.if-c-eq0.true)
+
+pub returns-else-c-eq0 : goal.returns-else-c-eq0
+returns-else-c-eq0 c = simp (ne_eqb _ _ c.if-c-eq0.false)

@@ -1,0 +1,8 @@
+use Rattle.std.proofs.Common.{rules}
+use Rattle.event_record.proofs.kinds.vote_listed.Goals as goal
+
+pub returns-then-is_flag : goal.returns-then-is_flag
+returns-then-is_flag c = simp (← c.is_flag.ensures, c.if-is_flag.true)
+
+pub returns-else-is_flag : goal.returns-else-is_flag
+returns-else-is_flag c = simp (← c.is_flag.ensures, c.if-is_flag.false)
