@@ -1,6 +1,7 @@
 // Telegrams, of document 01 and of document 02, U12 and U14, as records: in which forms they stand as bytes, what is asked of them, and what is promised.
 // `message_bytes` reads and writes them.
 #![tactic(auto)]
+
 mod ballots;
 mod questions;
 

@@ -51,4 +51,4 @@ unfolding row_of rows
 returns-in-10 c = at_row _ 10 c.in-10.is c.opening_listed.ensures (rw c.opening.ensures)
 
 pub returns-in_default : goal.returns-in_default
-returns-in_default c = rw (no_row c.args.x (above 11 c.args.x.kind c.in_default-own.rest)) (refl, refl)
+returns-in_default c = rw (no_row c.args.x (above 11 c.args.x.kind c.in_default.in_default-own.rest)) (refl, refl)

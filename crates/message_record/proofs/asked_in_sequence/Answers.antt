@@ -14,8 +14,8 @@ use Rattle.message_record.specs.declared.MessageWidth.{MessageWidth}
 use Rattle.message_record.specs.Messages.{about_message}
 use Rattle.message_record.specs.BallotMessages.{about_ballot}
 use Rattle.message_record.specs.Telegrams.{formed, telegram_of, telegram_form, form_for, form_of, asked_of, telegrams}
-use Rattle.message_record.proofs.asked_in_sequence.Statement.{statement}
-use Rattle.message_record.proofs.asked_in_sequence.Tie as tie
+use Rattle.std.proofs.Common.{rules}
+use Rattle.message_record.proofs.asked_in_sequence.Goals as goal
 
 reading : (w : MessageWidth) (b : MessageBody) (s : List ℕ) → numbers_asked (form_questions (telegram_form (formed w b)) s) ≡ 1 ∷ 2 ∷ 3 ∷ asked_of b
 unfolding about_message about_ballot telegram_of
@@ -30,8 +30,5 @@ writing out (OfBallot b) = refl
 asked : AskedInSequence telegrams (λ k. 1 ∷ 2 ∷ 3 ∷ asked_of k.body) (λ k. 1 ∷ asked_of k.body)
 asked = record { at_reading = λ s. let k = form_for (length s) (number2 s 0) in reading k.width k.body s; at_writing = writing }
 
-returns : tie.Need-returns
+pub returns : goal.returns
 returns c = asked
-
-pub asked-in-sequence-spec : {M : Type 1} → statement M
-asked-in-sequence-spec = tie.close (tie.spec returns)

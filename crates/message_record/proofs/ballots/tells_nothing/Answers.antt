@@ -1,0 +1,12 @@
+use Rattle.message_record.specs.BallotMessages.{tells_nothing}
+use borrow.Author.Tests.{eq-eqb, ne_eqb}
+use Rattle.std.proofs.Common.{rules}
+use Rattle.message_record.proofs.ballots.tells_nothing.Goals as goal
+
+pub returns-then-last-eq0 : goal.returns-then-last-eq0
+unfolding tells_nothing
+returns-then-last-eq0 c = simp (eq-eqb _ _ c.if-last-eq0.true, c.is_none.ensures)
+
+pub returns-else-last-eq0 : goal.returns-else-last-eq0
+unfolding tells_nothing
+returns-else-last-eq0 c = simp (ne_eqb _ _ c.if-last-eq0.false)

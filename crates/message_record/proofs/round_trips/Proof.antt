@@ -1,9 +1,0 @@
-use Rattle.message_record.proofs.RoundTrips.{promises}
-use Rattle.message_record.proofs.round_trips.Statement.{statement}
-use Rattle.message_record.proofs.round_trips.Tie as tie
-
-returns : tie.Need-returns
-returns c = promises
-
-pub round-trips-spec : {M : Type 1} → statement M
-round-trips-spec = tie.close (tie.spec returns)
