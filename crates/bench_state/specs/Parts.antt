@@ -9,15 +9,15 @@ use Rattle.protocol.specs.Ballots.{new_ballots}
 
 -- of an event of one controller in this condition: a checkpoint it has or not, a message sent to these, its vote set agreeing or not
 abbrev pub facts_at : Shared → Condition → Bool → ℕ → Bool → Facts
-facts_at m k saved receivers agrees = record { shared = m; condition = k; has-checkpoint = saved; receivers = receivers; may_open_lem = false; agrees = agrees; may_give_lem = λ w. false; ballots = new_ballots; proposal = None }
+facts_at m k saved receivers agrees = record { shared = m; condition = k; has-checkpoint = saved; receivers = receivers; may_open = false; agrees = agrees; may_give = λ w. false; ballots = new_ballots; proposal = None }
 
 abbrev pub own_facts : Shared → Condition → Facts
 own_facts m k = facts_at m k false 0 true
 
 -- of the arbiter's word, which may be given or not
 abbrev pub decide_facts : Shared → Condition → Bool → Facts
-decide_facts m k may = record { shared = m; condition = k; has-checkpoint = false; receivers = 0; may_open_lem = false; agrees = true; may_give_lem = λ w. may; ballots = new_ballots; proposal = None }
+decide_facts m k may = record { shared = m; condition = k; has-checkpoint = false; receivers = 0; may_open = false; agrees = true; may_give = λ w. may; ballots = new_ballots; proposal = None }
 
 -- of a lock, and of an order that may be opened or not
 abbrev pub open_facts : Shared → Bool → Facts
-open_facts m may = record { shared = m; condition = in_phase 0 None; has-checkpoint = false; receivers = 0; may_open_lem = may; agrees = true; may_give_lem = λ w. false; ballots = new_ballots; proposal = None }
+open_facts m may = record { shared = m; condition = in_phase 0 None; has-checkpoint = false; receivers = 0; may_open = may; agrees = true; may_give = λ w. false; ballots = new_ballots; proposal = None }

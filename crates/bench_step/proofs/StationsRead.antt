@@ -50,9 +50,9 @@ read-facts b e may give agrees = λ p. record {
   condition = read-condition b (subject e) p;
   has-checkpoint = is_saved (read-saved b (subject e) p);
   receivers = receivers_in e (read-sent b (source e) p);
-  may_open_lem = may;
+  may_open = may;
   agrees = agrees;
-  may_give_lem = give;
+  may_give = give;
   ballots = b.ballots;
   proposal = read-proposal b (subject e) p;
 }

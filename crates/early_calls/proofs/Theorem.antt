@@ -227,9 +227,9 @@ untested-same b b₁ e s = λ p. first_no (questions_of (record {
   condition = condition (subject e) p;
   has-checkpoint = is_saved (s.saved (subject e) p);
   receivers = receivers_in e (s.sent (source e) p);
-  may_open_lem = may_open (s.shared p);
+  may_open = may_open (s.shared p);
   agrees = true;
-  may_give_lem = may_give (s.shared p) (s.ballots p);
+  may_give = may_give (s.shared p) (s.ballots p);
   ballots = s.ballots p;
   proposal = proposal (subject e) p;
 }) e)

@@ -116,9 +116,9 @@ module _ (n f : ℕ) where
     condition = (alike (v.ctl (subject e))).condition p;
     has-checkpoint = is_saved (v.saved (subject e));
     receivers = receivers_in e (v.state.sent (source e));
-    may_open_lem = may_open (shared_v n f v);
+    may_open = may_open (shared_v n f v);
     agrees = true;
-    may_give_lem = may_give_v (shared_v n f v) v.ballots;
+    may_give = may_give_v (shared_v n f v) v.ballots;
     ballots = v.ballots;
     proposal = (alike (v.ctl (subject e))).proposal p;
   }) e))

@@ -61,16 +61,16 @@ pub record Facts : Type 0 where
   pub condition : Condition
   pub has-checkpoint : Bool
   pub receivers : ℕ
-  pub may_open_lem : Bool
+  pub may_open : Bool
   pub agrees : Bool
-  pub may_give_lem : Bool → Bool
+  pub may_give : Bool → Bool
   pub ballots : Ballots
   pub proposal : Outcome
 
 -- each event's questions, from what they look at
 abbrev pub questions_of : Facts → Event → List Question
 questions_of v (Lock n f own) = ask 4 (sizes_in_range n f) ∷ ask 6 (not v.shared.locked) ∷ []
-questions_of v (Order o) = ask 5 v.shared.locked ∷ ask 8 (leb 1 o) ∷ ask 12 (ltb v.shared.order o) ∷ ask 13 v.may_open_lem ∷ []
+questions_of v (Order o) = ask 5 v.shared.locked ∷ ask 8 (leb 1 o) ∷ ask 12 (ltb v.shared.order o) ∷ ask 13 v.may_open ∷ []
 questions_of v (Cast i willing target) = ask 5 v.shared.locked ∷ ask 7 (is_controller v.shared.n i) ∷ ask 11 (position_in_range target) ∷ ask 14 (leb 1 v.shared.order)
     ∷ ask 15 (is_running v.condition) ∷ ask 16 (eqb (phase_in v.condition) 0) ∷ []
 questions_of v (Deliver i j kind) = ask 5 v.shared.locked ∷ ask 7 (different_controllers v.shared.n i j) ∷ ask 10 (route v.shared.f kind i j)
@@ -79,7 +79,7 @@ questions_of v (Timeout i) = ask 5 v.shared.locked ∷ ask 7 (is_controller v.sh
     ∷ ask 15 (is_running v.condition) ∷ ask 16 (eqb (phase_in v.condition) 1 || eqb (phase_in v.condition) 2) ∷ []
 questions_of v (Decide i move) = ask 5 v.shared.locked ∷ ask 7 (is_controller v.shared.n i) ∷ ask 14 (leb 1 v.shared.order)
     ∷ ask 15 (is_running v.condition || is_standby v.condition) ∷ ask 16 (is_standby v.condition || eqb (phase_in v.condition) 3)
-    ∷ ask 18 (v.may_give_lem move) ∷ []
+    ∷ ask 18 (v.may_give move) ∷ []
 questions_of v (Stop i) = ask 5 v.shared.locked ∷ ask 7 (is_controller v.shared.n i) ∷ ask 14 (leb 1 v.shared.order)
     ∷ ask 15 (is_running v.condition || is_standby v.condition) ∷ []
 questions_of v (Save i) = ask 5 v.shared.locked ∷ ask 7 (is_controller v.shared.n i) ∷ ask 14 (leb 1 v.shared.order)
@@ -91,7 +91,7 @@ questions_of v (OfBallots e) = ask 5 v.shared.locked ∷ ask 7 (ballot_controlle
 
 -- what they look at: of an event that concerns the controller of station s, and whose source has sent `sent`; and that, of a bench
 abbrev pub facts_of : Shared → Ballots → Event → Station → Sent → Bool → (Bool → Bool) → Bool → Facts
-facts_of m bs e s sent may give agrees = record { shared = m; may_give_lem = give; ballots = bs; proposal = s.controller.proposal; condition = s.controller.condition; has-checkpoint = is_saved s.saved; receivers = receivers_in e sent; may_open_lem = may; agrees = agrees }
+facts_of m bs e s sent may give agrees = record { shared = m; may_give = give; ballots = bs; proposal = s.controller.proposal; condition = s.controller.condition; has-checkpoint = is_saved s.saved; receivers = receivers_in e sent; may_open = may; agrees = agrees }
 
 abbrev pub questions : Bench → Event → List Question
 questions b e = questions_of (facts_of b.shared b.ballots e (station b (subject e)) (sent_by b (source e)) (may_open b.shared) (may_give b.shared b.ballots) (agrees_at b.shared e (sent_by b (source e)) (station b (subject e)))) e

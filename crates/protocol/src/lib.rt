@@ -1,5 +1,6 @@
 // The state of the controllers and of the bench. The rules over it stand in specs/, and so does the claim about them.
 #![tactic(auto)]
+
 ghost use Rattle.protocol.specs.Alone.{ControllerAlone};
 ghost use Rattle.protocol.specs.AskedInSequence.{AskedInSequence};
 ghost use Rattle.protocol.specs.BallotClaim.{BallotsAgree};

@@ -17,7 +17,7 @@ use Rattle.protocol.specs.Events.{concerns_one}
 use Rattle.protocol.specs.Questions.{Reply, accepted, is_accepted, unless, first_no, reply}
 use Rattle.protocol.specs.Steps.{order_opened, perform, step, run}
 use Rattle.protocol.specs.Claim.{after, opens_order, opens_any, InOrder}
-use Rattle.protocol.proofs.view.Kinds.{by_sort, one, asks-lock}
+use Rattle.protocol.proofs.view.Kinds.{by_sort, one, locks-or_locked}
 use Rattle.protocol.proofs.clean.Log.{In, entered}
 
 pub accepted-is : (r : Reply) → r ≡ accepted → is_accepted r ≡ true
@@ -182,8 +182,7 @@ in_order es e m = let s : Split e (log_at es) = in_split e (log_at es) m in (pla
 
 -- an event that enters the log is asked for a lock, a bench keeps its lock, and then refuses another
 has-lock : (b : Bench) (e : Event) → concerns_one e ≡ true → reply b e ≡ accepted → b.shared.locked ≡ true
-unfolding reply
-has-lock b e c q = elim (asks-lock _ e (accepted-is _ q)) [ inl l ↦ absurd (false≢true (ap concerns_one (sym l.is) ∙ c)) | inr h ↦ h ]
+has-lock b e c q = elim (locks-or_locked b e (accepted-is _ q)) [ inl l ↦ absurd (false≢true (ap concerns_one (sym l.is) ∙ c)) | inr h ↦ h ]
 
 perform-locked : (b : Bench) (e : Event) → b.shared.locked ≡ true → (perform b e).shared.locked ≡ true
 unfolding perform bench_of order_opened

@@ -35,7 +35,7 @@ use Rattle.protocol.proofs.invariant.Decisions.{Blank, blank-inv}
 use Rattle.protocol.proofs.clean.Log.{entered}
 use Rattle.protocol.proofs.clean.Parts.{Good, blank_good}
 use Rattle.protocol.proofs.view.View.{ask_l, all-of_copies}
-use Rattle.protocol.proofs.view.Kinds.{IsLock, asks-lock}
+use Rattle.protocol.proofs.view.Kinds.{IsLock, locks-or_locked}
 use Rattle.protocol.proofs.view.Simulation.{view, Any, Sound}
 use Rattle.protocol.proofs.ranges.Ranges.{InRange, SentIn, AllIn, unsent_in}
 use Rattle.protocol.proofs.lists.Moments.{push, log_of, refused-step}
@@ -92,8 +92,7 @@ locked-first n f own es q = record {
 
 -- before the lock every other event is refused
 pub new-lock : (e : Event) → is_accepted (reply new_bench e) ≡ true → IsLock e
-unfolding reply
-new-lock e q = elim (asks-lock _ e q) [ inl l ↦ l | inr h ↦ absurd (false≢true (unfold bench_of in h)) ]
+new-lock e q = elim (locks-or_locked new_bench e q) [ inl l ↦ l | inr h ↦ absurd (false≢true (unfold bench_of in h)) ]
 
 pub new_refuses : (e : Event) → concerns_one e ≡ true → is_accepted (reply new_bench e) ≡ true → ⊥
 new_refuses e c q = false≢true (ap concerns_one (sym (new-lock e q).is) ∙ c)

@@ -295,14 +295,16 @@ module _ (G H : ℕ → Type 0) (g0 : G 0) where
     unfolding renew
     renew_in c h = by_cond InRange (is_stopped c.condition) _ _ (λ e. cleared_in _ c (omega arith) h) (λ e. cleared_in _ c (omega arith) h)
 
+    unsent-to : (o k : ℕ) (kind : Kind) (j : ℕ) → has (of_kind kind unsent_all).to j ≡ true → (1 ≤ o) × (k ≤ n) × (j ≤ n) × (route f kind k j ≡ true)
+    unfolding unsent_all
+    unsent-to o k Vote j e = none_has j e
+    unsent-to o k Ack j e = none_has j e
+    unsent-to o k Help j e = none_has j e
+    unsent-to o k Helped j e = none_has j e
+
     pub unsent_in : (o k : ℕ) → SentIn o k unsent_all
-    unsent_in o k = record { caster = λ e. unfold unsent_all in none_has k e; call = unfold unsent_all in refl; to = to }
-      where
-        to : (kind : Kind) (j : ℕ) → has (of_kind kind unsent_all).to j ≡ true → (1 ≤ o) × (k ≤ n) × (j ≤ n) × (route f kind k j ≡ true)
-        to Vote j e = unfold unsent_all in none_has j e
-        to Ack j e = unfold unsent_all in none_has j e
-        to Help j e = unfold unsent_all in none_has j e
-        to Helped j e = unfold unsent_all in none_has j e
+    unfolding unsent_all
+    unsent_in o k = record { caster = λ e. none_has k e; call = refl; to = unsent-to o k }
 
     opened_in : (v : View) (o : ℕ) → H o → AllIn v → AllIn (opened_v n f v o)
     unfolding opened_v renewed order_opened

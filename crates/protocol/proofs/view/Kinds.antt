@@ -10,8 +10,9 @@ use Rattle.model.specs.declared.Kind.{Kind}
 use Rattle.model.specs.declared.Event.{Event}
 use Rattle.model.specs.declared.Event.TheVariants.{Lock, Order, Cast, Deliver, Timeout, Decide, Stop, Save, Restore, OfBallots}
 use Rattle.protocol.specs.declared.Bench.{Bench}
-use Rattle.protocol.specs.Events.{concerns_one}
-use Rattle.protocol.specs.Questions.{Facts, is_accepted, first_no, questions_of, reply}
+use Rattle.protocol.specs.Events.{concerns_one, subject, source}
+use Rattle.protocol.specs.Benches.{station, sent_by}
+use Rattle.protocol.specs.Questions.{Facts, is_accepted, first_no, may_open, may_give, agrees_at, facts_of, questions_of, reply}
 use Rattle.protocol.specs.Steps.{proposed_to, decided_as, answering, effect_of, perform}
 use Rattle.protocol.specs.Claim.{opens_order}
 use Rattle.protocol.specs.NoContradiction.{untested_reply}
@@ -82,6 +83,10 @@ asks-lock v (Stop i) q = inr (ask_l _ _ _ q)
 asks-lock v (Save i) q = inr (ask_l _ _ _ q)
 asks-lock v (Restore i) q = inr (ask_l _ _ _ q)
 asks-lock v (OfBallots e) q = inr (ask_l _ _ _ q)
+
+pub locks-or_locked : (b : Bench) (e : Event) → is_accepted (reply b e) ≡ true → IsLock e ⊎ (b.shared.locked ≡ true)
+unfolding reply
+locks-or_locked b e q = asks-lock (facts_of b.shared b.ballots e (station b (subject e)) (sent_by b (source e)) (may_open b.shared) (may_give b.shared b.ballots) (agrees_at b.shared e (sent_by b (source e)) (station b (subject e)))) e q
 
 -- a delivery alone is asked 24: any other event is answered without the test as with it
 pub record IsDelivery (e : Event) : Type 0 where

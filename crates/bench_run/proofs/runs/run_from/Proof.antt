@@ -23,7 +23,7 @@ use Rattle.bench_run.specs.Runs.{end_of}
 use Rattle.bench_run.proofs.Local.{bench_with, all_stations, new-parts, new-ballots}
 use Rattle.bench_run.proofs.Records.{Upto, start, in-room, not-read, no_room, ended, place-within, place_safe, place-all, refused-ready, refused-read, back-ready, step-back-read, due_note, step_safe, stepped-refused, stepped-taken, refused_nearer, back_nearer, note-place, note-few, noted-refused, noted-within, noted-even, noted-odd}
 use Rattle.bench_run.proofs.PlayLaws.{reading, in_place, order-size, lock-refused, lock-accepted, order-refused, order-accepted, order_quiet, cast-refused, cast-accepted, delivery-refused, vote-accepted, ack-passed-over, ack-held, ack-put, help-accepted, helped-accepted, timeout-refused, first-laid, second-accepted, decide-refused, decide-accepted, stop-refused, stop-accepted, save-refused, save-accepted, restore-refused, restore-accepted}
-use Rattle.bench_run.proofs.BallotPlay.{none-chosen, more-chosen, may_give_lem, ballot_played}
+use Rattle.bench_run.proofs.BallotPlay.{none-chosen, more-chosen, may_give, ballot_played}
 use Rattle.bench_run.proofs.runs.run_from.Statement.{statement}
 use Rattle.bench_run.proofs.runs.run_from.Tie as tie
 
@@ -299,7 +299,7 @@ loop-again-10 c =
     let told = c.before.before.before.before.before.before.before in
     let read = told.before.before in
     let turn = read.before.before.before.before in
-    order-refused _ _ _ _ _ _ _ _ _ _ (reading _ _ _ _ _ _ _ _ _ _ _ _ turn.before.loop.invariant turn.loop-test.true read.before.before.place_of.ensures _ read.before.is-pending.ensures _ read.next-at.ensures (told.next2.given.1 ∙ ap Plays c.before.before.before.before.e2.given.1)) _ c.before.before.may_open_lem.ensures c.before.order_question.ensures c.if7.true
+    order-refused _ _ _ _ _ _ _ _ _ _ (reading _ _ _ _ _ _ _ _ _ _ _ _ turn.before.loop.invariant turn.loop-test.true read.before.before.place_of.ensures _ read.before.is-pending.ensures _ read.next-at.ensures (told.next2.given.1 ∙ ap Plays c.before.before.before.before.e2.given.1)) _ c.before.before.may_open.ensures c.before.order_question.ensures c.if7.true
 
 loop2-holds : tie.Need-loop2-init invariant-loop2 decreases-loop2 invariant-loop3 decreases-loop3 invariant-loop decreases-loop
 loop2-holds c =
@@ -326,7 +326,7 @@ loop-again-11 c =
     let turn = read.before.before.before.before in
     let i = c.before.before.before.loop2.invariant in
     let all : c.before.before.before.loop2.i ≡ min turn.before.loop.m.n (length turn.before.loop.stations) = order-size _ turn.before.loop.stations _ _ c.before.before.before.before.before.order-opened.ensures _ _ c.before.before.before.before.up-to-limit.ensures i.1 (omega (arith, i.0, c.before.before.loop2-test.false)) in
-    order_quiet _ _ _ _ _ _ _ _ _ _ (reading _ _ _ _ _ _ _ _ _ _ _ _ turn.before.loop.invariant turn.loop-test.true read.before.before.place_of.ensures _ read.before.is-pending.ensures _ read.next-at.ensures (told.next2.given.1 ∙ ap Plays c.before.before.before.before.before.before.before.before.before.before.e2.given.1)) _ c.before.before.before.before.before.before.before.before.may_open_lem.ensures c.before.before.before.before.before.before.before.order_question.ensures c.before.before.before.before.before.before.if7.false _ c.before.before.before.before.before.order-opened.ensures c.if8.true _ (i.2 ∙ first-all renewed turn.before.loop.m.n c.before.before.before.loop2.i turn.before.loop.stations all)
+    order_quiet _ _ _ _ _ _ _ _ _ _ (reading _ _ _ _ _ _ _ _ _ _ _ _ turn.before.loop.invariant turn.loop-test.true read.before.before.place_of.ensures _ read.before.is-pending.ensures _ read.next-at.ensures (told.next2.given.1 ∙ ap Plays c.before.before.before.before.before.before.before.before.before.before.e2.given.1)) _ c.before.before.before.before.before.before.before.before.may_open.ensures c.before.before.before.before.before.before.before.order_question.ensures c.before.before.before.before.before.before.if7.false _ c.before.before.before.before.before.order-opened.ensures c.if8.true _ (i.2 ∙ first-all renewed turn.before.loop.m.n c.before.before.before.loop2.i turn.before.loop.stations all)
 
 loop-less-12 : tie.Need-loop-smaller-12 invariant-loop2 decreases-loop2 invariant-loop3 decreases-loop3 invariant-loop decreases-loop
 loop-less-12 c =
@@ -341,7 +341,7 @@ loop-again-12 c =
     let turn = read.before.before.before.before in
     let i = c.before.before.before.before.before.loop2.invariant in
     let all : c.before.before.before.before.before.loop2.i ≡ min turn.before.loop.m.n (length turn.before.loop.stations) = order-size _ turn.before.loop.stations _ _ c.before.before.before.before.before.before.before.order-opened.ensures _ _ c.before.before.before.before.before.before.up-to-limit.ensures i.1 (omega (arith, i.0, c.before.before.before.before.loop2-test.false)) in
-    order-accepted _ _ _ _ _ _ _ _ _ _ (reading _ _ _ _ _ _ _ _ _ _ _ _ turn.before.loop.invariant turn.loop-test.true read.before.before.place_of.ensures _ read.before.is-pending.ensures _ read.next-at.ensures (told.next2.given.1 ∙ ap Plays c.before.before.before.before.before.before.before.before.before.before.before.before.e2.given.1)) _ c.before.before.before.before.before.before.before.before.before.before.may_open_lem.ensures c.before.before.before.before.before.before.before.before.before.order_question.ensures c.before.before.before.before.before.before.before.before.if7.false _ c.before.before.before.before.before.before.before.order-opened.ensures _ (i.2 ∙ first-all renewed turn.before.loop.m.n c.before.before.before.before.before.loop2.i turn.before.loop.stations all) _ (new-ballots _ _ c.before.new-acceptor2.ensures c.new-row2.ensures)
+    order-accepted _ _ _ _ _ _ _ _ _ _ (reading _ _ _ _ _ _ _ _ _ _ _ _ turn.before.loop.invariant turn.loop-test.true read.before.before.place_of.ensures _ read.before.is-pending.ensures _ read.next-at.ensures (told.next2.given.1 ∙ ap Plays c.before.before.before.before.before.before.before.before.before.before.before.before.e2.given.1)) _ c.before.before.before.before.before.before.before.before.before.before.may_open.ensures c.before.before.before.before.before.before.before.before.before.order_question.ensures c.before.before.before.before.before.before.before.before.if7.false _ c.before.before.before.before.before.before.before.order-opened.ensures _ (i.2 ∙ first-all renewed turn.before.loop.m.n c.before.before.before.before.before.loop2.i turn.before.loop.stations all) _ (new-ballots _ _ c.before.new-acceptor2.ensures c.new-row2.ensures)
 
 slice-write-answers-5 : tie.Need-slice-write-answers-5 invariant-loop2 decreases-loop2 invariant-loop3 decreases-loop3 invariant-loop decreases-loop
 slice-write-answers-5 c =
@@ -662,7 +662,7 @@ loop-again-25 c =
     let read = told.before.before in
     let turn = read.before.before.before.before in
     let end : c.before.before.before.before.before.before.loop3.i ≡ c.before.before.before.before.before.before.before.ballots-asked.result = omega (arith, c.before.before.before.before.before.before.loop3.invariant.0, c.before.before.before.before.before.loop3-test.false) in
-    decide-refused _ _ _ _ _ _ _ _ _ _ _ c.before.before.before.before.before.before.before.before.seat5.ensures _ c.before.before.condition-of5.ensures _ _ (may_give_lem turn.before.loop.m _ _ _ _ _ _ c.before.before.before.before.before.before.before.ballots-asked.ensures.0 end c.before.before.before.before.before.before.loop3.invariant.1 c.before.before.before.before.may_give_lem.ensures)
+    decide-refused _ _ _ _ _ _ _ _ _ _ _ c.before.before.before.before.before.before.before.before.seat5.ensures _ c.before.before.condition-of5.ensures _ _ (may_give turn.before.loop.m _ _ _ _ _ _ c.before.before.before.before.before.before.before.ballots-asked.ensures.0 end c.before.before.before.before.before.before.loop3.invariant.1 c.before.before.before.before.may_give.ensures)
     (reading _ _ _ _ _ _ _ _ _ _ _ _ turn.before.loop.invariant turn.loop-test.true read.before.before.place_of.ensures _ read.before.is-pending.ensures _ read.next-at.ensures (told.next2.given.1 ∙ ap Plays c.before.before.before.before.before.before.before.before.before.before.e6.given.1)) (c.before.decide-question.ensures false) c.if15.true
 
 mul-stations-10 : tie.Need-overflow-mul-stations-10 invariant-loop2 decreases-loop2 invariant-loop3 decreases-loop3 invariant-loop decreases-loop
@@ -683,7 +683,7 @@ loop-again-26 c =
     let read = told.before.before in
     let turn = read.before.before.before.before in
     let end : c.before.before.before.before.before.before.before.before.before.before.loop3.i ≡ c.before.before.before.before.before.before.before.before.before.before.before.ballots-asked.result = omega (arith, c.before.before.before.before.before.before.before.before.before.before.loop3.invariant.0, c.before.before.before.before.before.before.before.before.before.loop3-test.false) in
-    decide-accepted _ _ _ _ _ _ _ _ _ _ _ c.before.before.before.before.before.before.before.before.before.before.before.before.seat5.ensures _ c.before.before.before.before.before.before.condition-of5.ensures _ _ (may_give_lem turn.before.loop.m _ _ _ _ _ _ c.before.before.before.before.before.before.before.before.before.before.before.ballots-asked.ensures.0 end c.before.before.before.before.before.before.before.before.before.before.loop3.invariant.1 c.before.before.before.before.before.before.before.before.may_give_lem.ensures)
+    decide-accepted _ _ _ _ _ _ _ _ _ _ _ c.before.before.before.before.before.before.before.before.before.before.before.before.seat5.ensures _ c.before.before.before.before.before.before.condition-of5.ensures _ _ (may_give turn.before.loop.m _ _ _ _ _ _ c.before.before.before.before.before.before.before.before.before.before.before.ballots-asked.ensures.0 end c.before.before.before.before.before.before.before.before.before.before.loop3.invariant.1 c.before.before.before.before.before.before.before.before.may_give.ensures)
     (reading _ _ _ _ _ _ _ _ _ _ _ _ turn.before.loop.invariant turn.loop-test.true read.before.before.place_of.ensures _ read.before.is-pending.ensures _ read.next-at.ensures (told.next2.given.1 ∙ ap Plays c.before.before.before.before.before.before.before.before.before.before.before.before.before.before.e6.given.1)) (c.before.before.before.before.before.decide-question.ensures false) c.before.before.before.before.if15.false _ c.before.before.decide-turn.ensures
 
 slice-write-answers-9 : tie.Need-slice-write-answers-9 invariant-loop2 decreases-loop2 invariant-loop3 decreases-loop3 invariant-loop decreases-loop

@@ -24,7 +24,7 @@ asked c =
     let at-may-give = c.before.before in
     let at-station-at = at-may-give.before.before.before.before in
     let s = at-station-at.before in
-    let may = at-may-give.may_give_lem.ensures ∙ ap (λ (x : Bool). cond s.args.b.shared.own x (was_proposed s.args.b.shared.consensus s.args.to-move && no_other_word s.args.b.shared.consensus.decision s.args.to-move)) (at-may-give.before.is-chosen.ensures s.args.b.ballots.acceptors) in
+    let may = at-may-give.may_give.ensures ∙ ap (λ (x : Bool). cond s.args.b.shared.own x (was_proposed s.args.b.shared.consensus s.args.to-move && no_other_word s.args.b.shared.consensus.decision s.args.to-move)) (at-may-give.before.is-chosen.ensures s.args.b.ballots.acceptors) in
     c.decide-question.ensures s.args.to-move
     ∙ ap (λ (x : Bool). number (first_no (questions_of (decide_facts s.args.b.shared c.before.condition-of.result x) (event s)))) may
     ∙ ap (λ (x : Condition). number (first_no (questions_of (decide_facts s.args.b.shared x (may_give s.args.b.shared s.args.b.ballots s.args.to-move)) (event s)))) (c.before.condition-of.ensures ∙ ap (λ (x : Station). x.controller.condition) at-station-at.station-at.ensures.0)

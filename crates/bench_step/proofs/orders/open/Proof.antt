@@ -8,7 +8,7 @@ use Rattle.bench_step.proofs.orders.open.Tie as tie
 
 asked : (c : tie.After-order-question) → c.order_question.result ≡ number (reply c.before.before.args.b (Order c.before.before.args.order))
 unfolding reply
-asked c = rw (c.order_question.ensures, c.before.may_open_lem.ensures)
+asked c = rw (c.order_question.ensures, c.before.may_open.ensures)
 
 returns : tie.Need-returns
 returns c = refuses _ _ _ (asked c.before) c.if1.true

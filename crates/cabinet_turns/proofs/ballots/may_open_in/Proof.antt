@@ -5,7 +5,7 @@ use Rattle.cabinet_turns.proofs.ballots.may_open_in.Tie as tie
 
 returns : tie.Need-returns
 unfolding may_open
-returns c = simp (← c.before.tally-for.ensures, c.may_open_lem.ensures)
+returns c = simp (← c.before.tally-for.ensures, c.may_open.ensures)
 
 pub may-open-in-spec : {M : Type 1} → statement M
 may-open-in-spec = tie.close (tie.spec (λ c κs. search rules) (λ c κs. search rules) returns)

@@ -21,7 +21,7 @@ returns c = simp (← c.before.before.takes_part.ensures, not-true c.before.befo
 
 returns-2 : tie.Need-returns-2
 unfolding open_call
-returns-2 c = simp (← c.before.before.before.before.takes_part.ensures, not-false c.before.before.before.before.takes_part.result c.before.before.before.if1.false, ← c.before.before.may_open_lem.ensures, not-true c.before.before.may_open_lem.result c.before.if2.true, c.unanswered2.ensures)
+returns-2 c = simp (← c.before.before.before.before.takes_part.ensures, not-false c.before.before.before.before.takes_part.result c.before.before.before.if1.false, ← c.before.before.may_open.ensures, not-true c.before.before.may_open.result c.before.if2.true, c.unanswered2.ensures)
 
 returns-3 : tie.Need-returns-3
 unfolding open_call
@@ -30,7 +30,7 @@ returns-3 c =
     let at-may-open = at-is-none.before.before in
     let at-takes-part = at-may-open.before.before in
     no_word _ _ _ _ _ _ (sym at-takes-part.takes_part.ensures ∙ not-false at-takes-part.takes_part.result at-may-open.before.if1.false)
-    (sym at-may-open.may_open_lem.ensures ∙ not-false at-may-open.may_open_lem.result at-is-none.before.if2.false)
+    (sym at-may-open.may_open.ensures ∙ not-false at-may-open.may_open.result at-is-none.before.if2.false)
     (sym at-is-none.is_none.ensures ∙ c.before.if3.true) c.unanswered3.ensures
 
 returns-4 : tie.Need-returns-4
@@ -40,7 +40,7 @@ returns-4 c =
     let at-may-open = at-is-none.before.before in
     let at-takes-part = at-may-open.before.before in
     with-word _ _ _ _ _ _ (sym at-takes-part.takes_part.ensures ∙ not-false at-takes-part.takes_part.result at-may-open.before.if1.false)
-    (sym at-may-open.may_open_lem.ensures ∙ not-false at-may-open.may_open_lem.result at-is-none.before.if2.false)
+    (sym at-may-open.may_open.ensures ∙ not-false at-may-open.may_open.result at-is-none.before.if2.false)
     (sym at-is-none.is_none.ensures ∙ c.before.if3.false) c.open-ballot.ensures
 
 pub open_spec : {M : Type 1} → statement M

@@ -2,8 +2,8 @@
 use mathlib.Core.Path.{refl}
 use Rattle.protocol.specs.declared.Bench.{Bench}
 use Rattle.protocol.specs.AskedInSequence.{AskedInSequence}
-use Rattle.protocol.proofs.asked_in_sequence.Statement.{statement}
-use Rattle.protocol.proofs.asked_in_sequence.Tie as tie
+use Rattle.std.proofs.Common.{rules}
+use Rattle.protocol.proofs.asked_in_sequence.Goals as goal
 
 asked : (b : Bench) → AskedInSequence b
 asked b = record {
@@ -20,8 +20,5 @@ asked b = record {
   carry = λ i j kind b. refl;
 }
 
-returns : tie.Need-returns
+pub returns : goal.returns
 returns c = asked
-
-pub asked-in-sequence-spec : {M : Type 1} → statement M
-asked-in-sequence-spec = tie.close (tie.spec returns)

@@ -1,0 +1,7 @@
+-- `protocol::ballots_agree` meets its contract.
+use Rattle.protocol.proofs.paxos.Chosen.{ballots_agree}
+use Rattle.std.proofs.Common.{rules}
+use Rattle.protocol.proofs.ballots_agree.Goals as goal
+
+pub returns : goal.returns
+returns c = ballots_agree
