@@ -1,5 +1,6 @@
 // A controller's parts, the small changes that its rules are made of, and what it may answer. Each function is equal to the definition of its name.
 #![tactic(auto)]
+
 mod answers;
 mod changes;
 mod conditions;

@@ -99,26 +99,35 @@ vote_matches s c = by-stage (vote_arrives s) c
     (λ e. by_cond₂ EarlyMatch (leb (phase c) 1) _ _ _ _ (λ p. record { there = e; next = refl; sends = refl; word = refl }) (λ p. passed_over c e))
     (λ e. by_cond Stays (leb (phase c) 1) _ _ (λ p. record { there = e }) (λ p. passed-stays c e))
 
--- an acknowledgement or a help answer arrives
+-- an acknowledgement or a help answer arrives: what is kept may end waiting
+module _ (n f : ℕ) where
+  settle_matches : (d : Controller) → leb (phase d) 2 ≡ true → EarlyMatch (propose_if_sufficient n f (becomes d)) (propose_if_sufficient n f (becomes (with_callers d 0)))
+  unfolding propose_if_sufficient sufficient proposing verdict answers_join ack_join becomes propose
+  settle_matches d e = by_cond₂ EarlyMatch (sufficient n f d) _ _ _ _ (λ q. record { there = e; next = refl; sends = refl; word = refl }) (λ q. record { there = e; next = refl; sends = refl; word = refl })
+
+  settle-stays : (d : Controller) → leb (phase d) 2 ≡ false → Stays (propose_if_sufficient n f (becomes d))
+  unfolding propose_if_sufficient proposing becomes propose
+  settle-stays d e = by_cond Stays (sufficient n f d) _ _ (λ q. record { there = e }) (λ q. record { there = e })
+
 module _ (n f j : ℕ) (s : VoteSet) (c : Controller) where
   pub ack_matches : Matches (ack_arrives n f j s c) (ack_arrives n f j s (without_kept c))
-  unfolding ack_arrives propose_if_sufficient sufficient proposing verdict answers_join ack_join becomes keep_ack propose
+  unfolding ack_arrives keep_ack
   ack_matches = by-stage (ack_arrives n f j s) c
       (λ e. by_cond₂ EarlyMatch (not (has_ack c j) && (leb (phase c) 2 || c.help.waiting)) _ _ _ _
-      (λ p. by_cond₂ EarlyMatch (sufficient n f (keep_ack c j s)) _ _ _ _ (λ q. record { there = e; next = refl; sends = refl; word = refl }) (λ q. record { there = e; next = refl; sends = refl; word = refl }))
+      (λ p. settle_matches n f (keep_ack c j s) e)
       (λ p. passed_over c e))
       (λ e. by_cond Stays (not (has_ack c j) && (leb (phase c) 2 || c.help.waiting)) _ _
-      (λ p. by_cond Stays (sufficient n f (keep_ack c j s)) _ _ (λ q. record { there = e }) (λ q. record { there = e }))
+      (λ p. settle-stays n f (keep_ack c j s) e)
       (λ p. passed-stays c e))
 
   pub helped_matches : Matches (helped_arrives n f j s c) (helped_arrives n f j s (without_kept c))
-  unfolding helped_arrives propose_if_sufficient sufficient proposing verdict answers_join ack_join becomes keep_helped propose
+  unfolding helped_arrives keep_helped
   helped_matches = by-stage (helped_arrives n f j s) c
       (λ e. by_cond₂ EarlyMatch (not (has_helped c j) && c.help.waiting) _ _ _ _
-      (λ p. by_cond₂ EarlyMatch (sufficient n f (keep_helped c j s)) _ _ _ _ (λ q. record { there = e; next = refl; sends = refl; word = refl }) (λ q. record { there = e; next = refl; sends = refl; word = refl }))
+      (λ p. settle_matches n f (keep_helped c j s) e)
       (λ p. passed_over c e))
       (λ e. by_cond Stays (not (has_helped c j) && c.help.waiting) _ _
-      (λ p. by_cond Stays (sufficient n f (keep_helped c j s)) _ _ (λ q. record { there = e }) (λ q. record { there = e }))
+      (λ p. settle-stays n f (keep_helped c j s) e)
       (λ p. passed-stays c e))
 
 -- a help call from stage 3 on

@@ -1,5 +1,6 @@
 // The reader and the writer of telegrams; `message_record` says what stands on the record and what is asked of it.
 #![tactic(auto)]
+
 mod forms;
 mod layout;
 mod writing;

@@ -21,7 +21,7 @@ use Rattle.steps_back.specs.Memory.{Remembering, new_remembering, can_be_undone,
 use Rattle.steps_back.specs.Claim.{at, bench, remembers, Accepted, NoLock, Came, Undoes}
 use Rattle.model.specs.declared.Act.{Act}
 use Rattle.model.specs.declared.Act.TheVariants.{Play, Back}
-use Rattle.protocol.proofs.view.Kinds.{asks-lock}
+use Rattle.protocol.proofs.view.Kinds.{locks-or_locked}
 use Rattle.protocol.proofs.lists.Moments.{accepted-is, step-locked}
 use Rattle.steps_back.proofs.Theorem.{without_snoc, run_snoc, Found, found, find, inv, left-taken, at-taken, left-refused, at-refused}
 
@@ -182,8 +182,7 @@ none-there (b ∷ past) h = absurd (omega arith)
 
 -- a lock is set up where an event is remembered: that was asked of it
 has-lock : (b : Bench) (e : Event) → can_be_undone e ≡ true → reply b e ≡ accepted → b.shared.locked ≡ true
-unfolding reply
-has-lock b e u ok = elim (asks-lock _ e (accepted-is _ ok)) [ inl l ↦ absurd (false≢true (sym (ap can_be_undone l.is) ∙ u)) | inr h ↦ h ]
+has-lock b e u ok = elim (locks-or_locked b e (accepted-is _ ok)) [ inl l ↦ absurd (false≢true (sym (ap can_be_undone l.is) ∙ u)) | inr h ↦ h ]
 
 lock-there : (acts : List Act) → is_some (at acts).past ≡ true → (bench acts).shared.locked ≡ true
 lock-there acts some =

@@ -1,5 +1,6 @@
 // Steps back on the bench (document 02, U11). The definitions, the claim and the trials stand in specs/.
 #![tactic(auto)]
+
 ghost use Rattle.std.specs.Prelude.{◌≡◌};
 ghost use Rattle.model.specs.Questions.{number};
 ghost use Rattle.steps_back.specs.Claim.{StepsBack};

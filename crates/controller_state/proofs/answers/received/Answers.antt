@@ -1,0 +1,5 @@
+use Rattle.std.proofs.Common.{rules}
+use Rattle.controller_state.proofs.answers.received.Goals as goal
+
+pub returns : goal.returns
+returns c = simp c.reception_of.ensures

@@ -1,0 +1,7 @@
+use Rattle.protocol.specs.Controllers.{cleared}
+use Rattle.std.proofs.Common.{rules}
+use Rattle.controller_state.proofs.changes.cleared.Goals as goal
+
+pub returns : goal.returns
+unfolding cleared
+returns c = simp c.blank.ensures

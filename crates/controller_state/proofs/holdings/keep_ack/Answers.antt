@@ -1,0 +1,7 @@
+use Rattle.protocol.specs.Controllers.{keep_ack}
+use Rattle.std.proofs.Common.{rules}
+use Rattle.controller_state.proofs.holdings.keep_ack.Goals as goal
+
+pub returns : goal.returns
+unfolding keep_ack
+returns c = simp (c.placed.ensures, c.insert.ensures, c.bump.ensures)

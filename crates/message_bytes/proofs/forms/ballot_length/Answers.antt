@@ -1,0 +1,8 @@
+use Rattle.std.proofs.Common.{rules}
+use Rattle.message_bytes.proofs.forms.ballot_length.Goals as goal
+
+pub returns-in-Short : goal.returns-in-Short
+returns-in-Short c = simp c.in-Short.is
+
+pub returns-in-Long : goal.returns-in-Long
+returns-in-Long c = simp c.in-Long.is

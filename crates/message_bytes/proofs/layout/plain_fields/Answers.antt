@@ -1,0 +1,5 @@
+use Rattle.std.proofs.Common.{rules}
+use Rattle.message_bytes.proofs.layout.plain_fields.Goals as goal
+
+pub returns : goal.returns
+returns c = simp (← c.no_more-more.ensures, c.kind_number.ensures)
