@@ -1,5 +1,6 @@
 // The rules of ballots (document 02, U14), of one controller and of one ballot on the bench. Each function is equal to the definition of its name.
 #![tactic(auto)]
+
 mod acceptors;
 mod chosen;
 mod fresh;

@@ -2,6 +2,7 @@
 // equal to its definition. Beside them what the vote sets that it holds say: whether they decide, whether they suffice to put a word, and whether another
 // contradicts one of them. Whether a call is taken at all, crate `controller` asks.
 #![tactic(auto)]
+
 mod arrivals;
 mod deciding;
 mod first;

@@ -1,6 +1,7 @@
 // "The schedule is read from its front, one record at a time": a thin struct of the schedule's slice and a position in it. A run begins with the reader
 // at the front, and reads each record through a reader at its place (`record_at`, which has plain parameters).
 #![tactic(auto)]
+
 ghost use Rattle.std.specs.Prelude.{◌≡◌, ◌+◌, ◌≤◌, min};
 ghost use Rattle.event_record.specs.Events.{event_length};
 ghost use Rattle.schedule_reader.specs.Pieces.{record_at};

@@ -1,0 +1,7 @@
+use Rattle.protocol.specs.BallotRules.{unanswered}
+use Rattle.std.proofs.Common.{rules}
+use Rattle.ballot_rules.proofs.acceptors.unanswered.Goals as goal
+
+pub returns : goal.returns
+unfolding unanswered
+returns c = simp c.no_promise.ensures

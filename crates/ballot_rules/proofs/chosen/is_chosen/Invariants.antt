@@ -1,0 +1,19 @@
+-- The loop over the ballots stops at the first in which the word is chosen; so far it was in none.
+use Prim.Native.Nat.{ℕ, suc, ◌≤◌, ◌-◌}
+use mathlib.Core.Path.{◌≡◌, refl, sym, ◌∙◌, ap}
+use mathlib.Core.Bool.{Bool, false}
+use mathlib.Core.List.{List, []}
+use native.Mathlib.Omega.{arith}
+use native.Mathlib.Numerals.{add-one}
+use Rattle.ground.specs.Tests.{or_no}
+use Rattle.ground.specs.Lists.{nth}
+use Rattle.ground.specs.Quantify.{any_to, any_of}
+use Rattle.protocol.specs.declared.BallotRow.{BallotRow}
+use Rattle.protocol.specs.Ballots.{ballot_limit, new_row, row, chosen_in, is_chosen}
+use Rattle.ballot_rules.proofs.chosen.is_chosen.Given as goal
+
+abbrev pub invariant-loop-at : goal.invariant-loop-at
+invariant-loop-at l = (l.at ≤ ballot_limit) × (any_to l.at (chosen l.n l.rows l.to_move) ≡ false)
+
+abbrev pub decreases-loop-at : goal.decreases-loop-at
+decreases-loop-at l = ballot_limit - l.at

@@ -1,0 +1,9 @@
+use borrow.Author.Tests.{eq-eqb, ne_eqb}
+use Rattle.std.proofs.Common.{rules}
+use Rattle.ballot_rules.proofs.owners.word_for.Goals as goal
+
+pub returns-then-t-eq0 : goal.returns-then-t-eq0
+returns-then-t-eq0 c = simp (eq-eqb _ _ c.if-t-eq0.true)
+
+pub returns : goal.returns
+returns c = simp (ne_eqb _ _ c.if-t-eq0.false)

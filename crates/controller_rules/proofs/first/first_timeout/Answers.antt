@@ -1,0 +1,6 @@
+use Rattle.controller_rules.proofs.Joined.{first-joined}
+use Rattle.std.proofs.Common.{rules}
+use Rattle.controller_rules.proofs.first.first_timeout.Goals as goal
+
+pub returns : goal.returns
+returns c = simp (c.count_own.ensures, c.acknowledge.ensures) (first-joined _ _ _ _)

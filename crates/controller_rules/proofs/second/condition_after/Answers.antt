@@ -1,0 +1,5 @@
+use Rattle.std.proofs.Common.{rules}
+use Rattle.controller_rules.proofs.second.condition_after.Goals as goal
+
+pub returns-in-Decides : goal.returns-in-Decides
+returns-in-Decides c = simp (c.in-Decides.is, c.noting.ensures)

@@ -1,0 +1,7 @@
+use Rattle.protocol.specs.Rules.{verdict}
+use Rattle.std.proofs.Common.{rules}
+use Rattle.controller_rules.proofs.waiting.verdict.Goals as goal
+
+pub returns : goal.returns
+unfolding verdict
+returns c = simp (c.unanimous.ensures, c.word_of.ensures)
