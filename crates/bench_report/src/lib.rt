@@ -1,5 +1,6 @@
 // What the bench program prints of the answers to a schedule and of the bench after it, written into a lent buffer.
 #![tactic(auto)]
+
 ghost use Rattle.std.specs.Prelude.{◌≡◌, ◌≤◌, length};
 ghost use Rattle.text.specs.Writing.{Put, fitted, fitted_length};
 ghost use Rattle.bench_report.specs.Limits.{most_answers, is_too_long, longest_report};

@@ -1,6 +1,6 @@
 -- Laws of a sheet in pieces: the lockages of two pieces are those of the first and then those of the second.
-use Prim.Native.Nat.{ℕ, zero, suc, ◌+◌, ◌*◌, ◌/◌, ◌%◌, ◌≤◌, ◌<◌}
-use Rattle.std.specs.Prelude.{◌≡◌, Bool, true, false, cond, ◌&&◌, List, [], ◌∷◌, ◌++◌, eqb, leb, length, get_or}
+use Prim.Native.Nat.{ℕ, zero, suc, ◌+◌, ◌*◌, ◌%◌, ◌≤◌, ◌<◌}
+use Rattle.std.specs.Prelude.{◌≡◌, Bool, true, false, cond, ◌&&◌, List, [], ◌∷◌, ◌++◌, leb, length}
 use Rattle.std.proofs.Math.Path.{refl}
 use Rattle.std.proofs.Common.{sym, ◌∙◌, ap, append_assoc, append-nil, add-suc, add-zero, arith, length-append, get_or-append-add}
 use Rattle.std.proofs.lemmas.Bool.{lt-leb}
@@ -9,7 +9,6 @@ use Rattle.model.specs.Questions.{accepted, first_no, unless}
 use Rattle.records.specs.Bytes.{byte}
 use Rattle.tariff.specs.declared.Shares.{Shares}
 use Rattle.dues.specs.declared.Lockage.{Lockage}
-use Rattle.dues.specs.declared.Answer.{Answer}
 use Rattle.dues.specs.declared.Answer.TheVariants.{Refused}
 use Rattle.dues.specs.Sheet.{lockage_at, lockages_to, count, lockages, every, listed, in_range, whole, questions, totals, answered, dues_for}
 use Rattle.dues.specs.Pieces.{piece_length, nothing_kept, kept_of, long_dues, last_answer, joined, EachWhole, InPieces}

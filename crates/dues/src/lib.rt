@@ -1,5 +1,6 @@
 // A sheet of lockages: the questions put to it, what the two owners get of it, and what is printed of that.
 #![tactic(auto)]
+
 mod output;
 mod pieces;
 mod sheet;

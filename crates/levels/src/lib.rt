@@ -1,5 +1,6 @@
 // A gate's vote from the levels that two gauges show. Document 02, U1.
 #![tactic(auto)]
+
 mod answer;
 mod heights;
 

@@ -1,5 +1,6 @@
 // What the levels program prints of two ranges, in a lent buffer.
 #![tactic(auto)]
+
 ghost use Rattle.std.specs.Prelude.{◌≡◌, ◌+◌, ◌≤◌, length};
 ghost use Rattle.text.specs.Writing.{fitted, fitted_length, Rendered};
 ghost use Rattle.levels_text.specs.Output.{range_at, words, willingness_in, output_of};

@@ -1,5 +1,6 @@
 // The one line to the arbiter that the locks of a flight share: who calls for it, and who is served next.
 #![tactic(auto)]
+
 ghost use Rattle.std.specs.Prelude.{◌≡◌};
 ghost use Rattle.line.specs.Turns.{new_line, calls, unchanged, call_of, up, first_caller, turn_of, perform, number};
 ghost use Rattle.line.specs.Claim.{FairLine};

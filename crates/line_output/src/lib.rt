@@ -1,5 +1,6 @@
 // What the line program prints of the acts that it is given, in a lent buffer.
 #![tactic(auto)]
+
 ghost use Rattle.std.specs.Prelude.{◌≡◌, ◌∷◌, [], ◌++◌, ◌≤◌, length};
 ghost use Rattle.text.specs.Text.{ascii, decimal, line, lines};
 ghost use Rattle.text.specs.Writing.{Put, Rendered};

@@ -1,6 +1,6 @@
 -- The words of the questions: document 01, "Questions put to a record or event", and those of document 02's requests. A "no" to one is a refusal with its number.
 -- docs/QUESTIONS.md says of each when it is met, in these words.
-use Rattle.std.specs.Prelude.{ℕ, zero, suc, ◌≡◌, refl, List, [], ◌∷◌, map, get_or}
+use Rattle.std.specs.Prelude.{ℕ, suc, ◌≡◌, refl, List, [], ◌∷◌, map, get_or}
 use Prim.Native.String.{String}
 use Rattle.text.specs.Text.{ascii}
 

@@ -1,5 +1,6 @@
 // The words of the questions, and the one table of them in code.
 #![tactic(auto)]
+
 ghost use Rattle.std.specs.Prelude.{[], get_or};
 ghost use Rattle.text.specs.Writing.{Put};
 ghost use Rattle.words.specs.Words.{lines_of};

@@ -1,5 +1,6 @@
 // What a lockage pays by the boat's length, and how the two owners share it.
 #![tactic(auto)]
+
 mod charge;
 mod lookup;
 

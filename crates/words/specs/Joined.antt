@@ -1,6 +1,6 @@
 -- Words on a line of their own, a space between two: the line is cut into those words again, whatever stands after it.
 use Prim.Native.Nat.{ℕ, suc, ◌+◌, ◌-◌, ◌^◌, ◌≤◌, ◌<◌}
-use Rattle.std.specs.Prelude.{◌≡◌, Bool, true, false, cond, not, ◌&&◌, eqb, leb, ltb, length, take, drop}
+use Rattle.std.specs.Prelude.{◌≡◌, Bool, true, false, ◌&&◌, eqb, leb, ltb, length, drop}
 use Rattle.std.proofs.Math.Path.{refl, ap}
 use Rattle.std.proofs.Common.{sym, ◌∙◌, arith, leb-true, ne_eqb, length-append, take_all}
 use mathlib.Core.List.{List, [], ◌∷◌, ◌++◌, append_assoc}
@@ -12,7 +12,7 @@ use Rattle.words.specs.WordLaws.{all_one, one_then, run-yes, run_no}
 use Rattle.words.specs.Numbers.{is_digit, all_digits}
 use Rattle.words.specs.NumberLaws.{decimal-digits, decimal-some}
 use Rattle.words.specs.declared.Class.{Class}
-use Rattle.words.specs.declared.Class.TheVariants.{Gap, Word, Line, Shown}
+use Rattle.words.specs.declared.Class.TheVariants.{Word, Line, Shown}
 
 -- words with a space between two
 abbrev pub joined : List (List ℕ) → List ℕ

@@ -1,5 +1,5 @@
 -- Laws of lines, as they are met along a text.
-use Rattle.std.specs.Prelude.{ℕ, zero, suc, ◌+◌, ◌-◌, ◌≤◌, ◌<◌, ◌≡◌, refl, cond, List, [], ◌∷◌, leb, ltb, length, take, drop, get_or}
+use Rattle.std.specs.Prelude.{ℕ, zero, suc, ◌+◌, ◌-◌, ◌≤◌, ◌<◌, ◌≡◌, refl, cond, List, [], ◌∷◌, leb, length, take, drop, get_or}
 use Rattle.std.proofs.Common.{sym, ◌∙◌, ap, add-zero, add-one, arith, le-leb, le-ltb, lt-ltb, length-drop, drop-drop, take_all, get_or-drop}
 use Rattle.std.proofs.Math.Decide.{dec_lt}
 use Rattle.std.proofs.lemmas.Bool.{lt-leb}

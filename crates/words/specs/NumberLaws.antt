@@ -1,17 +1,16 @@
 -- Laws of numbers and names in words: digit by digit, name by name; and what is written is read back.
-use Rattle.std.specs.Prelude.{ℕ, zero, suc, ◌+◌, ◌*◌, ◌-◌, ◌/◌, ◌%◌, ◌^◌, ◌≤◌, ◌<◌, ◌≡◌, Bool, true, false, cond, ◌&&◌, ◌⊎◌, eqb, ltb, length, take, drop, get_or}
-use Prim.Native.Char.{code}
+use Rattle.std.specs.Prelude.{ℕ, zero, suc, ◌+◌, ◌*◌, ◌-◌, ◌/◌, ◌%◌, ◌^◌, ◌≤◌, ◌<◌, ◌≡◌, true, false, ◌&&◌, eqb, ltb, length, drop, get_or}
 use Rattle.std.proofs.Math.Path.{refl}
 use Rattle.std.proofs.Common.{sym, ◌∙◌, ap, arith, drop_of_length-le, length-append, drop-cons}
 use mathlib.Core.List.{List, [], ◌∷◌, ◌++◌}
 use Rattle.std.proofs.Math.Logic.{inl, inr}
 use Rattle.std.proofs.Math.Numerals.{add-one}
-use borrow.Author.Tests.{le-leb, lt-leb, leb-true, leb-false, lt-ltb, le-ltb, ltb-true, eq-eqb, ne_eqb}
+use borrow.Author.Tests.{le-leb, lt-leb, leb-true, leb-false, ltb-true, eq-eqb, ne_eqb}
 use Rattle.std.proofs.Math.Dec.{leb}
 use Rattle.ground.specs.Tests.{split, by_cond, and_l, and_r, and_i}
 use Rattle.text.specs.Text.{ascii, digit, digits, decimal, signed}
 use Rattle.text.specs.TextLaws.{read, read-decimal}
-use Rattle.words.specs.Words.{words_of, same}
+use Rattle.words.specs.Words.{same}
 use Rattle.words.specs.Numbers.{is_digit, all_digits, number_in, negated, signed_in, number_among}
 use Rattle.words.specs.declared.Found.{Found}
 use Rattle.words.specs.declared.Found.TheVariants.{Value, Nothing}

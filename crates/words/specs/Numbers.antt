@@ -1,5 +1,5 @@
 -- What a word stands for: a number in decimal, a number with its sign, or one of some names.
-use Rattle.std.specs.Prelude.{ℕ, zero, suc, ◌-◌, ◌^◌, Bool, true, cond, ◌&&◌, List, [], ◌∷◌, eqb, leb}
+use Rattle.std.specs.Prelude.{ℕ, suc, ◌-◌, ◌^◌, Bool, true, cond, ◌&&◌, List, [], ◌∷◌, eqb, leb}
 use Prim.Native.Char.{code}
 use Rattle.text.specs.TextLaws.{read}
 use Rattle.words.specs.Words.{words_of, same}

@@ -1,18 +1,18 @@
 -- Laws of lines and words: a run goes on or stops; pieces and words one after the other, as they are met along a text.
 use Prim.Native.Nat.{ℕ, zero, suc, ◌+◌, ◌-◌, ◌≤◌, ◌<◌}
-use Rattle.std.specs.Prelude.{◌≡◌, Bool, true, false, cond, not, ◌&&◌, ◌⊎◌, eqb, take, get_or}
+use Rattle.std.specs.Prelude.{◌≡◌, Bool, true, false, not, ◌&&◌, eqb, take, get_or}
 use Rattle.std.proofs.Math.Path.{refl, sym, ap}
-use Rattle.std.proofs.Common.{◌∙◌, zero-add, add-zero, add-one, eq-eqb, ne_eqb, eqb-true, drop_of_length-le, length-drop, take_all, drop-cons, get_or-drop}
-use mathlib.Core.List.{List, [], ◌∷◌, ◌++◌}
+use Rattle.std.proofs.Common.{◌∙◌, add-zero, add-one, eq-eqb, ne_eqb, drop_of_length-le, length-drop, take_all, drop-cons, get_or-drop}
+use mathlib.Core.List.{List, [], ◌∷◌}
 use Rattle.std.proofs.Math.Logic.{inl, inr}
 use native.Mathlib.Omega.{arith}
 use Rattle.std.proofs.Math.Decide.{dec_lt}
 use Rattle.std.proofs.Math.ListN.{length, drop}
-use Rattle.std.proofs.Math.Seq.{drop-drop, drop-length, drop-nil}
-use Rattle.ground.specs.Tests.{split, and_l, and_r}
+use Rattle.std.proofs.Math.Seq.{drop-drop, drop-length}
+use Rattle.ground.specs.Tests.{split}
 use Rattle.words.specs.Words.{belongs, run, pieces, not_empty, words_of, end_of_run, part, span_at, Next, past, nth_span, nth_word, same}
 use Rattle.words.specs.declared.Class.{Class}
-use Rattle.words.specs.declared.Class.TheVariants.{Gap, Word, Line, Shown}
+use Rattle.words.specs.declared.Class.TheVariants.{Gap, Word}
 use Rattle.words.specs.declared.Span.{Span}
 
 module _ (c : Class) where

@@ -1,5 +1,6 @@
 // Text as lines and words, and the numbers and names that words stand for.
 #![tactic(auto)]
+
 mod meaning;
 mod scan;
 

@@ -1,0 +1,6 @@
+-- `dues::in_pieces` meets its contract.
+use Rattle.dues.specs.PiecesLaws.{in_pieces}
+use Rattle.dues.proofs.pieces.in_pieces.Goals as goal
+
+pub returns : goal.returns
+returns c = in_pieces

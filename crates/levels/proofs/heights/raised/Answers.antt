@@ -1,0 +1,5 @@
+use Rattle.levels.proofs.HeightLaws.{raised}
+use Rattle.levels.proofs.heights.raised.Goals as goal
+
+pub returns : goal.returns
+returns c = raised _ _ c.ranges.level.fits c.wrapping_add_u32.ensures.value
