@@ -10,12 +10,9 @@ use Rattle.ground.specs.Lists.{nth}
 use Rattle.ground.specs.Quantify.{any_to, any_of}
 use Rattle.protocol.specs.declared.BallotRow.{BallotRow}
 use Rattle.protocol.specs.Ballots.{ballot_limit, new_row, row, chosen_in, is_chosen}
+use Rattle.ballot_rules.proofs.chosen.is_chosen.Invariants.{chosen}
 use Rattle.std.proofs.Common.{rules}
 use Rattle.ballot_rules.proofs.chosen.is_chosen.Goals as goal
-
--- the word is chosen in ballot b
-abbrev chosen : ℕ → List BallotRow → Bool → ℕ → Bool
-chosen n rows move b = chosen_in n (record { acceptors = []; rows = rows }) move b
 
 pub loop-at-init : goal.loop-at-init
 unfolding any_to
@@ -27,7 +24,7 @@ returns-then-chosen_in c = λ acceptors.
     let l = c.loop-at in
     let start = c.args in
     let yes = sym c.chosen_in.ensures ∙ c.if-chosen_in.true in
-    sym (any_of ballot_limit (chosen start.n start.rows start.to-move) (suc l.at) (omega arith) (omega arith) yes)
+    sym (any_of ballot_limit (chosen start.n start.rows start.to_move) (suc l.at) (omega arith) (omega arith) yes)
 
 pub loop-at-preserved : goal.loop-at-preserved
 unfolding any_to chosen_in row new_row nth
@@ -41,4 +38,4 @@ returns c = λ acceptors.
     let l = c.loop-at in
     let start = c.args in
     let all : l.at ≡ ballot_limit = omega arith in
-    sym l.invariant.1 ∙ ap (λ (m : ℕ). any_to m (chosen start.n start.rows start.to-move)) all
+    sym l.invariant.1 ∙ ap (λ (m : ℕ). any_to m (chosen start.n start.rows start.to_move)) all

@@ -12,6 +12,10 @@ use Rattle.protocol.specs.declared.BallotRow.{BallotRow}
 use Rattle.protocol.specs.Ballots.{ballot_limit, new_row, row, chosen_in, is_chosen}
 use Rattle.ballot_rules.proofs.chosen.is_chosen.Given as goal
 
+-- the word is chosen in ballot b
+abbrev pub chosen : ℕ → List BallotRow → Bool → ℕ → Bool
+chosen n rows move b = chosen_in n (record { acceptors = []; rows = rows }) move b
+
 abbrev pub invariant-loop-at : goal.invariant-loop-at
 invariant-loop-at l = (l.at ≤ ballot_limit) × (any_to l.at (chosen l.n l.rows l.to_move) ≡ false)
 

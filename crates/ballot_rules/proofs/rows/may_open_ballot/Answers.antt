@@ -8,15 +8,15 @@ use borrow.Author.Tests.{leb-true, not-true, not-false, eq-eqb, ne_eqb}
 use Rattle.std.proofs.Common.{rules}
 use Rattle.ballot_rules.proofs.rows.may_open_ballot.Goals as goal
 
-cast-owner : tie.Need-overflow-cast-owner
-unfolding is_ballot
-cast-owner c =
-    let b = c.before.before.args.b in
-    let inside = sym c.before.is-ballot.ensures ∙ not-false c.before.is-ballot.result c.if1.false in
-    omega (arith, leb-true b ballot_limit (and_r (leb 1 b) (leb b ballot_limit) inside))
-
 pub returns-then-not-is_ballot : goal.returns-then-not-is_ballot
 returns-then-not-is_ballot c = simp (← c.is_ballot.ensures, c.if-not-is_ballot.true)
+
+pub overflow_cast-b : goal.overflow_cast-b
+unfolding is_ballot
+overflow_cast-b c =
+    let b = c.args.b in
+    let inside = sym c.is_ballot.ensures ∙ c.if-not-is_ballot.false in
+    omega (arith, leb-true b ballot_limit (and_r (leb 1 b) (leb b ballot_limit) inside))
 
 pub returns-then-owner-i : goal.returns-then-owner-i
 returns-then-owner-i c = simp (← c.is_ballot.ensures, c.if-not-is_ballot.false, ← c.owner.ensures, ne_eqb _ _ c.if-owner-i.true)

@@ -16,12 +16,9 @@ use Rattle.votes.specs.VoteSets.{empty, complete}
 use Rattle.votes.specs.declared.VoteSet.{VoteSet}
 use Rattle.protocol.specs.Rules.{backups_complete}
 use Rattle.controller_rules.proofs.Quantified.{all_no}
+use Rattle.controller_rules.proofs.deciding.backups_complete.Invariants.{held}
 use Rattle.std.proofs.Common.{rules}
 use Rattle.controller_rules.proofs.deciding.backups_complete.Goals as goal
-
--- the acknowledgement of j is held, and full
-abbrev held : ℕ → ℕ → List VoteSet → ℕ → Bool
-held n from sets j = has from j && complete n (nth empty sets j)
 
 pub returns-then-f-gt-LIMIT : goal.returns-then-f-gt-LIMIT
 unfolding backups_complete

@@ -18,6 +18,10 @@ use Rattle.protocol.specs.Rules.{backups_complete}
 use Rattle.controller_rules.proofs.Quantified.{all_no}
 use Rattle.controller_rules.proofs.deciding.backups_complete.Given as goal
 
+-- the acknowledgement of j is held, and full
+abbrev pub held : ℕ → ℕ → List VoteSet → ℕ → Bool
+held n from sets j = has from j && complete n (nth empty sets j)
+
 abbrev pub invariant-loop-j : goal.invariant-loop-j
 invariant-loop-j l = (l.j ≤ l.f) × (all_to l.j (held l.n l.from l.sets) ≡ true)
 

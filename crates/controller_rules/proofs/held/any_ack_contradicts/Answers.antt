@@ -12,12 +12,9 @@ use Rattle.votes.specs.VoteSets.{empty}
 use Rattle.votes.specs.Joining.{contradicts}
 use Rattle.votes.specs.declared.VoteSet.{VoteSet}
 use Rattle.protocol.specs.declared.Acks.{Acks}
+use Rattle.controller_rules.proofs.held.any_ack_contradicts.Invariants.{against}
 use Rattle.std.proofs.Common.{rules}
 use Rattle.controller_rules.proofs.held.any_ack_contradicts.Goals as goal
-
--- the acknowledgement of j is held, and contradicts
-abbrev against : Acks → VoteSet → ℕ → Bool
-against a s j = has a.from j && contradicts (nth empty a.sets j) s
 
 pub loop-j-init : goal.loop-j-init
 unfolding any_to

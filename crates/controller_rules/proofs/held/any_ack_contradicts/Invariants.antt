@@ -14,6 +14,10 @@ use Rattle.votes.specs.declared.VoteSet.{VoteSet}
 use Rattle.protocol.specs.declared.Acks.{Acks}
 use Rattle.controller_rules.proofs.held.any_ack_contradicts.Given as goal
 
+-- the acknowledgement of j is held, and contradicts
+abbrev pub against : Acks → VoteSet → ℕ → Bool
+against a s j = has a.from j && contradicts (nth empty a.sets j) s
+
 abbrev pub invariant-loop-j : goal.invariant-loop-j
 invariant-loop-j l = (l.j ≤ l.n) × (any_to l.j (against l.a l.s) ≡ false)
 
