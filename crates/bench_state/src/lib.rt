@@ -1,5 +1,6 @@
 // A bench's parts as they begin, what is shared and what an event leaves of it, and the questions that the bench puts to an event, from what they look at.
 #![tactic(auto)]
+
 mod ballots;
 mod counts;
 mod parts;

@@ -1,6 +1,7 @@
 // A controller as a step machine: a call goes in by value, an answer with the next controller comes out. A call at a wrong stage or in a wrong
 // condition changes nothing, and the answer says so.
 #![tactic(auto)]
+
 mod ballot_sequence;
 mod ballots;
 mod calls;

@@ -1,0 +1,5 @@
+use Rattle.std.proofs.Common.{rules}
+use Rattle.controller.proofs.ballot_sequence.ballot_to.Goals as goal
+
+pub returns : goal.returns
+returns c = simp c.empty_set.ensures

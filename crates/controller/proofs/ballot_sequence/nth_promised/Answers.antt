@@ -1,0 +1,17 @@
+use borrow.Author.Tests.{eq-eqb, ne_eqb}
+use Rattle.protocol.specs.BallotCalls.{promise_sent, nth_ballot_of}
+use Rattle.controller.specs.BallotParts.{promised}
+use Rattle.std.proofs.Common.{rules}
+use Rattle.controller.proofs.ballot_sequence.nth_promised.Goals as goal
+
+pub returns-then-to-me : goal.returns-then-to-me
+unfolding promised promise_sent
+returns-then-to-me c = simp (c.if-x.true, ← c.owner-to.ensures, eq-eqb _ _ c.if-to-me.true, c.nth_to_others.ensures)
+
+pub returns-then-x : goal.returns-then-x
+unfolding promised promise_sent
+returns-then-x c = simp (c.if-x.true, ← c.owner-to.ensures, ne_eqb _ _ c.if-to-me.false, ← c.ballot_to-m.ensures, c.nth_of_one.ensures)
+
+pub returns : goal.returns
+unfolding promised nth_ballot_of
+returns c = simp c.if-x.false
