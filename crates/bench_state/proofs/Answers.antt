@@ -19,8 +19,8 @@ answers (here e) = rw e
 answers (past e rest) = rw e (answers rest)
 
 -- the test `!r`, left or taken, where r is what a call gave and y its contract
-pub said : {r y : Bool} → r ≡ y → not r ≡ false → y ≡ true
-said {r} e left = sym e ∙ not-false r left
+pub said : {r y : Bool} → r ≡ y → r ≡ true → y ≡ true
+said e h = sym e ∙ h
 
-pub denied : {r y : Bool} → r ≡ y → not r ≡ true → y ≡ false
-denied {r} e taken = sym e ∙ not-true r taken
+pub denied : {r y : Bool} → r ≡ y → r ≡ false → y ≡ false
+denied e h = sym e ∙ h

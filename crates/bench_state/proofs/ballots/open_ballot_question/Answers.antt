@@ -8,22 +8,22 @@ pub returns-then-not-m : goal.returns-then-not-m
 returns-then-not-m c = answers (here (not-true _ c.if-not-m.true))
 
 pub returns-then-not-is_controller : goal.returns-then-not-is_controller
-returns-then-not-is_controller c = answers (past (not-false _ c.if-not-m.false) (here (denied c.is_controller.ensures c.if-not-is_controller.true-raw)))
+returns-then-not-is_controller c = answers (past (not-false _ c.if-not-m.false) (here (denied c.is_controller.ensures c.if-not-is_controller.true)))
 
 pub returns-then-m-lt1 : goal.returns-then-m-lt1
-returns-then-m-lt1 c = answers (past (not-false _ c.if-not-m.false) (past (said c.is_controller.ensures c.if-not-is_controller.false-raw) (here (lt-leb _ _ c.if-m-lt1.true))))
+returns-then-m-lt1 c = answers (past (not-false _ c.if-not-m.false) (past (said c.is_controller.ensures c.if-not-is_controller.false) (here (lt-leb _ _ c.if-m-lt1.true))))
 
 pub returns-then-not-is_running : goal.returns-then-not-is_running
-returns-then-not-is_running c = answers (past (not-false _ c.if-not-m.false) (past (said c.is_controller.ensures c.if-not-is_controller.false-raw) (past (le-leb _ _ c.if-m-lt1.false) (here (denied c.is_running.ensures c.if-not-is_running.true-raw)))))
+returns-then-not-is_running c = answers (past (not-false _ c.if-not-m.false) (past (said c.is_controller.ensures c.if-not-is_controller.false) (past (le-leb _ _ c.if-m-lt1.false) (here (denied c.is_running.ensures c.if-not-is_running.true)))))
 
 pub returns-then-not-may_open_ballot : goal.returns-then-not-may_open_ballot
 returns-then-not-may_open_ballot c =
-    answers (past (not-false _ c.if-not-m.false) (past (said c.is_controller.ensures c.if-not-is_controller.false-raw) (past (le-leb _ _ c.if-m-lt1.false) (past (said c.is_running.ensures c.if-not-is_running.false-raw) (here (denied c.may_open_ballot.ensures c.if-not-may_open_ballot.true-raw))))))
+    answers (past (not-false _ c.if-not-m.false) (past (said c.is_controller.ensures c.if-not-is_controller.false) (past (le-leb _ _ c.if-m-lt1.false) (past (said c.is_running.ensures c.if-not-is_running.false) (here (denied c.may_open_ballot.ensures c.if-not-may_open_ballot.true))))))
 
 pub returns-then-not-may_settle : goal.returns-then-not-may_settle
 returns-then-not-may_settle c =
-    answers (past (not-false _ c.if-not-m.false) (past (said c.is_controller.ensures c.if-not-is_controller.false-raw) (past (le-leb _ _ c.if-m-lt1.false) (past (said c.is_running.ensures c.if-not-is_running.false-raw) (past (said c.may_open_ballot.ensures c.if-not-may_open_ballot.false-raw) (here (denied c.may_settle.ensures c.if-not-may_settle.true-raw)))))))
+    answers (past (not-false _ c.if-not-m.false) (past (said c.is_controller.ensures c.if-not-is_controller.false) (past (le-leb _ _ c.if-m-lt1.false) (past (said c.is_running.ensures c.if-not-is_running.false) (past (said c.may_open_ballot.ensures c.if-not-may_open_ballot.false) (here (denied c.may_settle.ensures c.if-not-may_settle.true)))))))
 
 pub returns : goal.returns
 returns c =
-    answers (past (not-false _ c.if-not-m.false) (past (said c.is_controller.ensures c.if-not-is_controller.false-raw) (past (le-leb _ _ c.if-m-lt1.false) (past (said c.is_running.ensures c.if-not-is_running.false-raw) (past (said c.may_open_ballot.ensures c.if-not-may_open_ballot.false-raw) (past (said c.may_settle.ensures c.if-not-may_settle.false-raw) none))))))
+    answers (past (not-false _ c.if-not-m.false) (past (said c.is_controller.ensures c.if-not-is_controller.false) (past (le-leb _ _ c.if-m-lt1.false) (past (said c.is_running.ensures c.if-not-is_running.false) (past (said c.may_open_ballot.ensures c.if-not-may_open_ballot.false) (past (said c.may_settle.ensures c.if-not-may_settle.false) none))))))

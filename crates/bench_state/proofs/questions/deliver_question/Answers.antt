@@ -8,26 +8,26 @@ pub returns-then-not-m : goal.returns-then-not-m
 returns-then-not-m c = answers (here (not-true _ c.if-not-m.true))
 
 pub returns-then-not-different_controllers : goal.returns-then-not-different_controllers
-returns-then-not-different_controllers c = answers (past (not-false _ c.if-not-m.false) (here (denied c.different_controllers.ensures c.if-not-different_controllers.true-raw)))
+returns-then-not-different_controllers c = answers (past (not-false _ c.if-not-m.false) (here (denied c.different_controllers.ensures c.if-not-different_controllers.true)))
 
 pub returns-then-not-route : goal.returns-then-not-route
-returns-then-not-route c = answers (past (not-false _ c.if-not-m.false) (past (said c.different_controllers.ensures c.if-not-different_controllers.false-raw) (here (denied c.route.ensures c.if-not-route.true-raw))))
+returns-then-not-route c = answers (past (not-false _ c.if-not-m.false) (past (said c.different_controllers.ensures c.if-not-different_controllers.false) (here (denied c.route.ensures c.if-not-route.true))))
 
 pub returns-then-m-lt1 : goal.returns-then-m-lt1
-returns-then-m-lt1 c = answers (past (not-false _ c.if-not-m.false) (past (said c.different_controllers.ensures c.if-not-different_controllers.false-raw) (past (said c.route.ensures c.if-not-route.false-raw) (here (lt-leb _ _ c.if-m-lt1.true)))))
+returns-then-m-lt1 c = answers (past (not-false _ c.if-not-m.false) (past (said c.different_controllers.ensures c.if-not-different_controllers.false) (past (said c.route.ensures c.if-not-route.false) (here (lt-leb _ _ c.if-m-lt1.true)))))
 
 pub returns-then-not-is_running : goal.returns-then-not-is_running
 returns-then-not-is_running c =
-    answers (past (not-false _ c.if-not-m.false) (past (said c.different_controllers.ensures c.if-not-different_controllers.false-raw) (past (said c.route.ensures c.if-not-route.false-raw) (past (le-leb _ _ c.if-m-lt1.false) (here (denied c.is_running.ensures c.if-not-is_running.true-raw))))))
+    answers (past (not-false _ c.if-not-m.false) (past (said c.different_controllers.ensures c.if-not-different_controllers.false) (past (said c.route.ensures c.if-not-route.false) (past (le-leb _ _ c.if-m-lt1.false) (here (denied c.is_running.ensures c.if-not-is_running.true))))))
 
 pub returns-then-not-has : goal.returns-then-not-has
 returns-then-not-has c =
-    answers (past (not-false _ c.if-not-m.false) (past (said c.different_controllers.ensures c.if-not-different_controllers.false-raw) (past (said c.route.ensures c.if-not-route.false-raw) (past (le-leb _ _ c.if-m-lt1.false) (past (said c.is_running.ensures c.if-not-is_running.false-raw) (here (denied c.has.ensures c.if-not-has.true-raw)))))))
+    answers (past (not-false _ c.if-not-m.false) (past (said c.different_controllers.ensures c.if-not-different_controllers.false) (past (said c.route.ensures c.if-not-route.false) (past (le-leb _ _ c.if-m-lt1.false) (past (said c.is_running.ensures c.if-not-is_running.false) (here (denied c.has.ensures c.if-not-has.true)))))))
 
 pub returns-then-not-agrees : goal.returns-then-not-agrees
 returns-then-not-agrees c =
-    answers (past (not-false _ c.if-not-m.false) (past (said c.different_controllers.ensures c.if-not-different_controllers.false-raw) (past (said c.route.ensures c.if-not-route.false-raw) (past (le-leb _ _ c.if-m-lt1.false) (past (said c.is_running.ensures c.if-not-is_running.false-raw) (past (said c.has.ensures c.if-not-has.false-raw) (here (c.if-not-agrees.true))))))))
+    answers (past (not-false _ c.if-not-m.false) (past (said c.different_controllers.ensures c.if-not-different_controllers.false) (past (said c.route.ensures c.if-not-route.false) (past (le-leb _ _ c.if-m-lt1.false) (past (said c.is_running.ensures c.if-not-is_running.false) (past (said c.has.ensures c.if-not-has.false) (here (c.if-not-agrees.true))))))))
 
 pub returns : goal.returns
 returns c =
-    answers (past (not-false _ c.if-not-m.false) (past (said c.different_controllers.ensures c.if-not-different_controllers.false-raw) (past (said c.route.ensures c.if-not-route.false-raw) (past (le-leb _ _ c.if-m-lt1.false) (past (said c.is_running.ensures c.if-not-is_running.false-raw) (past (said c.has.ensures c.if-not-has.false-raw) (past (c.if-not-agrees.false) none)))))))
+    answers (past (not-false _ c.if-not-m.false) (past (said c.different_controllers.ensures c.if-not-different_controllers.false) (past (said c.route.ensures c.if-not-route.false) (past (le-leb _ _ c.if-m-lt1.false) (past (said c.is_running.ensures c.if-not-is_running.false) (past (said c.has.ensures c.if-not-has.false) (past (c.if-not-agrees.false) none)))))))

@@ -8,18 +8,18 @@ pub returns-then-not-m : goal.returns-then-not-m
 returns-then-not-m c = answers (here (not-true _ c.if-not-m.true))
 
 pub returns-then-not-is_controller : goal.returns-then-not-is_controller
-returns-then-not-is_controller c = answers (past (not-false _ c.if-not-m.false) (here (denied c.is_controller.ensures c.if-not-is_controller.true-raw)))
+returns-then-not-is_controller c = answers (past (not-false _ c.if-not-m.false) (here (denied c.is_controller.ensures c.if-not-is_controller.true)))
 
 pub returns-then-m-lt1 : goal.returns-then-m-lt1
-returns-then-m-lt1 c = answers (past (not-false _ c.if-not-m.false) (past (said c.is_controller.ensures c.if-not-is_controller.false-raw) (here (lt-leb _ _ c.if-m-lt1.true))))
+returns-then-m-lt1 c = answers (past (not-false _ c.if-not-m.false) (past (said c.is_controller.ensures c.if-not-is_controller.false) (here (lt-leb _ _ c.if-m-lt1.true))))
 
 pub returns-then-not-is_stopped : goal.returns-then-not-is_stopped
-returns-then-not-is_stopped c = answers (past (not-false _ c.if-not-m.false) (past (said c.is_controller.ensures c.if-not-is_controller.false-raw) (past (le-leb _ _ c.if-m-lt1.false) (here (denied c.is_stopped.ensures c.if-not-is_stopped.true-raw)))))
+returns-then-not-is_stopped c = answers (past (not-false _ c.if-not-m.false) (past (said c.is_controller.ensures c.if-not-is_controller.false) (past (le-leb _ _ c.if-m-lt1.false) (here (denied c.is_stopped.ensures c.if-not-is_stopped.true)))))
 
 pub returns-then-not-saved : goal.returns-then-not-saved
 returns-then-not-saved c =
-    answers (past (not-false _ c.if-not-m.false) (past (said c.is_controller.ensures c.if-not-is_controller.false-raw) (past (le-leb _ _ c.if-m-lt1.false) (past (said c.is_stopped.ensures c.if-not-is_stopped.false-raw) (here (c.if-not-saved.true))))))
+    answers (past (not-false _ c.if-not-m.false) (past (said c.is_controller.ensures c.if-not-is_controller.false) (past (le-leb _ _ c.if-m-lt1.false) (past (said c.is_stopped.ensures c.if-not-is_stopped.false) (here (c.if-not-saved.true))))))
 
 pub returns : goal.returns
 returns c =
-    answers (past (not-false _ c.if-not-m.false) (past (said c.is_controller.ensures c.if-not-is_controller.false-raw) (past (le-leb _ _ c.if-m-lt1.false) (past (said c.is_stopped.ensures c.if-not-is_stopped.false-raw) (past (c.if-not-saved.false) none)))))
+    answers (past (not-false _ c.if-not-m.false) (past (said c.is_controller.ensures c.if-not-is_controller.false) (past (le-leb _ _ c.if-m-lt1.false) (past (said c.is_stopped.ensures c.if-not-is_stopped.false) (past (c.if-not-saved.false) none)))))

@@ -8,18 +8,18 @@ pub returns-then-not-m : goal.returns-then-not-m
 returns-then-not-m c = answers (here (not-true _ c.if-not-m.true))
 
 pub returns-then-not-is_controller : goal.returns-then-not-is_controller
-returns-then-not-is_controller c = answers (past (not-false _ c.if-not-m.false) (here (denied c.is_controller.ensures c.if-not-is_controller.true-raw)))
+returns-then-not-is_controller c = answers (past (not-false _ c.if-not-m.false) (here (denied c.is_controller.ensures c.if-not-is_controller.true)))
 
 pub returns-then-m-lt1 : goal.returns-then-m-lt1
-returns-then-m-lt1 c = answers (past (not-false _ c.if-not-m.false) (past (said c.is_controller.ensures c.if-not-is_controller.false-raw) (here (lt-leb _ _ c.if-m-lt1.true))))
+returns-then-m-lt1 c = answers (past (not-false _ c.if-not-m.false) (past (said c.is_controller.ensures c.if-not-is_controller.false) (here (lt-leb _ _ c.if-m-lt1.true))))
 
 pub returns-then-not-is_running : goal.returns-then-not-is_running
-returns-then-not-is_running c = answers (past (not-false _ c.if-not-m.false) (past (said c.is_controller.ensures c.if-not-is_controller.false-raw) (past (le-leb _ _ c.if-m-lt1.false) (here (denied c.is_running.ensures c.if-not-is_running.true-raw)))))
+returns-then-not-is_running c = answers (past (not-false _ c.if-not-m.false) (past (said c.is_controller.ensures c.if-not-is_controller.false) (past (le-leb _ _ c.if-m-lt1.false) (here (denied c.is_running.ensures c.if-not-is_running.true)))))
 
 pub returns-then-not-awaits_timeout : goal.returns-then-not-awaits_timeout
 returns-then-not-awaits_timeout c =
-    answers (past (not-false _ c.if-not-m.false) (past (said c.is_controller.ensures c.if-not-is_controller.false-raw) (past (le-leb _ _ c.if-m-lt1.false) (past (said c.is_running.ensures c.if-not-is_running.false-raw) (here (denied c.awaits_timeout.ensures c.if-not-awaits_timeout.true-raw))))))
+    answers (past (not-false _ c.if-not-m.false) (past (said c.is_controller.ensures c.if-not-is_controller.false) (past (le-leb _ _ c.if-m-lt1.false) (past (said c.is_running.ensures c.if-not-is_running.false) (here (denied c.awaits_timeout.ensures c.if-not-awaits_timeout.true))))))
 
 pub returns : goal.returns
 returns c =
-    answers (past (not-false _ c.if-not-m.false) (past (said c.is_controller.ensures c.if-not-is_controller.false-raw) (past (le-leb _ _ c.if-m-lt1.false) (past (said c.is_running.ensures c.if-not-is_running.false-raw) (past (said c.awaits_timeout.ensures c.if-not-awaits_timeout.false-raw) none)))))
+    answers (past (not-false _ c.if-not-m.false) (past (said c.is_controller.ensures c.if-not-is_controller.false) (past (le-leb _ _ c.if-m-lt1.false) (past (said c.is_running.ensures c.if-not-is_running.false) (past (said c.awaits_timeout.ensures c.if-not-awaits_timeout.false) none)))))
