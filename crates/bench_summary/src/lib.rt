@@ -1,5 +1,6 @@
 // What a report shows of a bench.
 #![tactic(auto)]
+
 mod rows;
 mod sending;
 mod summary;

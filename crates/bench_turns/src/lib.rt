@@ -1,5 +1,6 @@
 // What an accepted event leaves of the station of the controller that it concerns: a turn. The step by value and the run go by these.
 #![tactic(auto)]
+
 mod ballots;
 mod effects;
 mod stations;

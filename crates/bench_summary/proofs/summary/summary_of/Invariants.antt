@@ -1,0 +1,36 @@
+-- `bench_summary::summary::summary_of` meets its contract. The first loop: the first i rows are those of the stations, the others blank. The second: the messages are
+-- those of the first j controllers, at most 255 of a kind for each.
+use Prim.Native.Nat.{ℕ, suc, ◌*◌, ◌-◌, ◌≤◌, ◌<◌}
+use mathlib.Core.List.{[], ◌++◌, map}
+use mathlib.Core.Path.{◌≡◌, refl, sym, ◌∙◌, ap}
+use native.Mathlib.Omega.{arith}
+use lib.ListN.{length, get_or, take, drop, replicate, length-map, length-replicate, get_or-map}
+use Rattle.ground.specs.Limit.{limit}
+use Rattle.ground.specs.Mask.{has}
+use Rattle.ground.specs.Quantify.{count_to}
+use Rattle.model.specs.declared.Kind.{Kind}
+use Rattle.protocol.specs.Benches.{station, fresh_station, fresh, unsent_all}
+use Rattle.protocol.specs.Display.{message_count, sent_count}
+use Rattle.bench_report.specs.Lines.{blank_row}
+use Rattle.bench_report.specs.declared.MessageCounts.{MessageCounts}
+use Rattle.bench_summary.specs.Summary.{summary_of, row_of, shown_of, counts_to, sent_at}
+use Rattle.bench_summary.proofs.Filled.{one_filled, all_filled}
+use Rattle.bench_summary.proofs.Stations.{sent-at}
+use Rattle.bench_summary.proofs.Sums.{no-messages, more-messages}
+use Rattle.bench_summary.proofs.summary.summary_of.Given as goal
+
+-- of each kind at most so many
+abbrev pub AtMost : ℕ → MessageCounts → Type 0
+AtMost k t = (t.vote ≤ k) × ((t.ack ≤ k) × ((t.help ≤ k) × (t.helped ≤ k)))
+
+abbrev pub invariant-loop-i : goal.invariant-loop-i
+invariant-loop-i l = (l.i ≤ limit) × (l.rows ≡ take l.i (map row_of l.stations) ++ drop l.i (replicate limit blank_row))
+
+abbrev pub decreases-loop-i : goal.decreases-loop-i
+decreases-loop-i l = limit - l.i
+
+abbrev pub invariant-loop-j : goal.invariant-loop-j
+invariant-loop-j l = (l.j ≤ l.end) × (AtMost (l.j * 255) l.messages × (l.messages ≡ counts_to (shown_of l.m l.stations) l.j))
+
+abbrev pub decreases-loop-j : goal.decreases-loop-j
+decreases-loop-j l = l.end - l.j

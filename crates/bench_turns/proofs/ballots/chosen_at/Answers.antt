@@ -1,0 +1,5 @@
+use Rattle.std.proofs.Common.{rules}
+use Rattle.bench_turns.proofs.ballots.chosen_at.Goals as goal
+
+pub returns : goal.returns
+returns c = c.chosen_in.ensures

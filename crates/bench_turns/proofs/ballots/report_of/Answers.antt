@@ -1,0 +1,5 @@
+use Rattle.std.proofs.Common.{rules}
+use Rattle.bench_turns.proofs.ballots.report_of.Goals as goal
+
+pub returns : goal.returns
+returns c = c.report_at.ensures

@@ -1,0 +1,9 @@
+use borrow.Author.Tests.{eq-eqb, ne_eqb}
+use Rattle.std.proofs.Common.{rules}
+use Rattle.bench_turns.proofs.ballots.word_in.Goals as goal
+
+pub returns-then-last-eq0 : goal.returns-then-last-eq0
+returns-then-last-eq0 c = simp (eq-eqb _ _ c.if-last-eq0.true)
+
+pub returns : goal.returns
+returns c = simp (ne_eqb _ _ c.if-last-eq0.false)

@@ -1,0 +1,7 @@
+use Rattle.protocol.specs.Steps.{keeping}
+use Rattle.std.proofs.Common.{rules}
+use Rattle.bench_turns.proofs.turns.save_turn.Goals as goal
+
+pub returns : goal.returns
+unfolding keeping
+returns c = simp (c.identity.ensures, c.save-saved.ensures.answer)

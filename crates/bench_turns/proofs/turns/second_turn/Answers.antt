@@ -1,0 +1,5 @@
+use Rattle.std.proofs.Common.{rules}
+use Rattle.bench_turns.proofs.turns.second_turn.Goals as goal
+
+pub returns : goal.returns
+returns c = simp (c.second_timeout.ensures, c.answering.ensures)
