@@ -1,9 +1,8 @@
 -- The number that a list of questions answers, as code that returns at the first "no" finds it: past each "yes", here at a "no", or none left.
 use Prim.Native.Nat.{ℕ}
 use mathlib.Core.Path.{◌≡◌, refl, sym, ◌∙◌}
-use mathlib.Core.Bool.{Bool, true, false, not}
+use mathlib.Core.Bool.{Bool, true, false}
 use mathlib.Core.List.{List, [], ◌∷◌}
-use borrow.Author.Tests.{not-true, not-false}
 use Rattle.protocol.specs.Questions.{Question, number, unless, first_no}
 
 pub data Answer : List Question → ℕ → Type 0 where

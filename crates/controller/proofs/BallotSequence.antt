@@ -5,11 +5,11 @@ use mathlib.Core.Bool.{Bool, true, false, not, ◌&&◌}
 use mathlib.Core.List.{List, [], ◌∷◌, ◌++◌, map}
 use native.Mathlib.Omega.{arith}
 use native.Mathlib.Decide.{ℕ_discrete}
-use lib.Bits.{bit_and, and_self}
+use lib.Bits.{and_self}
 use lib.Dec.{eqb}
 use lib.ListN.{length, take, drop, get_or}
 use borrow.Author.Tests.{eq-eqb, ne_eqb, le-leb}
-use Rattle.ground.specs.Mask.{width, has, remove, collect, up_to}
+use Rattle.ground.specs.Mask.{has, remove, up_to}
 use Rattle.ground.specs.UpTo.{collect-same, has-up-to, others_are}
 use Rattle.model.specs.declared.BallotMessage.{BallotMessage}
 use Rattle.protocol.specs.declared.ToSendBallot.{ToSendBallot}

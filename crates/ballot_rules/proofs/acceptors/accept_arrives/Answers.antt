@@ -1,5 +1,4 @@
 use Rattle.protocol.specs.BallotRules.{accept_arrives}
-use Rattle.std.proofs.Common.{rules}
 use Rattle.ballot_rules.proofs.acceptors.accept_arrives.Goals as goal
 
 pub returns-then-answers : goal.returns-then-answers

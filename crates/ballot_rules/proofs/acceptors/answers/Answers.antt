@@ -1,5 +1,4 @@
 use borrow.Author.Tests.{le-leb, lt-leb}
-use Rattle.std.proofs.Common.{rules}
 use Rattle.ballot_rules.proofs.acceptors.answers.Goals as goal
 
 pub returns-then-highest-b : goal.returns-then-highest-b

@@ -1,5 +1,4 @@
 use Rattle.protocol.specs.BallotRules.{give_promise}
-use Rattle.std.proofs.Common.{rules}
 use Rattle.ballot_rules.proofs.acceptors.give_promise.Goals as goal
 
 pub returns : goal.returns

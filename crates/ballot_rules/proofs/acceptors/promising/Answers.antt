@@ -1,6 +1,5 @@
 use mathlib.Core.Path.{refl}
 use Rattle.protocol.specs.BallotRules.{promising}
-use Rattle.std.proofs.Common.{rules}
 use Rattle.ballot_rules.proofs.acceptors.promising.Goals as goal
 
 pub returns : goal.returns

@@ -1,6 +1,5 @@
 use mathlib.Core.Path.{refl}
 use Rattle.protocol.specs.BallotRules.{reporting}
-use Rattle.std.proofs.Common.{rules}
 use Rattle.ballot_rules.proofs.acceptors.reporting.Goals as goal
 
 pub returns : goal.returns

@@ -1,5 +1,4 @@
 use Rattle.protocol.specs.BallotRules.{unanswered}
-use Rattle.std.proofs.Common.{rules}
 use Rattle.ballot_rules.proofs.acceptors.unanswered.Goals as goal
 
 pub returns : goal.returns

@@ -1,4 +1,3 @@
-use Rattle.std.proofs.Common.{rules}
 use Rattle.ballot_rules.proofs.chosen.chosen_in.Goals as goal
 
 pub returns-then-is_word : goal.returns-then-is_word

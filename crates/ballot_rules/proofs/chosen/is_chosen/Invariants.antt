@@ -1,15 +1,11 @@
 -- The loop over the ballots stops at the first in which the word is chosen; so far it was in none.
-use Prim.Native.Nat.{ℕ, suc, ◌≤◌, ◌-◌}
-use mathlib.Core.Path.{◌≡◌, refl, sym, ◌∙◌, ap}
+use Prim.Native.Nat.{ℕ, ◌≤◌, ◌-◌}
+use mathlib.Core.Path.{◌≡◌}
 use mathlib.Core.Bool.{Bool, false}
 use mathlib.Core.List.{List, []}
-use native.Mathlib.Omega.{arith}
-use native.Mathlib.Numerals.{add-one}
-use Rattle.ground.specs.Tests.{or_no}
-use Rattle.ground.specs.Lists.{nth}
-use Rattle.ground.specs.Quantify.{any_to, any_of}
+use Rattle.ground.specs.Quantify.{any_to}
 use Rattle.protocol.specs.declared.BallotRow.{BallotRow}
-use Rattle.protocol.specs.Ballots.{ballot_limit, new_row, row, chosen_in, is_chosen}
+use Rattle.protocol.specs.Ballots.{ballot_limit, chosen_in}
 use Rattle.ballot_rules.proofs.chosen.is_chosen.Given as goal
 
 -- the word is chosen in ballot b

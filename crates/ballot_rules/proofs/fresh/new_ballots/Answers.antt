@@ -1,5 +1,4 @@
 use Rattle.protocol.specs.Ballots.{new_ballots}
-use Rattle.std.proofs.Common.{rules}
 use Rattle.ballot_rules.proofs.fresh.new_ballots.Goals as goal
 
 pub returns : goal.returns

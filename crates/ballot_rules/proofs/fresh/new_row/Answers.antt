@@ -1,5 +1,4 @@
 use Rattle.protocol.specs.Ballots.{new_row}
-use Rattle.std.proofs.Common.{rules}
 use Rattle.ballot_rules.proofs.fresh.new_row.Goals as goal
 
 pub returns : goal.returns

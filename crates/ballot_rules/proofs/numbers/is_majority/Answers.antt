@@ -1,5 +1,4 @@
 use Rattle.protocol.specs.Ballots.{majority}
-use Rattle.std.proofs.Common.{rules}
 use Rattle.ballot_rules.proofs.numbers.is_majority.Goals as goal
 
 pub returns : goal.returns

@@ -4,7 +4,6 @@ use native.Mathlib.Omega.{arith}
 use native.Mathlib.Nat.{mod-lt, mod-zero}
 use native.Mathlib.Numerals.{add-one}
 use Rattle.protocol.specs.Ballots.{owner}
-use Rattle.std.proofs.Common.{rules}
 use Rattle.ballot_rules.proofs.numbers.owner.Goals as goal
 
 -- of no controllers, and of some

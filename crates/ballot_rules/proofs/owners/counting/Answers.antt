@@ -1,6 +1,5 @@
 use Rattle.protocol.specs.BallotRules.{counting}
 use borrow.Author.Tests.{lt-ltb, le-ltb}
-use Rattle.std.proofs.Common.{rules}
 use Rattle.ballot_rules.proofs.owners.counting.Goals as goal
 
 pub returns-then-t-last : goal.returns-then-t-last

@@ -1,4 +1,3 @@
-use Rattle.std.proofs.Common.{rules}
 use Rattle.ballot_rules.proofs.owners.counts.Goals as goal
 
 pub returns-then-is_none : goal.returns-then-is_none

@@ -1,5 +1,4 @@
 use Rattle.protocol.specs.BallotRules.{open_ballot}
-use Rattle.std.proofs.Common.{rules}
 use Rattle.ballot_rules.proofs.owners.open_ballot.Goals as goal
 
 pub returns : goal.returns

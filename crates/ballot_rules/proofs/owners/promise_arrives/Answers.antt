@@ -1,5 +1,4 @@
 use Rattle.protocol.specs.BallotRules.{promise_arrives}
-use Rattle.std.proofs.Common.{rules}
 use Rattle.ballot_rules.proofs.owners.promise_arrives.Goals as goal
 
 pub returns-then-counts : goal.returns-then-counts

@@ -1,5 +1,4 @@
 use Rattle.protocol.specs.BallotRules.{put_if_majority}
-use Rattle.std.proofs.Common.{rules}
 use Rattle.ballot_rules.proofs.owners.put_if_majority.Goals as goal
 
 pub returns-then-is_majority : goal.returns-then-is_majority

@@ -1,5 +1,4 @@
 use Rattle.protocol.specs.BallotRules.{put_word}
-use Rattle.std.proofs.Common.{rules}
 use Rattle.ballot_rules.proofs.owners.put_word.Goals as goal
 
 pub returns : goal.returns

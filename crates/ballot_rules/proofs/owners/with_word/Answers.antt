@@ -1,6 +1,5 @@
 use mathlib.Core.Path.{refl}
 use Rattle.protocol.specs.BallotRules.{with_word}
-use Rattle.std.proofs.Common.{rules}
 use Rattle.ballot_rules.proofs.owners.with_word.Goals as goal
 
 pub returns : goal.returns

@@ -1,5 +1,4 @@
 use borrow.Author.Tests.{eq-eqb, ne_eqb}
-use Rattle.std.proofs.Common.{rules}
 use Rattle.ballot_rules.proofs.owners.word_for.Goals as goal
 
 pub returns-then-t-eq0 : goal.returns-then-t-eq0

@@ -1,5 +1,4 @@
 use borrow.Author.Tests.{eq-eqb, ne_eqb}
-use Rattle.std.proofs.Common.{rules}
 use Rattle.ballot_rules.proofs.rows.is_owner_in.Goals as goal
 
 pub returns-then-owner-k : goal.returns-then-owner-k

@@ -4,8 +4,7 @@ use native.Mathlib.Omega.{arith}
 use lib.Dec.{leb}
 use Rattle.ground.specs.Tests.{and_r}
 use Rattle.protocol.specs.Ballots.{ballot_limit, is_ballot}
-use borrow.Author.Tests.{leb-true, not-true, not-false, eq-eqb, ne_eqb}
-use Rattle.std.proofs.Common.{rules}
+use borrow.Author.Tests.{leb-true, eq-eqb, ne_eqb}
 use Rattle.ballot_rules.proofs.rows.may_open_ballot.Goals as goal
 
 pub returns-then-not-is_ballot : goal.returns-then-not-is_ballot

@@ -1,4 +1,3 @@
-use Rattle.std.proofs.Common.{rules}
 use Rattle.ballot_rules.proofs.rows.reports.Goals as goal
 
 pub returns-then-given : goal.returns-then-given

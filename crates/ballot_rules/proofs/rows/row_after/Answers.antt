@@ -1,5 +1,4 @@
 use Rattle.protocol.specs.BallotSteps.{row_after}
-use Rattle.std.proofs.Common.{rules}
 use Rattle.ballot_rules.proofs.rows.row_after.Goals as goal
 
 pub returns : goal.returns

@@ -1,5 +1,4 @@
 use borrow.Author.Tests.{eq-eqb, ne_eqb}
-use Rattle.std.proofs.Common.{rules}
 use Rattle.ballot_rules.proofs.rows.was_put.Goals as goal
 
 pub returns-then-owner-i : goal.returns-then-owner-i

@@ -1,5 +1,4 @@
 use Rattle.protocol.specs.BallotSteps.{was_sent_in}
-use Rattle.std.proofs.Common.{rules}
 use Rattle.ballot_rules.proofs.rows.was_sent_in.Goals as goal
 
 pub returns-in-Prepare : goal.returns-in-Prepare

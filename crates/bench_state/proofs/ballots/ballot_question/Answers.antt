@@ -1,4 +1,3 @@
-use Rattle.std.proofs.Common.{rules}
 use Rattle.bench_state.proofs.ballots.ballot_question.Goals as goal
 
 pub returns-in-Open : goal.returns-in-Open

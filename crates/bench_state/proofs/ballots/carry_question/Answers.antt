@@ -3,7 +3,6 @@ use borrow.Author.Tests.{not-true, not-false, lt-leb, le-leb}
 use Rattle.bench_state.proofs.Answers.{answers, past, here, none, said, denied}
 use native.Mathlib.Omega.{arith}
 use Rattle.bench_state.proofs.BallotReplies.{in_row}
-use Rattle.std.proofs.Common.{rules}
 use Rattle.bench_state.proofs.ballots.carry_question.Goals as goal
 
 pub returns-then-not-m : goal.returns-then-not-m

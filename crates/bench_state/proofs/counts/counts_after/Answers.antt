@@ -1,5 +1,4 @@
 use Rattle.protocol.specs.Counts.{counts_after}
-use Rattle.std.proofs.Common.{rules}
 use Rattle.bench_state.proofs.counts.counts_after.Goals as goal
 
 pub returns : goal.returns

@@ -1,4 +1,3 @@
-use Rattle.std.proofs.Common.{rules}
 use Rattle.bench_state.proofs.counts.recount.Goals as goal
 
 pub returns-then-before : goal.returns-then-before

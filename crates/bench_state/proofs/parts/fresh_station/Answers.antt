@@ -1,5 +1,4 @@
 use Rattle.protocol.specs.Benches.{fresh_station}
-use Rattle.std.proofs.Common.{rules}
 use Rattle.bench_state.proofs.parts.fresh_station.Goals as goal
 
 pub returns : goal.returns

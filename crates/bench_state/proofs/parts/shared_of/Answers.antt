@@ -1,5 +1,4 @@
 use Rattle.protocol.specs.Benches.{bench_of}
-use Rattle.std.proofs.Common.{rules}
 use Rattle.bench_state.proofs.parts.shared_of.Goals as goal
 
 pub returns : goal.returns

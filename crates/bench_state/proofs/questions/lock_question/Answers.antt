@@ -1,7 +1,6 @@
 use mathlib.Core.Path.{ap}
 use mathlib.Core.Bool.{not}
 use Rattle.bench_state.proofs.Answers.{answers, past, here, none, said, denied}
-use Rattle.std.proofs.Common.{rules}
 use Rattle.bench_state.proofs.questions.lock_question.Goals as goal
 
 pub returns-then-not-sizes_in_range : goal.returns-then-not-sizes_in_range

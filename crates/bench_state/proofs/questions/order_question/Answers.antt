@@ -1,6 +1,5 @@
 use borrow.Author.Tests.{not-true, not-false, lt-leb, le-leb, lt-ltb, le-ltb}
 use Rattle.bench_state.proofs.Answers.{answers, past, here, none}
-use Rattle.std.proofs.Common.{rules}
 use Rattle.bench_state.proofs.questions.order_question.Goals as goal
 
 pub returns-then-not-m : goal.returns-then-not-m

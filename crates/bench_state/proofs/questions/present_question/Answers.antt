@@ -1,6 +1,5 @@
 use borrow.Author.Tests.{not-true, not-false, lt-leb, le-leb}
 use Rattle.bench_state.proofs.Answers.{answers, past, here, none, said, denied}
-use Rattle.std.proofs.Common.{rules}
 use Rattle.bench_state.proofs.questions.present_question.Goals as goal
 
 pub returns-then-not-m : goal.returns-then-not-m

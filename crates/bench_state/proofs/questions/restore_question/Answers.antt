@@ -1,7 +1,6 @@
 -- `bench_state::restore_question` meets its contract: at each return the questions before it are passed, and it is the first "no" (Answers).
 use borrow.Author.Tests.{not-true, not-false, lt-leb, le-leb}
 use Rattle.bench_state.proofs.Answers.{answers, past, here, none, said, denied}
-use Rattle.std.proofs.Common.{rules}
 use Rattle.bench_state.proofs.questions.restore_question.Goals as goal
 
 pub returns-then-not-m : goal.returns-then-not-m

@@ -1,5 +1,4 @@
 use Rattle.protocol.specs.Steps.{decided_as}
-use Rattle.std.proofs.Common.{rules}
 use Rattle.bench_state.proofs.shared.decided_as.Goals as goal
 
 pub returns : goal.returns

@@ -1,5 +1,4 @@
 use borrow.Author.Tests.{eq-eqb, ne_eqb}
-use Rattle.std.proofs.Common.{rules}
 use Rattle.bench_state.proofs.shared.may_open.Goals as goal
 
 pub returns-then-m-eq0 : goal.returns-then-m-eq0

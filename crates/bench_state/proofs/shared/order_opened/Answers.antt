@@ -1,5 +1,4 @@
 use Rattle.protocol.specs.Steps.{order_opened}
-use Rattle.std.proofs.Common.{rules}
 use Rattle.bench_state.proofs.shared.order_opened.Goals as goal
 
 pub returns : goal.returns

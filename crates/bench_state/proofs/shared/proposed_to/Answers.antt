@@ -1,5 +1,4 @@
 use Rattle.protocol.specs.Steps.{proposed_to}
-use Rattle.std.proofs.Common.{rules}
 use Rattle.bench_state.proofs.shared.proposed_to.Goals as goal
 
 pub returns : goal.returns

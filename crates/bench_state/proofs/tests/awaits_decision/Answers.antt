@@ -1,4 +1,3 @@
-use Rattle.std.proofs.Common.{rules}
 use Rattle.bench_state.proofs.tests.awaits_decision.Goals as goal
 
 pub returns-then-is_standby : goal.returns-then-is_standby

@@ -1,5 +1,4 @@
 use borrow.Author.Tests.{eq-eqb, ne_eqb}
-use Rattle.std.proofs.Common.{rules}
 use Rattle.bench_state.proofs.tests.awaits_timeout.Goals as goal
 
 pub returns-then-phase-eq1 : goal.returns-then-phase-eq1

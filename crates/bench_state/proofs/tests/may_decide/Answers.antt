@@ -1,4 +1,3 @@
-use Rattle.std.proofs.Common.{rules}
 use Rattle.bench_state.proofs.tests.may_decide.Goals as goal
 
 pub returns-then-was_proposed : goal.returns-then-was_proposed

@@ -1,4 +1,3 @@
-use Rattle.std.proofs.Common.{rules}
 use Rattle.bench_state.proofs.tests.may_settle.Goals as goal
 
 pub returns-then-own : goal.returns-then-own

@@ -1,4 +1,3 @@
-use Rattle.std.proofs.Common.{rules}
 use Rattle.bench_state.proofs.tests.no_other.Goals as goal
 
 pub returns-in-None : goal.returns-in-None

@@ -1,4 +1,3 @@
-use Rattle.std.proofs.Common.{rules}
 use Rattle.controller.proofs.ballot_sequence.ballot_to.Goals as goal
 
 pub returns : goal.returns

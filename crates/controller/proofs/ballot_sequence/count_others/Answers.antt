@@ -1,6 +1,5 @@
 use mathlib.Core.Path.{sym, ◌∙◌}
 use Rattle.protocol.specs.SequenceLaws.{members-size}
-use Rattle.std.proofs.Common.{rules}
 use Rattle.controller.proofs.ballot_sequence.count_others.Goals as goal
 
 pub returns : goal.returns

@@ -2,7 +2,6 @@ use lib.ListN.{length-map}
 use borrow.Author.Tests.{eq-eqb, ne_eqb}
 use Rattle.protocol.specs.BallotCalls.{ballot_to_others, promise_sent}
 use Rattle.controller.specs.BallotParts.{promised}
-use Rattle.std.proofs.Common.{rules}
 use Rattle.controller.proofs.ballot_sequence.count_promised.Goals as goal
 
 pub returns-then-owner-me : goal.returns-then-owner-me

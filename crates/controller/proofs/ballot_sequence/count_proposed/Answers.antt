@@ -1,7 +1,6 @@
 use lib.ListN.{length-map}
 use Rattle.protocol.specs.BallotCalls.{ballot_to_others}
 use Rattle.controller.specs.BallotParts.{proposed}
-use Rattle.std.proofs.Common.{rules}
 use Rattle.controller.proofs.ballot_sequence.count_proposed.Goals as goal
 
 pub returns-then-x : goal.returns-then-x

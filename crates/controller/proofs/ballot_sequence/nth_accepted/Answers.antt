@@ -1,7 +1,6 @@
 use borrow.Author.Tests.{eq-eqb, ne_eqb}
 use Rattle.protocol.specs.BallotCalls.{nth_ballot_of}
 use Rattle.controller.specs.BallotParts.{accepted_by}
-use Rattle.std.proofs.Common.{rules}
 use Rattle.controller.proofs.ballot_sequence.nth_accepted.Goals as goal
 
 pub returns-then-to-me : goal.returns-then-to-me

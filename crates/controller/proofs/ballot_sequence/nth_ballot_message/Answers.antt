@@ -7,7 +7,6 @@ use Rattle.protocol.specs.declared.BallotAnswer.{BallotAnswer}
 use Rattle.protocol.specs.BallotCalls.{ballot_messages}
 use Rattle.controller.specs.BallotParts.{promised, proposed, accepted_by}
 use Rattle.controller.proofs.BallotSequence.{here, past, both}
-use Rattle.std.proofs.Common.{rules}
 use Rattle.controller.proofs.ballot_sequence.nth_ballot_message.Goals as goal
 
 parts : (me : Identity) (b : ℕ) (x : BallotAnswer) → ballot_messages me b x ≡ promised me b x ++ (proposed me b x ++ accepted_by me b x)

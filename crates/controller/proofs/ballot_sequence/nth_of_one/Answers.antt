@@ -1,5 +1,4 @@
 use Rattle.controller.proofs.BallotSequence.{nth_only, nth-none}
-use Rattle.std.proofs.Common.{rules}
 use Rattle.controller.proofs.ballot_sequence.nth_of_one.Goals as goal
 
 pub returns-then-k-eq0 : goal.returns-then-k-eq0

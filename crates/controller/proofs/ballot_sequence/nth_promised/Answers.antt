@@ -1,7 +1,6 @@
 use borrow.Author.Tests.{eq-eqb, ne_eqb}
 use Rattle.protocol.specs.BallotCalls.{promise_sent, nth_ballot_of}
 use Rattle.controller.specs.BallotParts.{promised}
-use Rattle.std.proofs.Common.{rules}
 use Rattle.controller.proofs.ballot_sequence.nth_promised.Goals as goal
 
 pub returns-then-to-me : goal.returns-then-to-me

@@ -1,6 +1,5 @@
 use Rattle.protocol.specs.BallotCalls.{nth_ballot_of}
 use Rattle.controller.specs.BallotParts.{proposed}
-use Rattle.std.proofs.Common.{rules}
 use Rattle.controller.proofs.ballot_sequence.nth_proposed.Goals as goal
 
 pub returns-then-x : goal.returns-then-x

@@ -5,7 +5,6 @@ use Rattle.protocol.specs.declared.ToSendBallot.TheVariants.{Next}
 use Rattle.protocol.specs.Sequence.{members}
 use Rattle.protocol.specs.BallotCalls.{others, ballot_to, ballot_to_others}
 use Rattle.controller.proofs.BallotSequence.{nth-map, nth_end}
-use Rattle.std.proofs.Common.{rules}
 use Rattle.controller.proofs.ballot_sequence.nth_to_others.Goals as goal
 
 pub returns-then-count_others-k : goal.returns-then-count_others-k

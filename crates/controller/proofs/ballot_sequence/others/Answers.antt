@@ -1,6 +1,5 @@
 use mathlib.Core.Path.{◌∙◌}
 use Rattle.controller.proofs.BallotSequence.{others-of}
-use Rattle.std.proofs.Common.{rules}
 use Rattle.controller.proofs.ballot_sequence.others.Goals as goal
 
 pub returns : goal.returns

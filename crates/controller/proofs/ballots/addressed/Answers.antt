@@ -3,7 +3,6 @@ use mathlib.Core.Path.{◌≡◌}
 use mathlib.Core.Bool.{Bool, true, ◌&&◌}
 use borrow.Author.Tests.{eq-eqb, ne_eqb}
 use Rattle.protocol.specs.BallotCalls.{ballot_addressed}
-use Rattle.std.proofs.Common.{rules}
 use Rattle.controller.proofs.ballots.addressed.Goals as goal
 
 -- behind the first four tests, the last

@@ -1,5 +1,4 @@
 use Rattle.protocol.specs.BallotCalls.{ballot_arrives}
-use Rattle.std.proofs.Common.{rules}
 use Rattle.controller.proofs.ballots.arrives.Goals as goal
 
 pub returns-in-Prepare : goal.returns-in-Prepare

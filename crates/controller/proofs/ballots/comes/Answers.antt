@@ -1,7 +1,5 @@
 -- `controller::comes` meets its contract: the tests in the order of `ballot_comes`, by what each test's call ensures.
-use borrow.Author.Tests.{not-true, not-false}
 use Rattle.protocol.specs.BallotCalls.{ballot_comes}
-use Rattle.std.proofs.Common.{rules}
 use Rattle.controller.proofs.ballots.comes.Goals as goal
 
 pub returns-then-not-addressed : goal.returns-then-not-addressed

@@ -1,6 +1,5 @@
-use borrow.Author.Tests.{eq-eqb, ne_eqb, not-true, not-false}
+use borrow.Author.Tests.{eq-eqb, ne_eqb}
 use Rattle.protocol.specs.BallotCalls.{may_open_alone}
-use Rattle.std.proofs.Common.{rules}
 use Rattle.controller.proofs.ballots.may_open.Goals as goal
 
 pub returns-then-not-is_ballot : goal.returns-then-not-is_ballot

@@ -1,5 +1,4 @@
 use Rattle.protocol.specs.BallotCalls.{is_of_owner}
-use Rattle.std.proofs.Common.{rules}
 use Rattle.controller.proofs.ballots.of_owner.Goals as goal
 
 pub returns-in-Prepare : goal.returns-in-Prepare

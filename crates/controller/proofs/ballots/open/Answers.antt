@@ -2,9 +2,7 @@
 use mathlib.Core.Path.{◌≡◌, sym, ◌∙◌}
 use mathlib.Core.Bool.{Bool, true, false, cond, not, ◌&&◌}
 use Rattle.protocol.specs.declared.BallotAnswer.{BallotAnswer}
-use borrow.Author.Tests.{not-true, not-false}
 use Rattle.protocol.specs.BallotCalls.{open_call}
-use Rattle.std.proofs.Common.{rules}
 use Rattle.controller.proofs.ballots.open.Goals as goal
 
 -- behind the first two tests, the third goes by the word put

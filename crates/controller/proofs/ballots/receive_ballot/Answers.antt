@@ -1,6 +1,4 @@
-use borrow.Author.Tests.{not-true, not-false}
 use Rattle.protocol.specs.BallotCalls.{receive_ballot}
-use Rattle.std.proofs.Common.{rules}
 use Rattle.controller.proofs.ballots.receive_ballot.Goals as goal
 
 pub returns-then-not-takes_ballot : goal.returns-then-not-takes_ballot

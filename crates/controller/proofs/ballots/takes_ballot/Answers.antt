@@ -1,5 +1,3 @@
-use borrow.Author.Tests.{not-true, not-false}
-use Rattle.std.proofs.Common.{rules}
 use Rattle.controller.proofs.ballots.takes_ballot.Goals as goal
 
 pub returns-then-not-takes_part : goal.returns-then-not-takes_part

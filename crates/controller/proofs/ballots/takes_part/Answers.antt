@@ -1,6 +1,4 @@
-use borrow.Author.Tests.{not-true, not-false}
 use Rattle.protocol.specs.BallotCalls.{takes_part}
-use Rattle.std.proofs.Common.{rules}
 use Rattle.controller.proofs.ballots.takes_part.Goals as goal
 
 pub returns-then-not-valid_identity : goal.returns-then-not-valid_identity

@@ -1,7 +1,6 @@
 -- `controller::addressed` meets its contract: the tests in the order of `addressed`, each passed but the last.
-use borrow.Author.Tests.{eq-eqb, ne_eqb, not-false, not-true}
+use borrow.Author.Tests.{eq-eqb, ne_eqb}
 use Rattle.protocol.specs.Calls.{addressed}
-use Rattle.std.proofs.Common.{rules}
 use Rattle.controller.proofs.calls.addressed.Goals as goal
 
 pub returns-then-m-me : goal.returns-then-m-me

@@ -1,7 +1,5 @@
 -- `receive` meets its contract: behind the tests of identity, condition, address and vote set it is the rule's answer, tested.
-use borrow.Author.Tests.{not-false, not-true}
 use Rattle.protocol.specs.Calls.{receive}
-use Rattle.std.proofs.Common.{rules}
 use Rattle.controller.proofs.calls.receive.Goals as goal
 
 pub returns-then-not-takes_part : goal.returns-then-not-takes_part

@@ -1,5 +1,3 @@
-use borrow.Author.Tests.{not-false, not-true}
-use Rattle.std.proofs.Common.{rules}
 use Rattle.controller.proofs.calls.takes_part.Goals as goal
 
 pub returns-then-not-valid_identity : goal.returns-then-not-valid_identity

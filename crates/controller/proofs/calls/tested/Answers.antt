@@ -1,6 +1,4 @@
-use borrow.Author.Tests.{not-false, not-true}
 use Rattle.protocol.specs.Calls.{tested}
-use Rattle.std.proofs.Common.{rules}
 use Rattle.controller.proofs.calls.tested.Goals as goal
 
 pub returns-then-not-is_taken : goal.returns-then-not-is_taken

@@ -1,6 +1,4 @@
-use borrow.Author.Tests.{not-false, not-true}
 use Rattle.protocol.specs.Calls.{valid_identity}
-use Rattle.std.proofs.Common.{rules}
 use Rattle.controller.proofs.calls.valid_identity.Goals as goal
 
 pub returns-then-not-sizes_in_range : goal.returns-then-not-sizes_in_range

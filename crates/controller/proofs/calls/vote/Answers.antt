@@ -1,6 +1,5 @@
-use borrow.Author.Tests.{eq-eqb, ne_eqb, not-false, not-true}
+use borrow.Author.Tests.{eq-eqb, ne_eqb}
 use Rattle.protocol.specs.Calls.{vote}
-use Rattle.std.proofs.Common.{rules}
 use Rattle.controller.proofs.calls.vote.Goals as goal
 
 pub returns-then-not-takes_part : goal.returns-then-not-takes_part

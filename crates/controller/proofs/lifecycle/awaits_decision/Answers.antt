@@ -1,5 +1,4 @@
 use Rattle.protocol.specs.Calls.{awaits_decision}
-use Rattle.std.proofs.Common.{rules}
 use Rattle.controller.proofs.lifecycle.awaits_decision.Goals as goal
 
 pub returns-then-is_standby : goal.returns-then-is_standby

@@ -1,5 +1,4 @@
 use Rattle.protocol.specs.Calls.{checkpoint_of}
-use Rattle.std.proofs.Common.{rules}
 use Rattle.controller.proofs.lifecycle.checkpoint_of.Goals as goal
 
 pub returns : goal.returns

@@ -1,5 +1,4 @@
 use Rattle.protocol.specs.Calls.{decide}
-use Rattle.std.proofs.Common.{rules}
 use Rattle.controller.proofs.lifecycle.decide.Goals as goal
 
 pub returns-then-awaits_decision : goal.returns-then-awaits_decision

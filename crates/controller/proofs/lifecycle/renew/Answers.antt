@@ -5,7 +5,6 @@ use Rattle.protocol.specs.declared.Condition.TheVariants.{Stopped}
 use Rattle.protocol.specs.declared.Controller.{Controller}
 use Rattle.protocol.specs.Controllers.{is_stopped, in_phase, cleared}
 use Rattle.protocol.specs.Calls.{renew}
-use Rattle.std.proofs.Common.{rules}
 use Rattle.controller.proofs.lifecycle.renew.Goals as goal
 
 -- either way the condition alone differs

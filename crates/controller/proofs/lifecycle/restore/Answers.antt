@@ -1,5 +1,4 @@
 use Rattle.protocol.specs.Calls.{restore}
-use Rattle.std.proofs.Common.{rules}
 use Rattle.controller.proofs.lifecycle.restore.Goals as goal
 
 pub returns-then-is_stopped : goal.returns-then-is_stopped

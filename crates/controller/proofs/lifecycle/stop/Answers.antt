@@ -1,5 +1,4 @@
 use Rattle.protocol.specs.Calls.{stop}
-use Rattle.std.proofs.Common.{rules}
 use Rattle.controller.proofs.lifecycle.stop.Goals as goal
 
 pub returns-then-is_present : goal.returns-then-is_present

@@ -1,7 +1,6 @@
 use lib.ListN.{length-map}
 use Rattle.protocol.specs.Sequence.{messages_of_kind}
 use Rattle.protocol.specs.SequenceLaws.{members-size}
-use Rattle.std.proofs.Common.{rules}
 use Rattle.controller.proofs.sequence.count_of.Goals as goal
 
 pub returns-in-Nothing : goal.returns-in-Nothing

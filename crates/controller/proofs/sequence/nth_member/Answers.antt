@@ -1,5 +1,5 @@
 -- The loop over 1 to n stops at the first number up to which the set has more than k members; so far it has not had so many.
-use Prim.Native.Nat.{suc, ◌+◌, ◌-◌, ◌≤◌}
+use Prim.Native.Nat.{suc, ◌+◌, ◌≤◌}
 use mathlib.Core.Path.{◌≡◌, sym}
 use native.Mathlib.Omega.{arith}
 use native.Mathlib.Numerals.{add-one}
@@ -8,7 +8,6 @@ use Rattle.ground.specs.Quantify.{count_to}
 use Rattle.ground.specs.Mask.{has}
 use Rattle.protocol.specs.Sequence.{members}
 use Rattle.protocol.specs.SequenceLaws.{members-size, member-at}
-use Rattle.std.proofs.Common.{rules}
 use Rattle.controller.proofs.sequence.nth_member.Goals as goal
 
 pub loop-at-init : goal.loop-at-init

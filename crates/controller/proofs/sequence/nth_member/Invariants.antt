@@ -1,13 +1,7 @@
 -- The loop over 1 to n stops at the first number up to which the set has more than k members; so far it has not had so many.
-use Prim.Native.Nat.{suc, ◌+◌, ◌-◌, ◌≤◌}
-use mathlib.Core.Path.{◌≡◌, sym}
-use native.Mathlib.Omega.{arith}
-use native.Mathlib.Numerals.{add-one}
-use lib.ListN.{length, get_or-eq_default}
+use Prim.Native.Nat.{◌-◌, ◌≤◌}
 use Rattle.ground.specs.Quantify.{count_to}
 use Rattle.ground.specs.Mask.{has}
-use Rattle.protocol.specs.Sequence.{members}
-use Rattle.protocol.specs.SequenceLaws.{members-size, member-at}
 use Rattle.controller.proofs.sequence.nth_member.Given as goal
 
 abbrev pub invariant-loop-at : goal.invariant-loop-at

@@ -10,7 +10,6 @@ use Rattle.protocol.specs.declared.Identity.{Identity}
 use Rattle.protocol.specs.declared.Sends.{Sends}
 use Rattle.protocol.specs.Sequence.{messages_of_kind, messages_of, nth_of}
 use Rattle.protocol.specs.SequenceLaws.{nth_in, nth_past, nth-message-of}
-use Rattle.std.proofs.Common.{rules}
 use Rattle.controller.proofs.sequence.nth_message.Goals as goal
 
 here : (ms rest : List Message) (k p : ℕ) → p ≡ length ms → k < p → nth_of ms k ≡ nth_of (ms ++ rest) k

@@ -1,5 +1,4 @@
 use Rattle.protocol.specs.Sequence.{messages_of_kind, nth_of}
-use Rattle.std.proofs.Common.{rules}
 use Rattle.controller.proofs.sequence.nth_of_kind.Goals as goal
 
 pub returns-in-Nothing : goal.returns-in-Nothing

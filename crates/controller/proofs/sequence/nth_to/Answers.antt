@@ -6,7 +6,6 @@ use Rattle.ground.specs.Mask.{has}
 use Rattle.protocol.specs.declared.ToSend.TheVariants.{Next}
 use Rattle.protocol.specs.Sequence.{members, message_to, messages_of_kind}
 use Rattle.protocol.specs.SequenceLaws.{members-size, nth-map, nth_end}
-use Rattle.std.proofs.Common.{rules}
 use Rattle.controller.proofs.sequence.nth_to.Goals as goal
 
 pub returns-then-size-k : goal.returns-then-size-k
