@@ -1,5 +1,6 @@
 // A whole schedule, played on a new bench. The bench of a run is an array of stations by value, of which an event changes one element.
 #![tactic(auto)]
+
 mod memory;
 mod runs;
 

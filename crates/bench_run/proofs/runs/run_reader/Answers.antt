@@ -55,8 +55,9 @@ use Rattle.bench_run.proofs.runs.run_from.Symbol.{name as #bench-run·runs·run-
 use Rattle.bench_run.proofs.runs.run_from.Met as play-thm
 use Rattle.bench_run.specs.contracts.runs.run_reader.Key.{name as #bench-run·runs·run-reader}
 use Rattle.bench_run.specs.contracts.runs.run_reader as run-reader
-use Rattle.bench_run.proofs.runs.run_reader.Statement as stated
 use Rattle.bench_run.proofs.runs.run_reader.Code as code
+use Rattle.std.proofs.Common.{rules}
+use Rattle.bench_run.proofs.runs.run_reader.Goals as goal
 
 -- the struct's type, over the signature's lifetimes
 abbrev B : Lfts 2 → RattleType

@@ -57,8 +57,9 @@ use Rattle.bench_run.proofs.runs.run_reader.Symbol.{name as #bench-run·runs·ru
 use Rattle.bench_run.proofs.runs.run_reader.Met as play-thm
 use Rattle.bench_run.specs.contracts.runs.run.Key.{name as #bench-run·runs·run}
 use Rattle.bench_run.specs.contracts.runs.run as whole_run
-use Rattle.bench_run.proofs.runs.run.Statement as stated
 use Rattle.bench_run.proofs.runs.run.Code as code
+use Rattle.std.proofs.Common.{rules}
+use Rattle.bench_run.proofs.runs.run.Goals as goal
 
 abbrev stayed : Stays (whole_run.ended).signature.params (whole_run.ended).kept
 stayed = (stay_none_slice (0 ∷ []) tt (plain (λ _. u8)) yes, (gave_slice (1 ∷ []) tt (plain (λ _. u8)), tt))

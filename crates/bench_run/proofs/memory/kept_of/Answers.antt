@@ -1,0 +1,11 @@
+use mathlib.Core.Path.{refl, sym, ap, ◌∙◌}
+use borrow.Author.Tests.{not-true, not-false, eq-eqb, ne_eqb, lt-ltb, le-ltb}
+use Rattle.bench_run.specs.Memory.{kept_of}
+use Rattle.std.proofs.Common.{rules}
+use Rattle.bench_run.proofs.memory.kept_of.Goals as goal
+
+pub returns-then-left-lt-PAGE : goal.returns-then-left-lt-PAGE
+returns-then-left-lt-PAGE c = rw (lt-ltb _ 128 c.if-left-lt-PAGE.true) refl
+
+pub returns : goal.returns
+returns c = rw (le-ltb _ 128 c.if-left-lt-PAGE.false) refl

@@ -1,0 +1,5 @@
+use Rattle.std.proofs.Common.{rules}
+use Rattle.bench_run.proofs.runs.locked.Goals as goal
+
+pub returns : goal.returns
+returns c = simp c.all_undecided-counts.ensures
