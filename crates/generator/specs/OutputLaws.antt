@@ -1,5 +1,5 @@
 -- No output is longer than the program's buffer; and the output by the reply.
-use Rattle.std.specs.Prelude.{ℕ, ◌*◌, ◌≤◌, ◌<◌, ◌≡◌, refl, true, not, List, ◌++◌, eqb, leb, length, take, drop}
+use Rattle.std.specs.Prelude.{ℕ, ◌*◌, ◌≤◌, ◌<◌, ◌≡◌, refl, not, List, ◌++◌, eqb, leb, length, take, drop}
 use Rattle.std.proofs.Common.{sym, ◌∙◌, ap, arith, length-take-le, leb-true}
 use Rattle.ground.specs.Tests.{and_r, by_cond}
 use Rattle.ground.specs.Limit.{limit}

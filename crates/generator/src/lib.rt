@@ -1,5 +1,6 @@
 // Test schedules that can be made again: event records drawn from a starting number, and what the generator program writes of them.
 #![tactic(auto)]
+
 mod drawing;
 mod file;
 mod output;

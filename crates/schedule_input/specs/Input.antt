@@ -1,6 +1,6 @@
 -- A schedule in either form, and what the programs that turn one into the other print.
-use Rattle.std.specs.Prelude.{ℕ, ◌+◌, ◌-◌, ◌^◌, min, Bool, true, false, cond, not, ◌&&◌, ◌||◌, List, [], ◌∷◌, ◌++◌, eqb, leb, ltb, length, take, get_or}
-use Rattle.text.specs.Text.{ascii, decimal, line, refusal}
+use Rattle.std.specs.Prelude.{ℕ, ◌-◌, ◌^◌, min, Bool, false, cond, not, ◌&&◌, ◌||◌, List, [], ◌∷◌, ◌++◌, eqb, leb, ltb, length, take, get_or}
+use Rattle.text.specs.Text.{ascii, decimal, refusal}
 use Rattle.words.specs.Words.{lines_of, uncommented, nth_word}
 use Rattle.bench_report.specs.Limits.{longest_schedule}
 use Rattle.schedule_text.specs.Texts.{Result, made, refused, read_text, write_text}

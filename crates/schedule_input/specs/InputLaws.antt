@@ -1,5 +1,5 @@
 -- Laws of the two forms and of what is printed of them.
-use Rattle.std.specs.Prelude.{ℕ, suc, ◌+◌, ◌-◌, ◌^◌, ◌≤◌, ◌<◌, min, true, false, ◌&&◌, List, [], ◌∷◌, ◌++◌, eqb, leb, take, get_or, replicate}
+use Rattle.std.specs.Prelude.{ℕ, ◌+◌, ◌-◌, ◌^◌, ◌≤◌, ◌<◌, min, true, false, List, [], ◌∷◌, ◌++◌, eqb, leb, take, get_or, replicate}
 use Rattle.std.proofs.Math.Path.{◌≡◌, refl, sym, ap}
 use Rattle.std.proofs.Common.{◌∙◌, arith, drop_of_length-le, length-take, drop-cons, length-take-le, take_all}
 use Rattle.std.proofs.Math.Logic.{inl, inr}
@@ -9,15 +9,15 @@ use Rattle.std.proofs.Math.ListN.{length, drop, length-append}
 use Rattle.std.proofs.lemmas.List.{length-replicate}
 use Rattle.std.proofs.Math.Seq.{take-append_seam}
 use Rattle.ground.specs.Tests.{split}
-use Rattle.text.specs.Text.{ascii, decimal, refusal}
+use Rattle.text.specs.Text.{ascii, refusal}
 use Rattle.text.specs.Lengths.{decimal-length}
 use Rattle.text.specs.Writing.{Put, fitted, fitted_length}
 use Rattle.text.specs.WritingLaws.{all-fitted, nothing-fitted, read-front, fitted-whole}
 use Rattle.bench_report.specs.Limits.{longest_schedule}
-use Rattle.schedule_text.specs.Texts.{Result, made, refused, read_text, write_text, answer_to, buffer_after}
+use Rattle.schedule_text.specs.Texts.{Result, made, refused, read_text, answer_to, buffer_after}
 use Rattle.schedule_text.specs.declared.Turned.{Turned}
 use Rattle.schedule_text.specs.declared.Turned.TheVariants.{Done, Refused, NoRoom}
-use Rattle.schedule_input.specs.Input.{marked, is_control, has_control, is_text, records_in, word_shown, word_of, refused_word, refused_line, refused_record, longest_text, either_or, either_form, text_or}
+use Rattle.schedule_input.specs.Input.{marked, is_control, has_control, is_text, records_in, word_shown, word_of, refused_line, refused_record, longest_text, either_or, either_form, text_or}
 
 -- the mark
 pub no_bytes : (s : List ℕ) → length s ≡ 0 → false ≡ marked s

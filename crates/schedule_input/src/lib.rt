@@ -1,5 +1,6 @@
 // A schedule in either form: which one it is, its records, and what the programs `records` and `text` print of it.
 #![tactic(auto)]
+
 mod forms;
 mod output;
 mod refusals;

@@ -1,7 +1,7 @@
 -- The fields of what was read from bytes are those bytes: each field is held by its own.
 use Prim.Native.Nat.{ℕ, ◌+◌, ◌*◌, ◌^◌, ◌<◌}
 use mathlib.Core.Path.{◌≡◌, refl, sym, ◌∙◌, ap}
-use mathlib.Core.List.{List, [], ◌∷◌}
+use mathlib.Core.List.{List}
 use native.Mathlib.Omega.{arith}
 use native.Mathlib.Decide.{dec_lt}
 use lib.ListN.{length, take, drop, get_or, get_or-eq_default, length-take}
@@ -9,10 +9,10 @@ use lib.Seq.{get_or-take, get_or-drop}
 use Rattle.model.specs.Questions.{Reply, accepted, refused, first_no}
 use Rattle.model.specs.QuestionLaws.{all_yes}
 use Rattle.model.specs.declared.Act.{Act}
-use Rattle.records.specs.Bytes.{byte, number2, number4, AllBytes}
+use Rattle.records.specs.Bytes.{byte, number4, AllBytes}
 use Rattle.records.specs.Codec.{fields_by, value_by, form_questions, returned, reads}
 use Rattle.event_record.specs.Events.{numbers_in, fields_of, event_form, events, read_event}
-use Rattle.event_record.specs.declared.ReadEvent.TheVariants.{Read, Refused}
+use Rattle.event_record.specs.declared.ReadEvent.TheVariants.{Read}
 use Rattle.event_record.proofs.RoundTrips.{lawful}
 use Rattle.schedule_text.proofs.Shows.{Held}
 

@@ -1,11 +1,11 @@
 -- The line of an act: one table of forms, by which lines are read and written. A line has a first word for the kind (`Verb`) and then, by the kind, up to four
 -- places (`Slot`); each shows one field of the act's record, as a number or as one of some names.
-use Rattle.std.specs.Prelude.{ℕ, zero, suc, ◌-◌, ◌^◌, Bool, true, false, cond, List, [], ◌∷◌, ◌++◌, eqb, leb, get_or}
+use Rattle.std.specs.Prelude.{ℕ, ◌-◌, ◌^◌, Bool, true, false, cond, List, [], ◌∷◌, ◌++◌, eqb, leb, get_or}
 use Rattle.text.specs.Text.{ascii, decimal, signed}
 use Rattle.words.specs.Words.{nth_word}
 use Rattle.words.specs.Numbers.{number_in, signed_in, name_in}
 use Rattle.words.specs.declared.Found.{Found}
-use Rattle.words.specs.declared.Found.TheVariants.{Value, Nothing}
+use Rattle.words.specs.declared.Found.TheVariants.{Nothing}
 use Rattle.event_record.specs.Events.{fields}
 use Rattle.event_record.specs.declared.Fields.{Fields}
 use Rattle.schedule_text.specs.declared.Slot.{Slot}

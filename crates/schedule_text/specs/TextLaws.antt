@@ -6,21 +6,19 @@ use Rattle.std.proofs.Math.Numerals.{add-one}
 use Rattle.std.proofs.Math.ListN.{take}
 use Rattle.text.specs.Writing.{Put}
 use Rattle.words.specs.LineLaws.{lines_from, no_lines, line_then}
-use Rattle.words.specs.declared.Found.{Found}
 use Rattle.words.specs.declared.Found.TheVariants.{Value, Nothing}
 use Rattle.model.specs.declared.Act.{Act}
-use Rattle.event_record.specs.Events.{fields_of, event_length, read_event}
+use Rattle.event_record.specs.Events.{fields_of}
 use Rattle.event_record.specs.declared.Fields.{Fields}
 use Rattle.event_record.specs.declared.ReadEvent.{ReadEvent}
 use Rattle.event_record.specs.declared.ReadEvent.TheVariants.{Read, Refused as RefusedRecord}
 use Rattle.schedule_reader.specs.Pieces.{piece_at, record_at}
 use Rattle.schedule_text.specs.Forms.{with_field, value_in, line_of}
-use Rattle.schedule_text.specs.Texts.{slot_at, ended, taken, read_words, read_line, Result, made, refused, after, onward, bytes_of_read, read_lines, read_text, written, write_records, count, write_text}
+use Rattle.schedule_text.specs.Texts.{slot_at, ended, read_words, Result, made, refused, after, onward, bytes_of_read, read_lines, read_text, written, write_records, count, write_text}
 use Rattle.schedule_text.specs.Turning.{Turns, LineAt}
 use Rattle.schedule_text.specs.declared.Slot.{Slot}
 use Rattle.schedule_text.specs.declared.LineRead.{LineRead}
 use Rattle.schedule_text.specs.declared.LineRead.TheVariants.{Blank, Record, Unexpected}
-use Rattle.schedule_text.specs.declared.Turned.{Turned}
 use Rattle.schedule_text.specs.declared.Turned.TheVariants.{Done, Refused}
 
 -- a line, at word i: it ends, the word is not expected, or it is taken

@@ -1,7 +1,7 @@
 -- What the code does on the way: bytes are put at the front of a buffer as far as it goes, or something is refused; and what that comes to, where the text was
 -- measured before.
-use Rattle.std.specs.Prelude.{ℕ, ◌+◌, ◌-◌, ◌≤◌, ◌<◌, ◌≡◌, refl, List, [], take, drop}
-use Rattle.std.proofs.Common.{sym, ◌∙◌, ap, arith, le-leb}
+use Rattle.std.specs.Prelude.{ℕ, ◌+◌, ◌-◌, ◌≤◌, ◌<◌, ◌≡◌, refl, List, take, drop}
+use Rattle.std.proofs.Common.{sym, ◌∙◌, arith, le-leb}
 use Rattle.std.proofs.Math.Nat.{zero-add}
 use Rattle.std.proofs.lemmas.Bool.{lt-leb}
 use Rattle.std.proofs.Math.ListN.{length}
@@ -35,38 +35,31 @@ same-done e = cc
 no-done : {k q n : ℕ} → Refused k q ≡ Done n → ⊥
 no-done e = let z : ◌≡◌ {A = ℕ} 0 1 = cc in omega arith
 
-module _ (x : Result) where
-  -- refused where it was measured
-  pub refused_then : (b a : List ℕ) (r : Turned) (out : List ℕ) → Turns x b a r → ((n : ℕ) → r ≡ Done n → ⊥) → Answered x out out r
-  unfolding answer_to buffer_after
-  refused_then = elim x [
-    | made t ↦ λ b a r out w n. absurd (n w.0 w.1)
-    | refused k q ↦ λ b a r out w n. (w, refl)
-  ]
+-- refused where it was measured
+pub refused_then : (x : Result) (b a : List ℕ) (r : Turned) (out : List ℕ) → Turns x b a r → ((n : ℕ) → r ≡ Done n → ⊥) → Answered x out out r
+unfolding answer_to buffer_after
+refused_then (made t) b a r out w n = absurd (n w.0 w.1)
+refused_then (refused k q) b a r out w n = (w, refl)
 
-  -- measured, and longer than the buffer
-  pub no_room : (b a : List ℕ) (r : Turned) (out : List ℕ) (n : ℕ) → Turns x b a r → r ≡ Done n → length out < n → length out < highest → Answered x out out NoRoom
-  unfolding answer_to buffer_after
-  no_room = elim x [
-    | made t ↦ λ b a r out n w e h l.
-        let d : w.0 ≡ n = same-done (sym w.1 ∙ e) in
-        let z : 0 + length t ≡ length t = zero-add (length t) in
-        let g : length out < length t = omega (arith, w.2.place) in
-        (rw (lt-leb (length t) (length out) g), (nothing-fitted t out g).1)
-    | refused k q ↦ λ b a r out n w e h l. absurd (no-done (sym w ∙ e))
-  ]
+-- measured, and longer than the buffer
+pub no_room : (x : Result) (b a : List ℕ) (r : Turned) (out : List ℕ) (n : ℕ) → Turns x b a r → r ≡ Done n → length out < n → length out < highest → Answered x out out NoRoom
+unfolding answer_to buffer_after
+no_room (made t) b a r out n w e h l =
+    let d : w.0 ≡ n = same-done (sym w.1 ∙ e) in
+    let z : 0 + length t ≡ length t = zero-add (length t) in
+    let g : length out < length t = omega (arith, w.2.place) in
+    (rw (lt-leb (length t) (length out) g), (nothing-fitted t out g).1)
+no_room (refused k q) b a r out n w e h l = absurd (no-done (sym w ∙ e))
 
-  -- measured, and put where there is room
-  pub turned : (b a : List ℕ) (r : Turned) (out out' : List ℕ) (r' : Turned) (n : ℕ) → Turns x b a r → r ≡ Done n → n ≤ length out → length out < highest → Turns x out out' r'
-      → Answered x out out' r'
-  unfolding answer_to buffer_after
-  turned = elim x [
-    | made t ↦ λ b a r out out' r' n w e h l w'.
-        let d : w.0 ≡ n = same-done (sym w.1 ∙ e) in
-        let z : 0 + length t ≡ length t = zero-add (length t) in
-        let g : length t ≤ length out = omega (arith, w.2.place) in
-        let f = all-fitted t out g w'.2 in
-        let m : w'.0 ≡ length t = measured (omega arith) w'.2 in
-        (w'.1 ∙ rw (le-leb (length t) (length out) g, m), f.1)
-    | refused k q ↦ λ b a r out out' r' n w e h l w'. absurd (no-done (sym w ∙ e))
-  ]
+-- measured, and put where there is room
+pub turned : (x : Result) (b a : List ℕ) (r : Turned) (out out' : List ℕ) (r' : Turned) (n : ℕ) → Turns x b a r → r ≡ Done n → n ≤ length out → length out < highest → Turns x out out' r'
+    → Answered x out out' r'
+unfolding answer_to buffer_after
+turned (made t) b a r out out' r' n w e h l w' =
+    let d : w.0 ≡ n = same-done (sym w.1 ∙ e) in
+    let z : 0 + length t ≡ length t = zero-add (length t) in
+    let g : length t ≤ length out = omega (arith, w.2.place) in
+    let f = all-fitted t out g w'.2 in
+    let m : w'.0 ≡ length t = measured (omega arith) w'.2 in
+    (w'.1 ∙ rw (le-leb (length t) (length out) g, m), f.1)
+turned (refused k q) b a r out out' r' n w e h l w' = absurd (no-done (sym w ∙ e))

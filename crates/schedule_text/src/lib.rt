@@ -1,5 +1,6 @@
 // A schedule as text, one act a line in the documents' words, and as records: the one from the other.
 #![tactic(auto)]
+
 mod forms;
 mod reading;
 mod writing;

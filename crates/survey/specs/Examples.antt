@@ -1,6 +1,5 @@
 -- Worked by hand: how some benches ended, which records are refused with what, and a report over six schedules, from what they showed to its page.
-use Rattle.std.specs.Prelude.{ℕ, zero, suc, ◌-◌, ◌≡◌, refl, Bool, true, ◌&&◌, List, [], ◌∷◌, map, eqb, length, get_or}
-use Prim.Native.String.{String}
+use Rattle.std.specs.Prelude.{ℕ, ◌-◌, ◌≡◌, refl, Bool, true, ◌&&◌, List, [], ◌∷◌, map, eqb, length, get_or}
 use Rattle.ground.specs.Lists.{nth}
 use Rattle.ground.specs.Quantify.{all_to, any_to}
 use Rattle.model.specs.Questions.{number, unless, first_no}
@@ -12,7 +11,6 @@ use Rattle.bench_report.specs.declared.Row.{Row}
 use Rattle.bench_report.specs.declared.MessageCounts.{MessageCounts}
 use Rattle.bench_report.specs.declared.Summary.{Summary}
 use Rattle.bench_report.specs.Listing.{page as as_page}
-use Rattle.survey.specs.declared.Ending.{Ending}
 use Rattle.survey.specs.declared.Ending.TheVariants.{Moved, Stayed, Rest}
 use Rattle.survey.specs.Ended.{any_present, all_ended, ending_of}
 use Rattle.survey.specs.Surveys.{with_one, survey_of}

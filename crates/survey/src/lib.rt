@@ -1,5 +1,6 @@
 // A report over many schedules (document 02, U13): what is counted of a schedule's end, the questions put to the record, and the page that is printed.
 #![tactic(auto)]
+
 mod ended;
 mod page;
 mod questions;

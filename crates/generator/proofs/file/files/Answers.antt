@@ -1,0 +1,5 @@
+use Rattle.generator.specs.FileLaws.{files-kept}
+use Rattle.generator.proofs.file.files.Goals as goal
+
+pub returns : goal.returns
+returns c = files-kept c.round_trips.ensures c.draws.ensures

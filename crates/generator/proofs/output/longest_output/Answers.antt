@@ -1,0 +1,6 @@
+use mathlib.Core.Path.{refl}
+use Rattle.generator.specs.OutputLaws.{all_fit}
+use Rattle.generator.proofs.output.longest_output.Goals as goal
+
+pub returns : goal.returns
+returns c = (refl, all_fit)

@@ -1,0 +1,10 @@
+-- `survey::page::put_endings` meets its contract.
+use Rattle.text.specs.WritingLaws.{put_then, put-length}
+use Rattle.survey.proofs.page.put_endings.Goals as goal
+
+pub returns : goal.returns
+returns c =
+    put_then c.put_number-next.ensures (put_then c.put_field-next.ensures (put_then c.put_field-next-2.ensures c.put_byte.ensures))
+
+pub shape_of-out : goal.shape_of-out
+shape_of-out c = put-length (returns c)
