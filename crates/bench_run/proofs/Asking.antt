@@ -155,7 +155,7 @@ module _ (v : Facts) (few : v.shared.n ≤ limit) (e : BallotEvent) (a : Accepto
       same_row : first_no (asked_with (acceptor v.ballots (ballot_subject e)) r) ≡ first_no (asked_with (acceptor v.ballots (ballot_subject e)) (row v.ballots (ballot_number e)))
       same_row = elim (split (is_ballot (ballot_number e))) [
         | inl y ↦ ap (λ (x : BallotRow). first_no (asked_with (acceptor v.ballots (ballot_subject e)) x)) (slot y)
-        | inr n ↦ row_alike _ _ _ _ _ _ e n
+        | inr n ↦ row_alike v.shared v.condition v.proposal (acceptor v.ballots (ballot_subject e)) r (row v.ballots (ballot_number e)) e n
       ]
 
 -- once all are answered "yes", its controller has a seat

@@ -49,10 +49,10 @@ pub more-chosen : (n : ℕ) (bs : Ballots) (v : Bool) (i : ℕ) (chosen x : Bool
 unfolding any_to chosen_in row nth
 more-chosen n bs v i chosen x e f = rw (add-one, e, f)
 
-pub may_give : (m : Shared) (bs : Ballots) (v : Bool) (end i : ℕ) (chosen may : Bool) → end ≡ cond m.own ballot_limit 0 → i ≡ end → chosen ≡ any_to i (chosen_in m.n bs v)
+pub may_give_lem : (m : Shared) (bs : Ballots) (v : Bool) (end i : ℕ) (chosen may : Bool) → end ≡ cond m.own ballot_limit 0 → i ≡ end → chosen ≡ any_to i (chosen_in m.n bs v)
     → may ≡ cond m.own chosen (was_proposed m.consensus v && no_other_word m.consensus.decision v) → may ≡ may_give m bs v
 unfolding is_chosen
-may_give m bs v end i chosen may e x c g = elim (split m.own) [
+may_give_lem m bs v end i chosen may e x c g = elim (split m.own) [
   | inl o ↦
       let all : i ≡ ballot_limit = x ∙ e ∙ ap (λ (t : Bool). cond t ballot_limit 0) o in
       g ∙ ap (λ (t : Bool). cond t chosen word) o ∙ c ∙ ap (λ (j : ℕ). any_to j (chosen_in m.n bs v)) all ∙ sym (ap (λ (t : Bool). cond t (is_chosen m.n bs v) word) o)

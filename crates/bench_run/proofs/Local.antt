@@ -92,10 +92,10 @@ module _ (m : Shared) (bs : Ballots) (l : List Station) (e : Event) (own other :
   module _ (z : q ≡ 0) where
     -- each question was answered "yes"
     pub yes-to-all : AllYes (questions_of (facts_of m bs e own other.sent (may_open m) (may_give m bs) true) e)
-    yes-to-all = all_yes _ (reply-accepted _ q (all-numbered _ e) a.asked z)
+    yes-to-all = all_yes _ (reply-accepted _ q (all-numbered (facts_of m bs e own other.sent (may_open m) (may_give m bs) true) e) a.asked z)
 
     pub steps : step (bench_with m bs l) e ≡ untested_perform (bench_with m bs l) e
-    steps = accepted-step (bench_with m bs l) a.list a.here e (reply-accepted _ q (all-numbered _ e) untested z)
+    steps = accepted-step (bench_with m bs l) a.list a.here e (reply-accepted _ q (all-numbered (facts_of m bs e (station (bench_with m bs l) (subject_of e)) (sent_by (bench_with m bs l) (source_of e)) (may_open m) (may_give m bs) true) e) untested z)
 
     -- an event of one controller: its effect, put back
     pub done : changes_station e ≡ true → (t : Effect) → t ≡ untested_effect m e other.sent own → bench_with t.shared bs (set l at t.station) ≡ step (bench_with m bs l) e

@@ -27,7 +27,7 @@ use Rattle.protocol.specs.Questions.{reply}
 use Rattle.protocol.specs.Steps.{step, run}
 use Rattle.protocol.specs.Claim.{after}
 use Rattle.protocol.specs.Questions.{number as reply_number}
-use Rattle.bench_state.proofs.Replies.{all-numbered}
+use Rattle.bench_state.proofs.Replies.{zero-accepted}
 use Rattle.steps_back.specs.Memory.{Remembering, answer, run_acts, left_from}
 use Rattle.steps_back.specs.Claim.{at}
 use Rattle.steps_back.proofs.Theorem.{run_snoc}
@@ -217,8 +217,7 @@ unchanged s k n = by (read_event (piece s k)) refl
 
 -- an event whose answer is 0 was accepted
 zero-taken : (b : Bench) (e : Event) → number (reply b e) ≡ 0 → reply b e ≡ accepted
-unfolding reply
-zero-taken b e z = reply-accepted _ 0 (all-numbered _ e) (sym z) refl
+zero-taken b e z = zero-accepted b e z
 
 -- a step back that is accepted has something to undo
 pub some : (locked : Bool) (undoable : ℕ) → back_number locked undoable ≡ 0 → 1 ≤ undoable

@@ -22,7 +22,7 @@ use Rattle.bench_run.specs.Runs.{end_of}
 use Rattle.bench_run.proofs.Local.{bench_with, all_stations, new-parts, new-ballots}
 use Rattle.bench_run.proofs.Records.{Upto, start, in-room, not-read, no_room, ended, place-within, place_safe, place-all, refused-ready, refused-read, back-ready, step-back-read, due_note, step_safe, stepped-refused, stepped-taken, refused_nearer, back_nearer, note-place, note-few, noted-refused, noted-within, noted-even, noted-odd}
 use Rattle.bench_run.proofs.PlayLaws.{reading, in_place, order-size, lock-refused, lock-accepted, order-refused, order-accepted, order_quiet, cast-refused, cast-accepted, delivery-refused, vote-accepted, ack-passed-over, ack-held, ack-put, help-accepted, helped-accepted, timeout-refused, first-laid, second-accepted, decide-refused, decide-accepted, stop-refused, stop-accepted, save-refused, save-accepted, restore-refused, restore-accepted}
-use Rattle.bench_run.proofs.BallotPlay.{none-chosen, more-chosen, may_give, ballot_played}
+use Rattle.bench_run.proofs.BallotPlay.{none-chosen, more-chosen, may_give_lem, ballot_played}
 use Rattle.std.proofs.Common.{rules}
 use Rattle.bench_run.proofs.runs.run_from.Goals as goal
 
@@ -446,7 +446,7 @@ loop-i-2-smaller c = omega (arith, c.loop-i-2-test.true, c.ballots_asked-end.ens
 
 pub loop-i-2-preserved : goal.loop-i-2-preserved
 unfolding fresh_station fresh unsent_all new_row
-loop-i-2-preserved c = (omega arith, more-chosen _ _ _ _ _ _ c.loop-i-2.invariant.1 c.Chosen-at.ensures)
+loop-i-2-preserved c = (omega arith, more-chosen _ _ _ _ _ _ c.loop-i-2.invariant.1 c.chosen_at-chosen.ensures)
 
 pub bounds-answers-here-in-Decide : goal.bounds-answers-here-in-Decide
 bounds-answers-here-in-Decide c =
@@ -465,7 +465,7 @@ pub loop-k-preserved-then-answer-ne0-6 : goal.loop-k-preserved-then-answer-ne0-6
 unfolding fresh_station fresh unsent_all new_row
 loop-k-preserved-then-answer-ne0-6 c =
     let end : c.loop-i-2.i ≡ c.ballots_asked-end.result = omega (arith, c.loop-i-2.invariant.0, c.loop-i-2-test.false) in
-    decide-refused _ _ _ _ _ _ _ _ _ _ _ c.seat-at-in-Decide.ensures _ c.condition_of-in-Decide.ensures _ _ (may_give c.loop-k.m _ _ _ _ _ _ c.ballots_asked-end.ensures.0 end c.loop-i-2.invariant.1 c.may_give-may.ensures)
+    decide-refused _ _ _ _ _ _ _ _ _ _ _ c.seat-at-in-Decide.ensures _ c.condition_of-in-Decide.ensures _ _ (may_give_lem c.loop-k.m _ _ _ _ _ _ c.ballots_asked-end.ensures.0 end c.loop-i-2.invariant.1 c.may_give-may.ensures)
     (reading _ _ _ _ _ _ _ _ _ _ _ _ c.loop-k.invariant c.loop-k-test.true c.place_of-here.ensures _ c.is_pending-pending.ensures _ c.next_at-next.ensures (c.in-Play.is ∙ ap Plays c.in-Decide.is)) (c.decide_question-answer.ensures false) c.if-answer-ne0-6.true
 
 pub offset_bounds-stations-at-in-Decide-3 : goal.offset_bounds-stations-at-in-Decide-3
@@ -482,7 +482,7 @@ pub loop-k-preserved-in-Decide : goal.loop-k-preserved-in-Decide
 unfolding fresh_station fresh unsent_all new_row
 loop-k-preserved-in-Decide c =
     let end : c.loop-i-2.i ≡ c.ballots_asked-end.result = omega (arith, c.loop-i-2.invariant.0, c.loop-i-2-test.false) in
-    decide-accepted _ _ _ _ _ _ _ _ _ _ _ c.seat-at-in-Decide.ensures _ c.condition_of-in-Decide.ensures _ _ (may_give c.loop-k.m _ _ _ _ _ _ c.ballots_asked-end.ensures.0 end c.loop-i-2.invariant.1 c.may_give-may.ensures)
+    decide-accepted _ _ _ _ _ _ _ _ _ _ _ c.seat-at-in-Decide.ensures _ c.condition_of-in-Decide.ensures _ _ (may_give_lem c.loop-k.m _ _ _ _ _ _ c.ballots_asked-end.ensures.0 end c.loop-i-2.invariant.1 c.may_give-may.ensures)
     (reading _ _ _ _ _ _ _ _ _ _ _ _ c.loop-k.invariant c.loop-k-test.true c.place_of-here.ensures _ c.is_pending-pending.ensures _ c.next_at-next.ensures (c.in-Play.is ∙ ap Plays c.in-Decide.is)) (c.decide_question-answer.ensures false) c.if-answer-ne0-6.false _ c.decide_turn-t.ensures
 
 pub bounds-answers-here-in-Stop : goal.bounds-answers-here-in-Stop

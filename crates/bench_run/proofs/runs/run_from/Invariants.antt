@@ -22,7 +22,7 @@ use Rattle.bench_run.specs.Runs.{end_of}
 use Rattle.bench_run.proofs.Local.{bench_with, all_stations, new-parts, new-ballots}
 use Rattle.bench_run.proofs.Records.{Upto, start, in-room, not-read, no_room, ended, place-within, place_safe, place-all, refused-ready, refused-read, back-ready, step-back-read, due_note, step_safe, stepped-refused, stepped-taken, refused_nearer, back_nearer, note-place, note-few, noted-refused, noted-within, noted-even, noted-odd}
 use Rattle.bench_run.proofs.PlayLaws.{reading, in_place, order-size, lock-refused, lock-accepted, order-refused, order-accepted, order_quiet, cast-refused, cast-accepted, delivery-refused, vote-accepted, ack-passed-over, ack-held, ack-put, help-accepted, helped-accepted, timeout-refused, first-laid, second-accepted, decide-refused, decide-accepted, stop-refused, stop-accepted, save-refused, save-accepted, restore-refused, restore-accepted}
-use Rattle.bench_run.proofs.BallotPlay.{none-chosen, more-chosen, may_give, ballot_played}
+use Rattle.bench_run.proofs.BallotPlay.{none-chosen, more-chosen, may_give_lem, ballot_played}
 use Rattle.bench_run.proofs.runs.run_from.Given as goal
 
 abbrev pub invariant-loop-i : goal.invariant-loop-i
@@ -32,13 +32,13 @@ abbrev pub decreases-loop-i : goal.decreases-loop-i
 decreases-loop-i l = l.end - l.i
 
 abbrev pub invariant-loop-i-2 : goal.invariant-loop-i-2
-invariant-loop-i-2 l = (l.i ≤ l.end) × (l.chosen ≡ any_to l.i (chosen_in l.m.n (record { l.acceptors = l.acceptors; l.rows = l.rows }) l.to_move))
+invariant-loop-i-2 l = (l.i ≤ l.end) × (l.chosen ≡ any_to l.i (chosen_in l.m.n (record { acceptors = l.acceptors; rows = l.rows }) l.to_move))
 
 abbrev pub decreases-loop-i-2 : goal.decreases-loop-i-2
 decreases-loop-i-2 l = l.end - l.i
 
 abbrev pub invariant-loop-k : goal.invariant-loop-k
-invariant-loop-k l = Upto (record { l.s = drop l.from l.s; out = l.initial.answers; all = l.count }) (record { on = l.remembers; l.noted = l.noted; l.count = l.left; l.undoable = l.undoable; l.ring = l.ring; l.even = l.even; l.odd = l.odd }) l.k (bench_with l.m (record { l.acceptors = l.acceptors; l.rows = l.rows }) l.stations) l.answers
+invariant-loop-k l = Upto (record { s = drop l.from l.s; out = l.initial.answers; all = l.count }) (record { on = l.remembers; noted = l.noted; count = l.left; undoable = l.undoable; ring = l.ring; even = l.even; odd = l.odd }) l.k (bench_with l.m (record { acceptors = l.acceptors; rows = l.rows }) l.stations) l.answers
 
 abbrev pub decreases-loop-k : goal.decreases-loop-k
 decreases-loop-k l = 200 * (l.count - l.noted) + (l.count - l.k) + cond l.remembers 0 (l.count + 1)
