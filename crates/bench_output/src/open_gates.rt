@@ -1,6 +1,6 @@
 // The count of gates still open, for other languages.
 ghost use Rattle.std.specs.Prelude.{◌≡◌};
-ghost use Rattle.bench_output.specs.OpenGates.{open_gates_of};
+ghost use Rattle.bench_output.specs.OpenGates.{open_gates_after};
 
 use bench_report::{MOST_ANSWERS, is_too_long};
 use bench_run::run;
@@ -8,7 +8,7 @@ use bench_run::run;
 // How many gates are still open after a schedule, for a panel in another language. One that is too long is not run, and gets 255.
 #[unsafe(no_mangle)]
 pub extern "C" fn bench_open_gates(s: &[u8]) -> u8
-    ensures { result ≡ open_gates_of s.now }
+    ensures { result ≡ open_gates_after s.now }
 {
     if is_too_long(s.len()) {
         return 255;
