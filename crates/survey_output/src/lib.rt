@@ -1,5 +1,6 @@
 // The report over many schedules but for its reading and writing (document 02, U13): from the ten bytes of a record to the page or a refusal, in a lent buffer.
 #![tactic(auto)]
+
 mod schedules;
 mod surveying;
 
