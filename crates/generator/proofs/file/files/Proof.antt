@@ -1,4 +1,4 @@
-use Rattle.generator.specs.FileLaws.{files-kept}
+use Rattle.generator.proofs.FileLaws.{files-kept}
 use borrow.Author.Rules.{rules}
 use Rattle.generator.proofs.file.files.Statement.{statement}
 use Rattle.generator.proofs.file.files.Tie as tie

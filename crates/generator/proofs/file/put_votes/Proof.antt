@@ -5,7 +5,7 @@ use borrow.Author.Rules.{rules}
 use Rattle.text.specs.Writing.{Put}
 use Rattle.text.specs.WritingLaws.{put_then, put-text, put-length}
 use Rattle.generator.specs.File.{event_records, votes_to}
-use Rattle.generator.specs.FileLaws.{one-vote-more}
+use Rattle.generator.proofs.FileLaws.{one-vote-more}
 use Rattle.generator.proofs.Votes.{put_no-votes, put-votes-to}
 use Rattle.generator.proofs.file.put_votes.Statement.{statement}
 use Rattle.generator.proofs.file.put_votes.Tie as tie

@@ -1,5 +1,5 @@
 use mathlib.Core.Path.{refl}
-use Rattle.generator.specs.OutputLaws.{all_fit}
+use Rattle.generator.proofs.OutputLaws.{all_fit}
 use Rattle.generator.proofs.output.longest_output.Statement.{statement}
 use Rattle.generator.proofs.output.longest_output.Tie as tie
 

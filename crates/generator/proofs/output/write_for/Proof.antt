@@ -2,7 +2,7 @@
 use mathlib.Core.Path.{sym}
 use lib.Seq.{length-take-le}
 use Rattle.text.specs.WritingLaws.{same-fitted}
-use Rattle.generator.specs.OutputLaws.{refused-output, short-output, whole-output}
+use Rattle.generator.proofs.OutputLaws.{refused-output, short-output, whole-output}
 use borrow.Author.Rules.{rules}
 use Rattle.generator.proofs.output.write_for.Statement.{statement}
 use Rattle.generator.proofs.output.write_for.Tie as tie
