@@ -6,14 +6,13 @@ use mathlib.Core.List.{List, [], ◌∷◌}
 use mathlib.Core.Logic.{inl, inr}
 use native.Mathlib.Omega.{arith}
 use Rattle.ground.specs.Tests.{split}
-use Rattle.model.specs.Questions.{Reply, accepted, number, is_accepted, unless, first_no}
+use Rattle.model.specs.Questions.{number, is_accepted, unless, first_no}
 use Rattle.model.specs.QuestionLaws.{is-accepted}
 use Rattle.model.specs.declared.Act.{Act}
 use Rattle.model.specs.declared.Act.TheVariants.{Play, Back}
 use Rattle.model.specs.declared.Event.{Event}
 use Rattle.protocol.specs.declared.Bench.{Bench}
 use Rattle.protocol.specs.Questions.{reply}
-use Rattle.protocol.specs.Steps.{step}
 use Rattle.bench_state.proofs.Replies.{zero-accepted}
 use Rattle.bench_step.specs.declared.Stepped.{Stepped}
 use Rattle.bench_step.specs.Steps.{stepped}

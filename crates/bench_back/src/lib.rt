@@ -1,6 +1,7 @@
 // One act on a bench by value that remembers (document 02, U11): an event, or a step back. Who calls it keeps the benches before the remembered events, hands
 // in the newest of them, and is told what becomes of them.
 #![tactic(auto)]
+
 ghost use Rattle.std.specs.Prelude.{◌≡◌, List};
 ghost use Rattle.model.specs.declared.Act.TheVariants.{Play, Back};
 ghost use Rattle.steps_back.specs.Memory.{can_be_undone};

@@ -1,6 +1,7 @@
 // Where the benches before the remembered events lie. Who plays acts by `bench_back::act` lays the bench before each act at the place `at` of a ring; what is
 // remembered are the `count` places before it.
 #![tactic(auto)]
+
 ghost use Rattle.std.specs.Prelude.{◌<◌, ◌+◌, ◌-◌, min, ◌≡◌};
 ghost use Rattle.steps_back.specs.Memory.{most_remembered};
 ghost use Rattle.bench_ring.specs.Rings.{places, place_before, place_after, ring_after};

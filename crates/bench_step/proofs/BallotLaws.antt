@@ -1,7 +1,7 @@
 -- An event of ballots, asked and played on what the code reads: its station, its acceptor and its row.
 use Prim.Native.Nat.{ℕ, ◌≤◌, ◌%◌}
 use mathlib.Core.Path.{◌≡◌, refl, sym, ap, ◌∙◌}
-use mathlib.Core.Bool.{Bool, true, false, not, ◌&&◌}
+use mathlib.Core.Bool.{true, not, ◌&&◌}
 use mathlib.Core.List.{[]}
 use mathlib.Core.Logic.{inl, inr}
 use native.Mathlib.Omega.{arith}
@@ -17,14 +17,13 @@ use Rattle.model.specs.declared.Outcome.{Outcome}
 use Rattle.model.specs.declared.BallotEvent.{BallotEvent}
 use Rattle.model.specs.declared.BallotEvent.TheVariants.{Open, Carry}
 use Rattle.model.specs.declared.Event.TheVariants.{OfBallots}
-use Rattle.protocol.specs.declared.Acceptor.{Acceptor}
 use Rattle.protocol.specs.declared.BallotAnswer.{BallotAnswer}
 use Rattle.protocol.specs.declared.BallotRow.{BallotRow}
 use Rattle.protocol.specs.declared.Ballots.{Ballots}
 use Rattle.protocol.specs.declared.Bench.{Bench}
 use Rattle.protocol.specs.declared.Condition.{Condition}
-use Rattle.protocol.specs.Ballots.{ballot_limit, is_ballot, new_acceptor, new_row, acceptor, row}
-use Rattle.protocol.specs.BallotSteps.{ballot_subject, row_after, answered, ballots_after}
+use Rattle.protocol.specs.Ballots.{ballot_limit, is_ballot, new_row, acceptor, row}
+use Rattle.protocol.specs.BallotSteps.{ballot_subject, row_after, answered}
 use Rattle.protocol.specs.Benches.{station, controller, sent_by}
 use Rattle.protocol.specs.Questions.{Facts, number, first_no, may_open, may_give, agrees_at, questions, questions_of, facts_of, reply}
 use Rattle.protocol.specs.Steps.{perform}
@@ -84,7 +83,7 @@ module _ (b : Bench) (e : BallotEvent) (l : length b.ballots.rows ≡ ballot_lim
           ≡ first_no (ballot_asked b.shared (station b i).controller.condition (station b i).controller.proposal (acceptor s i) (row s k) e)
       same_row = elim (split (is_ballot k)) [
         | inl y ↦ ap (λ (r : BallotRow). first_no (ballot_asked b.shared (station b i).controller.condition (station b i).controller.proposal (acceptor s i) r e)) (read-row s k l y)
-        | inr n ↦ row_alike _ _ _ _ _ _ e n
+        | inr n ↦ row_alike b.shared (station b i).controller.condition (station b i).controller.proposal (acceptor s i) (row_read s k) (row s k) e n
       ]
 
   module _ (z : number (reply b (OfBallots e)) ≡ 0) where

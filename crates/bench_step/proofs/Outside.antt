@@ -15,7 +15,6 @@ use Rattle.ground.specs.Tests.{split, refuted}
 use Rattle.ground.specs.Lists.{nth, put, nth_past}
 use Rattle.votes.specs.VoteSets.{empty}
 use Rattle.votes.specs.declared.VoteSet.{VoteSet}
-use Rattle.model.specs.RangeLaws.{member}
 use Rattle.model.specs.declared.Event.{Event}
 use Rattle.model.specs.declared.Event.TheVariants.{Lock, Order, Cast, Deliver, Timeout, Decide, Stop, Save, Restore, OfBallots}
 use Rattle.protocol.specs.declared.Identity.{Identity}

@@ -72,6 +72,6 @@ module _ (b : Bench) (e : Event) (l : length b.stations ≡ limit) (q : ℕ) (as
   one-finished o t is = elim (split (eqb q 0)) [
     | inl y ↦
         let z : q ≡ 0 = eqb-true q 0 y in
-        rw y (accepts b e q replied z _ (rw (is (all_yes _ (reply-accepted _ q (all-numbered _ e) asked z))) (put-read b e l o (one-first o z))))
+        rw y (accepts b e q replied z _ (rw (is (all_yes (questions_of (facts_read b e) e) (reply-accepted (questions_of (facts_read b e) e) q (all-numbered (facts_read b e) e) asked z))) (put-read b e l o (one-first o z))))
     | inr y ↦ rw y (refuses b e q replied (eqb-false q 0 y))
   ]

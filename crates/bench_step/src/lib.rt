@@ -1,6 +1,7 @@
 // The bench by value: one call takes a bench and an event, and returns the answer and the bench. Each kind of event has a function of its own, which asks
 // the event's questions; that of an event of one controller puts back what its turn, or its answer to a call, leaves, if the event is accepted.
 #![tactic(auto)]
+
 mod ballots;
 mod calls;
 mod lifecycle;

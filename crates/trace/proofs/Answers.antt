@@ -25,9 +25,9 @@ use Rattle.bench_state.specs.BallotQuestions.{ballot_number}
 use Rattle.bench_report.specs.declared.Summary.{Summary}
 use Rattle.bench_report.specs.Lines.{answer_line, answer_lines}
 use Rattle.bench_summary.specs.Summary.{summary_of}
-use Rattle.steps_back.specs.Memory.{Remembering, new_remembering, answer, next}
+use Rattle.steps_back.specs.Memory.{new_remembering, answer}
 use Rattle.steps_back.specs.Trials.{answers_to}
-use Rattle.trace.specs.Lines.{Line, Answered, Undone, Shows, Sent, Puts, Given, when, each}
+use Rattle.trace.specs.Lines.{Line, Undone, when, each}
 use Rattle.trace.specs.Shown.{changed_rows, changed, sent_to, sent_of, sent, sent_from, sent_in, in_ballot, ballot_at, ballot_sent, ballots, word_put, put, given, told, came_of, shown}
 use Rattle.trace.specs.Traces.{Session, new_session, next_session, shown_of, trace_from}
 use Rattle.trace.specs.Claim.{answer_of, answers_in}

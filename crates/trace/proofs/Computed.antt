@@ -1,6 +1,5 @@
 -- The traces worked by hand: each definition that a run and its text go through is opened, and both sides compute to the same.
 use mathlib.Core.Path.{refl}
-use Rattle.ground.specs.Lists.{nth}
 use Rattle.text.specs.Text.{digits, decimal, signed}
 use Rattle.words.specs.Words.{belongs, run, pieces, words_of}
 use Rattle.question_words.specs.Questions.{question_words}

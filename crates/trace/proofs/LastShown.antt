@@ -29,10 +29,9 @@ use Rattle.protocol.specs.Benches.{bench_of}
 use Rattle.protocol.specs.declared.BallotRow.{BallotRow}
 use Rattle.bench_report.specs.declared.Row.{Row}
 use Rattle.bench_state.specs.BallotQuestions.{ballot_number}
-use Rattle.bench_report.specs.declared.Summary.{Summary}
 use Rattle.bench_summary.specs.Summary.{summary_of}
 use Rattle.steps_back.specs.Memory.{Remembering, new_remembering, answer, next, done, run_acts}
-use Rattle.trace.specs.Lines.{Line, Answered, Undone, Shows, Sent, Puts, Given, when, each}
+use Rattle.trace.specs.Lines.{Line, Shows, when, each}
 use Rattle.trace.specs.Shown.{same_row, unchanged, row_of, changed_rows, changed, sent_to, sent_of, sent, sent_from, sent_in, in_ballot, ballot_at, ballot_sent, ballots, word_put, put, given, told, came_of, shown}
 use Rattle.trace.specs.Traces.{Session, new_session, next_session, shown_of, trace_from}
 use Rattle.trace.specs.Claim.{Last, none, last, last_after, last_from}

@@ -1,12 +1,9 @@
 -- THE CONSOLE SHOWS WHAT THE BENCH PROGRAM PRINTS of the same list of acts, whatever they are. `as_printed` in src/lib.rt has it as its contract; the proof is in proofs/.
 -- That program prints `report_of answers (summary_of bench)`: `output_of` in crates/bench_output/specs/Output.antt.
-use Rattle.std.specs.Prelude.{ℕ, suc, ◌≤◌, ◌≡◌, cond, List, [], ◌∷◌, ◌++◌, eqb}
+use Rattle.std.specs.Prelude.{ℕ, ◌≤◌, ◌≡◌, cond, List, [], ◌∷◌, ◌++◌, eqb}
 use Rattle.text.specs.Text.{decimal, line}
-use Rattle.model.specs.Questions.{number}
-use Rattle.model.specs.declared.Event.{Event}
 use Rattle.model.specs.declared.Act.{Act}
 use Rattle.bench_report.specs.declared.Row.{Row}
-use Rattle.bench_report.specs.declared.Summary.{Summary}
 use Rattle.bench_report.specs.Lines.{answer_lines}
 use Rattle.bench_summary.specs.Summary.{summary_of}
 use Rattle.steps_back.specs.Memory.{new_remembering}

@@ -1,12 +1,11 @@
 -- Traces worked by hand from the documents, line by line, without the lines that are typed. `examples_hold` in src/lib.rt has them as its contract; they are computed in
 -- proofs/Computed.antt.
-use Rattle.std.specs.Prelude.{ℕ, ◌-◌, ◌^◌, ◌≡◌, true, false, List, [], ◌∷◌, ◌++◌, map}
+use Rattle.std.specs.Prelude.{◌≡◌, true, false, List, [], ◌∷◌, ◌++◌, map}
 use Prim.Native.String.{String}
-use Rattle.model.specs.declared.Kind.TheVariants.{Vote, Ack, Help, Helped}
-use Rattle.model.specs.declared.BallotKind.TheVariants.{Prepare, Promise, Accept, Accepted}
+use Rattle.model.specs.declared.Kind.TheVariants.{Vote, Help, Helped}
+use Rattle.model.specs.declared.BallotKind.TheVariants.{Prepare, Promise, Accept}
 use Rattle.model.specs.declared.BallotEvent.TheVariants.{Open, Carry}
-use Rattle.model.specs.declared.Event.{Event}
-use Rattle.model.specs.declared.Event.TheVariants.{Lock, Order, Cast, Deliver, Timeout, Decide, Stop, Save, Restore, OfBallots}
+use Rattle.model.specs.declared.Event.TheVariants.{Lock, Order, Cast, Deliver, Timeout, Decide, OfBallots}
 use Rattle.model.specs.declared.Act.{Act}
 use Rattle.model.specs.declared.Act.TheVariants.{Play, Back}
 use Rattle.protocol.specs.Trials.{listing}

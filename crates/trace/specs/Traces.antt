@@ -1,9 +1,8 @@
 -- The trace of a list of acts: what the console shows of them, one after the other.
-use Rattle.std.specs.Prelude.{ℕ, suc, Bool, cond, List, [], ◌∷◌, ◌++◌, take, drop, get_or}
+use Rattle.std.specs.Prelude.{ℕ, suc, cond, List, [], ◌∷◌, ◌++◌, take, drop, get_or}
 use Rattle.model.specs.Questions.{number, is_accepted}
 use Rattle.model.specs.declared.Act.{Act}
 use Rattle.model.specs.declared.Act.TheVariants.{Play, Back}
-use Rattle.protocol.specs.declared.Bench.{Bench}
 use Rattle.steps_back.specs.Memory.{Remembering, new_remembering, most_remembered, can_be_undone, answer, next}
 use Rattle.trace.specs.Lines.{Line}
 use Rattle.trace.specs.Shown.{shown}

@@ -1,5 +1,6 @@
 // What the console shows of a list of acts: the definitions, that it is what the bench program prints, and rows worked by hand stand in specs/.
 #![tactic(auto)]
+
 ghost use Rattle.trace.specs.Claim.{AsPrinted};
 ghost use Rattle.trace.specs.Examples.{ExamplesHold};
 

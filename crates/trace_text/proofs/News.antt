@@ -15,8 +15,7 @@ use Rattle.protocol.specs.declared.BallotRow.{BallotRow}
 use Rattle.protocol.specs.Ballots.{new_row}
 use Rattle.protocol.specs.BallotSteps.{was_sent_in}
 use Rattle.bench_state.specs.BallotQuestions.{ballot_number}
-use Rattle.trace.specs.Lines.{Line}
-use Rattle.trace.specs.Shown.{is_new, new_in, in_ballot, ballot_at, ballot_sent}
+use Rattle.trace.specs.Shown.{is_new, new_in, in_ballot, ballot_sent}
 
 module _ (kind : BallotKind) (n b i j : ℕ) (old new : BallotRow) where
   abbrev was : Bool

@@ -1,5 +1,6 @@
 // What the console shows of one act, as text in a lent buffer.
 #![tactic(auto)]
+
 mod ballots;
 mod changes;
 mod lines;
