@@ -88,9 +88,9 @@ received_fits me own m c a t x y = by_cond BallotFits (takes_part me own c && ba
     (λ e. arrived_fits m.ballot (small m.ballot (search (and_l, and_r))) m.kind me.n m.from m.last m.word c.proposal a t (search (and_l, and_r)) x y)
     (λ e. unanswered_fits a t x y)
 
-pub may_open_byte : (me : Identity) (b : ℕ) (a : Acceptor) (t : Tally) → may_open_alone me b a t ≡ true → b < 256
+pub may_open_lem : (me : Identity) (b : ℕ) (a : Acceptor) (t : Tally) → may_open_alone me b a t ≡ true → b < 256
 unfolding may_open_alone
-may_open_byte me b a t e = small b (search (and_l, and_r))
+may_open_lem me b a t e = small b (search (and_l, and_r))
 
 pub opened_fits : (me : Identity) (own : Bool) (b : ℕ) (c : Controller) (a : Acceptor) (t : Tally) → b < 256 → AcceptorFits a → t.top < 256 → BallotFits (open_call me own b c a t)
 unfolding open_call open_ballot giving reporting promising

@@ -36,7 +36,7 @@ use Rattle.cabinet.specs.Acts.{Act, Ordering, Voting, Receiving, TimingOut, Deci
 use Rattle.cabinet_alone.specs.Acts.{after, after_all}
 use Rattle.cabinet_alone.specs.Runs.{Run, words_after_all, lent, cabinet, start, made}
 use Rattle.cabinet_alone.proofs.Fits.{Fits, fits-renewed, fits-stopped, fits-restored, fits-decided, fits-voted, fits-received, fits_timed-out}
-use Rattle.cabinet_alone.proofs.BallotsFit.{AcceptorFits, received_fits, may_open_byte, opened_fits, tally_fits, report_fits}
+use Rattle.cabinet_alone.proofs.BallotsFit.{AcceptorFits, received_fits, may_open_lem, opened_fits, tally_fits, report_fits}
 
 -- a cabinet in bytes, by its parts
 fits : (s : Cabinet) → InBytes s → Fits s.controller
@@ -126,7 +126,7 @@ opened-bytes : (b : ℕ) (s : Cabinet) → InBytes s → may_open b s ≡ true �
 unfolding opened opened_by may_open
 opened-bytes b s x e =
     let t = tally_for b s.ballots in
-    let h = may_open_byte s.me b s.ballots.acceptor t e in
+    let h = may_open_lem s.me b s.ballots.acceptor t e in
     let y = opened_fits s.me s.own b s.controller s.ballots.acceptor t h (acceptor_fits s x) (tally_fits b s.ballots x.top) in
     with-ballots s _ x y.acceptor (report_fits s.ballots.report _ x.reported y) h y.top
 
