@@ -1,7 +1,6 @@
 -- A call on words: refused for its state; or what its questions and its turn say of the cabinet in them.
 use Prim.Native.Nat.{ℕ}
-use mathlib.Core.Path.{◌≡◌, refl, sym, ap, ◌∙◌}
-use mathlib.Core.Bool.{true, false, cond}
+use mathlib.Core.Path.{◌≡◌, sym, ap, ◌∙◌}
 use mathlib.Core.List.{List}
 use mathlib.Core.Logic.{inl, inr}
 use native.Mathlib.Omega.{arith}
@@ -10,7 +9,7 @@ use lib.ListN.{length}
 use borrow.Author.Tests.{eq-eqb, ne_eqb, eqb-true}
 use Rattle.ground.specs.Tests.{split}
 use Rattle.cabinet_state.specs.declared.Cabinet.{Cabinet}
-use Rattle.cabinet_state.specs.Words.{state_words, cabinet_of, words_of}
+use Rattle.cabinet_state.specs.Words.{state_words, cabinet_of}
 use Rattle.cabinet_state.specs.States.{state_refusal, leave_number, leave_words}
 use Rattle.cabinet.specs.Calls.{call_number, call_words, call_buffer}
 

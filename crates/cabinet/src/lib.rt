@@ -1,6 +1,7 @@
 // The controller in other people's programs: calls for C on words that the caller lends (`include/cabinet.h`). Each
 // answers 0 or the number of a question; what is refused changes nothing.
 #![tactic(auto)]
+
 mod calls;
 mod lent;
 

@@ -1,7 +1,7 @@
 -- The same of what a cabinet keeps of ballots: every ballot that it takes up was asked whether it is one, 1 to 255.
-use Prim.Native.Nat.{ℕ, ◌<◌, ◌≤◌}
-use mathlib.Core.Path.{◌≡◌, refl}
-use mathlib.Core.Bool.{Bool, true, false, cond, not, ◌&&◌}
+use Prim.Native.Nat.{ℕ, ◌<◌}
+use mathlib.Core.Path.{◌≡◌}
+use mathlib.Core.Bool.{Bool, true, not, ◌&&◌}
 use mathlib.Core.Logic.{inl, inr}
 use native.Mathlib.Omega.{arith}
 use lib.Dec.{eqb, leb, ltb}
@@ -20,7 +20,7 @@ use Rattle.protocol.specs.declared.Acceptor.{Acceptor}
 use Rattle.protocol.specs.declared.Tally.{Tally}
 use Rattle.protocol.specs.declared.Report.{Report}
 use Rattle.protocol.specs.declared.BallotAnswer.{BallotAnswer}
-use Rattle.protocol.specs.Ballots.{majority, new_tally}
+use Rattle.protocol.specs.Ballots.{majority}
 use Rattle.protocol.specs.BallotRules.{unanswered, answers_prepare, promising, reporting, give_promise, prepare_arrives, answers_accept, accepting, accept, accept_arrives, counts, counting, with_word, putting, put_word, put_if_majority, promise_arrives, giving, open_ballot}
 use Rattle.protocol.specs.BallotCalls.{takes_part, may_open_alone, open_call, ballot_comes, ballot_arrives, receive_ballot}
 use Rattle.cabinet_state.specs.declared.BallotState.{BallotState}
@@ -88,9 +88,9 @@ received_fits me own m c a t x y = by_cond BallotFits (takes_part me own c && ba
     (λ e. arrived_fits m.ballot (small m.ballot (search (and_l, and_r))) m.kind me.n m.from m.last m.word c.proposal a t (search (and_l, and_r)) x y)
     (λ e. unanswered_fits a t x y)
 
-pub may_open : (me : Identity) (b : ℕ) (a : Acceptor) (t : Tally) → may_open_alone me b a t ≡ true → b < 256
+pub may_open_lem : (me : Identity) (b : ℕ) (a : Acceptor) (t : Tally) → may_open_alone me b a t ≡ true → b < 256
 unfolding may_open_alone
-may_open me b a t e = small b (search (and_l, and_r))
+may_open_lem me b a t e = small b (search (and_l, and_r))
 
 pub opened_fits : (me : Identity) (own : Bool) (b : ℕ) (c : Controller) (a : Acceptor) (t : Tally) → b < 256 → AcceptorFits a → t.top < 256 → BallotFits (open_call me own b c a t)
 unfolding open_call open_ballot giving reporting promising

@@ -1,12 +1,10 @@
 -- Call by call: a cabinet goes on as its controller alone does.
-use Prim.Native.Nat.{ℕ}
 use mathlib.Core.Path.{◌≡◌, refl, sym, ap, ◌∙◌}
 use mathlib.Core.Bool.{Bool, true, false, cond}
 use mathlib.Core.List.{List, [], ◌∷◌, ◌++◌}
 use lib.Dec.{eqb}
 use Rattle.ground.specs.Tests.{by_cond}
 use Rattle.model.specs.declared.Checkpoint.{Checkpoint}
-use Rattle.model.specs.declared.Telegram.{Telegram}
 use Rattle.model.specs.declared.Telegram.TheVariants.{Plain, OfBallot}
 use Rattle.records.specs.Codes.{flag_of}
 use Rattle.records.specs.Codec.{reads}

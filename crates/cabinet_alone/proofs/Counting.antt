@@ -1,20 +1,16 @@
 -- Who is counted as one that has taken the word of a cabinet's own ballot, call by call.
-use Prim.Native.Nat.{ℕ, ◌*◌, ◌<◌, ◌≤◌}
+use Prim.Native.Nat.{ℕ, ◌≤◌}
 use mathlib.Core.Path.{◌≡◌, refl, sym, ap, subst, ◌∙◌}
-use mathlib.Core.Bool.{Bool, true, false, cond, not, ◌&&◌, ◌||◌, true≢false, false≢true}
+use mathlib.Core.Bool.{Bool, true, false, not, ◌&&◌, false≢true}
 use mathlib.Core.Logic.{◌⊎◌, inl, inr}
 use mathlib.Core.List.{List}
 use native.Mathlib.Omega.{arith}
-use lib.Dec.{eqb, leb, ltb}
-use borrow.Author.Tests.{eqb-true, eq-eqb, ltb-true, lt-ltb}
-use Rattle.ground.specs.Mask.{has, insert}
-use Rattle.ground.proofs.MaskLaws.{none_has, has-none, insert_only}
-use Rattle.ground.specs.Quantify.{count_to}
-use Rattle.ground.proofs.Sizes.{count_mono}
-use Rattle.ground.specs.Tests.{by_cond, split, and_l, and_r, no_both, or-e}
-use Rattle.model.specs.Numbers.{word_of, is_none, outcome_number}
-use Rattle.model.specs.QuestionLaws.{all_yes, reply-accepted}
-use Rattle.model.specs.Ranges.{different_controllers}
+use lib.Dec.{eqb}
+use borrow.Author.Tests.{eqb-true, eq-eqb}
+use Rattle.ground.specs.Mask.{has}
+use Rattle.ground.proofs.MaskLaws.{none_has, insert_only}
+use Rattle.ground.specs.Tests.{by_cond, split, and_l, and_r, no_both}
+use Rattle.model.specs.Numbers.{is_none}
 use Rattle.model.specs.declared.Outcome.{Outcome}
 use Rattle.model.specs.declared.Outcome.TheVariants.{None, Stay, Move}
 use Rattle.model.specs.declared.BallotKind.{BallotKind}
@@ -22,7 +18,6 @@ use Rattle.model.specs.declared.BallotKind.TheVariants.{Prepare, Promise, Accept
 use Rattle.model.specs.declared.BallotMessage.{BallotMessage}
 use Rattle.model.specs.declared.Telegram.TheVariants.{Plain, OfBallot}
 use Rattle.records.specs.Codec.{reads}
-use Rattle.records.specs.Codes.{flag_of, flag_number}
 use Rattle.checkpoint_record.specs.Checkpoints.{checkpoints}
 use Rattle.checkpoint_record.specs.declared.ReadCheckpoint.{ReadCheckpoint}
 use Rattle.checkpoint_record.specs.declared.ReadCheckpoint.TheVariants.{Read as ReadCard, Refused as RefusedCard}
@@ -30,19 +25,16 @@ use Rattle.message_record.specs.BallotMessages.{tells_word, tells_for_kind, ball
 use Rattle.message_record.specs.Telegrams.{telegrams}
 use Rattle.message_record.specs.declared.ReadTelegram.{ReadTelegram}
 use Rattle.message_record.specs.declared.ReadTelegram.TheVariants.{Read, Refused}
-use Rattle.protocol.specs.declared.Bench.{Bench}
 use Rattle.protocol.specs.declared.Identity.{Identity}
 use Rattle.protocol.specs.declared.Controller.{Controller}
 use Rattle.protocol.specs.declared.Acceptor.{Acceptor}
 use Rattle.protocol.specs.declared.Tally.{Tally}
 use Rattle.protocol.specs.declared.BallotAnswer.{BallotAnswer}
-use Rattle.protocol.specs.Ballots.{owner, majority, new_tally, row}
-use Rattle.protocol.specs.BallotClaim.{Chosen}
+use Rattle.protocol.specs.Ballots.{owner, majority}
 use Rattle.protocol.specs.BallotRules.{unanswered, answers_prepare, give_promise, prepare_arrives, answers_accept, accepting, accept, accept_arrives, counts, counting, word_for, with_word, putting, put_word, put_if_majority, promise_arrives, promising, giving, open_ballot}
 use Rattle.protocol.specs.BallotCalls.{takes_part, may_open_alone, open_call, ballot_addressed, ballot_comes, is_of_owner, ballot_arrives, receive_ballot, is_owner}
 use Rattle.cabinet_state.specs.declared.BallotState.{BallotState}
 use Rattle.cabinet_state.specs.declared.Cabinet.{Cabinet}
-use Rattle.cabinet_turns.specs.Asked.{order_asked}
 use Rattle.cabinet_turns.specs.Turns.{answered, no_ballots, ordered, voted, timed_out, decided, halted, woken_by, woken}
 use Rattle.cabinet_turns.specs.Ballots.{tally_for, with_ballots, by_itself, opened_by, opened, says_accepted, same_word, accepts, by_after, tally_after, answered_in, received_ballot, received_telegram, received}
 use Rattle.cabinet.specs.Acts.{Act, Ordering, Voting, Receiving, TimingOut, Deciding, Stopping, Waking, Opening, number_of, next_of}

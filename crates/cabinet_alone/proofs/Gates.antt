@@ -4,9 +4,7 @@ use mathlib.Core.Path.{◌≡◌, refl, sym, ap, ◌∙◌}
 use mathlib.Core.Bool.{Bool, true, false, cond, not, ◌&&◌, ◌||◌}
 use mathlib.Core.List.{List, [], ◌∷◌}
 use lib.Dec.{eqb, leb, ltb}
-use Rattle.votes.specs.VoteSets.{single}
 use Rattle.votes.specs.declared.VoteSet.{VoteSet}
-use Rattle.model.specs.Numbers.{word_of}
 use Rattle.model.specs.Ranges.{is_backup}
 use Rattle.model.specs.declared.Kind.{Kind}
 use Rattle.model.specs.declared.Kind.TheVariants.{Vote, Ack, Help, Helped}

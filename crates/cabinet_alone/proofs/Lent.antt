@@ -1,19 +1,16 @@
 -- The words after any calls are those of the cabinet that the accepted calls make: each call leaves a cabinet that reads back, so the next one takes it.
-use Prim.Native.Nat.{ℕ, ◌<◌, ◌≤◌}
-use mathlib.Core.Path.{◌≡◌, refl, sym, ap, subst, ◌∙◌}
-use mathlib.Core.Bool.{Bool, true, false, cond, ◌&&◌}
+use Prim.Native.Nat.{ℕ, ◌<◌}
+use mathlib.Core.Path.{◌≡◌, refl, ap, ◌∙◌}
+use mathlib.Core.Bool.{true, cond}
 use mathlib.Core.List.{List, [], ◌∷◌}
 use mathlib.Core.Logic.{inl, inr}
 use native.Mathlib.Omega.{arith}
 use lib.Dec.{eqb}
-use lib.ListN.{length, replicate}
+use lib.ListN.{length}
 use borrow.Author.Tests.{eqb-true, eq-eqb}
-use Rattle.ground.specs.Limit.{limit}
-use Rattle.ground.specs.Tests.{by_cond, split, and_i}
-use Rattle.model.specs.Questions.{accepted, first_no}
+use Rattle.ground.specs.Tests.{by_cond, split}
 use Rattle.model.specs.QuestionLaws.{all_yes, reply-accepted}
 use Rattle.model.specs.RangeLaws.{ranges, member}
-use Rattle.model.specs.declared.Checkpoint.{Checkpoint}
 use Rattle.model.specs.declared.Telegram.{Telegram}
 use Rattle.model.specs.declared.Telegram.TheVariants.{Plain, OfBallot}
 use Rattle.model.specs.declared.BallotMessage.{BallotMessage}
@@ -24,8 +21,6 @@ use Rattle.checkpoint_record.specs.declared.ReadCheckpoint.TheVariants.{Read as 
 use Rattle.message_record.specs.Telegrams.{telegrams}
 use Rattle.message_record.specs.declared.ReadTelegram.{ReadTelegram}
 use Rattle.message_record.specs.declared.ReadTelegram.TheVariants.{Read, Refused}
-use Rattle.protocol.specs.declared.Controller.{Controller}
-use Rattle.protocol.specs.declared.BallotAnswer.{BallotAnswer}
 use Rattle.protocol.specs.declared.Tally.{Tally}
 use Rattle.protocol.specs.Calls.{stop}
 use Rattle.cabinet_state.specs.declared.BallotState.{BallotState}
@@ -35,13 +30,13 @@ use Rattle.cabinet_state.specs.States.{state_refusal, leave_number, leave_words}
 use Rattle.cabinet_state.specs.Encoding.{InBytes, Encoding}
 use Rattle.cabinet_turns.specs.Asked.{begin_asked, open_asked}
 use Rattle.cabinet_turns.specs.Turns.{answered, no_ballots, begun, ordered, voted, timed_out, decided, halted, woken_by, woken}
-use Rattle.cabinet_turns.specs.Ballots.{tally_for, report_after, with_ballots, may_open, has_put, opening_asked, opened_by, opened, tally_after, answered_in, received_ballot, received_telegram, received}
+use Rattle.cabinet_turns.specs.Ballots.{tally_for, with_ballots, may_open, opening_asked, opened_by, opened, tally_after, answered_in, received_ballot, received_telegram, received}
 use Rattle.cabinet.specs.Calls.{call_number, call_words}
-use Rattle.cabinet.specs.Acts.{Act, Ordering, Voting, Receiving, TimingOut, Deciding, Stopping, Waking, Opening, number_of, next_of, words_after, begin_number, begin_answer, begin_words}
+use Rattle.cabinet.specs.Acts.{Act, Ordering, Voting, Receiving, TimingOut, Deciding, Stopping, Waking, Opening, number_of, next_of, words_after, begin_number}
 use Rattle.cabinet_alone.specs.Acts.{after, after_all}
 use Rattle.cabinet_alone.specs.Runs.{Run, words_after_all, lent, cabinet, start, made}
 use Rattle.cabinet_alone.proofs.Fits.{Fits, fits-renewed, fits-stopped, fits-restored, fits-decided, fits-voted, fits-received, fits_timed-out}
-use Rattle.cabinet_alone.proofs.BallotsFit.{AcceptorFits, BallotFits, received_fits, may_open, opened_fits, tally_fits, report_fits}
+use Rattle.cabinet_alone.proofs.BallotsFit.{AcceptorFits, received_fits, may_open_lem, opened_fits, tally_fits, report_fits}
 
 -- a cabinet in bytes, by its parts
 fits : (s : Cabinet) → InBytes s → Fits s.controller
@@ -131,7 +126,7 @@ opened-bytes : (b : ℕ) (s : Cabinet) → InBytes s → may_open b s ≡ true �
 unfolding opened opened_by may_open
 opened-bytes b s x e =
     let t = tally_for b s.ballots in
-    let h = may_open s.me b s.ballots.acceptor t e in
+    let h = may_open_lem s.me b s.ballots.acceptor t e in
     let y = opened_fits s.me s.own b s.controller s.ballots.acceptor t h (acceptor_fits s x) (tally_fits b s.ballots x.top) in
     with-ballots s _ x y.acceptor (report_fits s.ballots.report _ x.reported y) h y.top
 

@@ -1,10 +1,10 @@
 -- The settled word: from the count, and to the bench.
-use Prim.Native.Nat.{ℕ, ◌*◌, ◌<◌, ◌≤◌}
-use mathlib.Core.Path.{◌≡◌, refl, sym, ap, subst, ◌∙◌}
-use mathlib.Core.Bool.{Bool, true, false, cond, ◌&&◌, ◌||◌}
+use Prim.Native.Nat.{ℕ, ◌*◌}
+use mathlib.Core.Path.{◌≡◌, refl, sym, subst, ◌∙◌}
+use mathlib.Core.Bool.{Bool, true, false, ◌&&◌, ◌||◌}
 use mathlib.Core.Logic.{inl, inr}
 use native.Mathlib.Omega.{arith}
-use lib.Dec.{eqb, ltb}
+use lib.Dec.{eqb}
 use borrow.Author.Tests.{eq-eqb, ltb-true, lt-ltb}
 use Rattle.ground.specs.Mask.{has}
 use Rattle.ground.specs.Quantify.{count_to}
@@ -13,14 +13,13 @@ use Rattle.ground.specs.Tests.{split}
 use Rattle.model.specs.Numbers.{word_of}
 use Rattle.model.specs.QuestionLaws.{all_yes, reply-accepted}
 use Rattle.model.specs.declared.Outcome.{Outcome}
-use Rattle.model.specs.declared.Outcome.TheVariants.{None, Stay, Move}
+use Rattle.model.specs.declared.Outcome.TheVariants.{None}
 use Rattle.records.specs.Codes.{flag_of, flag_number}
 use Rattle.protocol.specs.declared.Bench.{Bench}
 use Rattle.protocol.specs.declared.Condition.{Condition}
 use Rattle.protocol.specs.declared.Condition.TheVariants.{Running, Stopped, Standby}
-use Rattle.protocol.specs.declared.Controller.{Controller}
 use Rattle.protocol.specs.Controllers.{is_running, is_standby, is_present, phase_in, outcome, outcome_in, or_else, noting, conclude}
-use Rattle.protocol.specs.Rules.{becomes, passing_over}
+use Rattle.protocol.specs.Rules.{becomes}
 use Rattle.protocol.specs.Calls.{awaits_decision, decide}
 use Rattle.protocol.specs.Ballots.{majority, row}
 use Rattle.protocol.specs.BallotClaim.{Chosen}
@@ -28,7 +27,7 @@ use Rattle.cabinet_state.specs.declared.Cabinet.{Cabinet}
 use Rattle.cabinet_turns.specs.Asked.{decide_asked}
 use Rattle.cabinet_turns.specs.Turns.{answered, decided}
 use Rattle.cabinet_turns.specs.Ballots.{settled}
-use Rattle.cabinet.specs.Acts.{Deciding, number_of, next_of}
+use Rattle.cabinet.specs.Acts.{Deciding, number_of}
 use Rattle.cabinet_alone.specs.Acts.{after}
 use Rattle.cabinet_alone.specs.SettledWord.{is_counted, SettledWord}
 use Rattle.cabinet_alone.proofs.Counting.{counted, word-stays}

@@ -1,7 +1,7 @@
 -- What holds of a controller alone, of every run of the library.
 use Prim.Native.Nat.{ℕ, ◌≤◌}
 use mathlib.Core.Path.{◌≡◌, refl, sym, ap, subst, ◌∙◌}
-use mathlib.Core.Bool.{Bool, true, false, cond, not, ◌&&◌, false≢true}
+use mathlib.Core.Bool.{Bool, true, false, cond, not, false≢true}
 use mathlib.Core.List.{List, [], ◌∷◌, ◌++◌}
 use lib.Dec.{eqb, leb}
 use borrow.Author.Tests.{eq-eqb}
@@ -9,7 +9,6 @@ use Rattle.ground.specs.Quantify.{count_to}
 use Rattle.ground.specs.Tests.{and_i, and_l, and_r, by_cond}
 use Rattle.votes.specs.VoteSets.{knows, wills, single, union}
 use Rattle.votes.specs.declared.Joined.TheVariants.{Agreed}
-use Rattle.model.specs.Questions.{number, first_no}
 use Rattle.model.specs.QuestionLaws.{all_yes, reply-accepted}
 use Rattle.model.specs.declared.Message.{Message}
 use Rattle.model.specs.declared.Telegram.TheVariants.{Plain, OfBallot}
@@ -21,7 +20,7 @@ use Rattle.message_record.specs.declared.ReadTelegram.TheVariants.{Read, Refused
 use Rattle.protocol.specs.declared.Identity.{Identity}
 use Rattle.protocol.specs.declared.Controller.{Controller}
 use Rattle.protocol.specs.Controllers.{runs, phase, has_ack, has_helped}
-use Rattle.protocol.specs.Rules.{is_taken, passing_over, vote_rule, ack_join, help_votes}
+use Rattle.protocol.specs.Rules.{is_taken, vote_rule, ack_join, help_votes}
 use Rattle.protocol.specs.NoContradiction.{Agreeing, acks_union, JoinIsUnion}
 use Rattle.protocol.specs.Calls.{valid_identity, vote, receive}
 use Rattle.protocol.specs.Alone.{Call, voting, in_order, alone, cabinet as cabinet_alone, vote_after, receive_after, clears, none_clears, ControllerAlone}
@@ -30,7 +29,7 @@ use Rattle.cabinet_state.specs.States.{state_refusal}
 use Rattle.cabinet_state.specs.Encoding.{Encoding}
 use Rattle.cabinet_turns.specs.Asked.{begin_asked, vote_asked}
 use Rattle.cabinet.specs.Calls.{call_number}
-use Rattle.cabinet.specs.Acts.{Act, Ordering, Voting, Receiving, TimingOut, Deciding, Stopping, Waking, Opening, number_of, next_of, answer_to, begin_number}
+use Rattle.cabinet.specs.Acts.{Act, Ordering, Voting, Receiving, TimingOut, Deciding, Stopping, Waking, Opening, number_of, answer_to}
 use Rattle.cabinet_alone.specs.Acts.{after, after_all, read_calls, calls_of, all_calls}
 use Rattle.cabinet_alone.specs.Runs.{Run, lent, cabinet, inside, further, start, made, who, calls, aside, ends, none_ends}
 use Rattle.cabinet_alone.specs.CabinetAlone.{bare, CabinetAlone}

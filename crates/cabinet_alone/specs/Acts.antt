@@ -1,5 +1,5 @@
 -- Lists of calls on a cabinet, and the calls on a controller alone (`protocol`, Alone) that they come to.
-use Rattle.std.specs.Prelude.{ℕ, cond, List, [], ◌∷◌, ◌++◌, eqb}
+use Rattle.std.specs.Prelude.{cond, List, [], ◌∷◌, ◌++◌, eqb}
 use Rattle.model.specs.declared.Telegram.{Telegram}
 use Rattle.model.specs.declared.Telegram.TheVariants.{Plain, OfBallot}
 use Rattle.records.specs.Codes.{flag_of}

@@ -1,5 +1,6 @@
 // What holds of a cabinet, whatever C calls.
 #![tactic(auto)]
+
 ghost use Rattle.cabinet_alone.specs.CabinetAlone.{CabinetAlone};
 ghost use Rattle.cabinet_alone.specs.SettledWord.{SettledWord};
 ghost use Rattle.cabinet_alone.specs.Restart.{Restart};

@@ -1,7 +1,7 @@
 -- A list of n elements, filled from its front: the first j of them are those of g.
-use Rattle.std.specs.Prelude.{ℕ, zero, suc, ◌+◌, ◌*◌, ◌%◌, ◌≤◌, ◌<◌, ◌≡◌, refl, Bool, true, false, ◌&&◌, List, length, get_or, set}
-use Rattle.std.proofs.Common.{sym, ap, ◌∙◌, inl, inr, arith, length-set, ext_get_or, get_or-set_same, get_or-set_other}
-use Rattle.ground.specs.Tests.{split, and_l, and_r, and_i, refuted, no_both}
+use Rattle.std.specs.Prelude.{ℕ, zero, suc, ◌+◌, ◌*◌, ◌%◌, ◌≤◌, ◌<◌, ◌≡◌, refl, Bool, true, false, List, length, get_or, set}
+use Rattle.std.proofs.Common.{sym, ap, ◌∙◌, arith, length-set, ext_get_or, get_or-set_same, get_or-set_other}
+use Rattle.ground.specs.Tests.{and_l, and_r, and_i, refuted, no_both}
 use Rattle.std.proofs.Math.Decide.{ℕ_discrete}
 use Rattle.cabinet_state.specs.Tables.{tabulate, all_below}
 use Rattle.cabinet_state.specs.Words.{check_to}

@@ -1,9 +1,8 @@
 -- Which words are a cabinet's state, and what a call leaves of them.
 use Rattle.std.specs.Prelude.{ℕ, Bool, cond, ◌&&◌, List, eqb, length}
-use Rattle.votes.specs.declared.VoteSet.{VoteSet}
 use Rattle.cabinet_state.specs.declared.Cabinet.{Cabinet}
 use Rattle.cabinet_state.specs.Tables.{all_below}
-use Rattle.cabinet_state.specs.Words.{mark_word, state_words, word, with_check, column_in, check_of, column_of, cabinet_of, words_of}
+use Rattle.cabinet_state.specs.Words.{mark_word, state_words, word, with_check, check_of, column_of, cabinet_of, words_of}
 
 -- are these the words that a cabinet is written as, word for word
 unfoldable pub same_words : ℕ → (ℕ → ℕ) → List ℕ → Bool

@@ -1,5 +1,6 @@
 // A controller in a cabinet as words of 32 bits: what is kept, how it is written, and which words are taken.
 #![tactic(auto)]
+
 mod checks;
 mod reading;
 mod writing;

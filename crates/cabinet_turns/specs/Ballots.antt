@@ -5,7 +5,6 @@ use Rattle.model.specs.Numbers.{is_none, outcome_number}
 use Rattle.model.specs.Questions.{Question, ask}
 use Rattle.model.specs.declared.Outcome.{Outcome}
 use Rattle.model.specs.declared.Outcome.TheVariants.{None}
-use Rattle.model.specs.declared.Message.{Message}
 use Rattle.model.specs.declared.BallotKind.{BallotKind}
 use Rattle.model.specs.declared.BallotKind.TheVariants.{Prepare, Promise, Accept, Accepted}
 use Rattle.model.specs.declared.BallotMessage.{BallotMessage}

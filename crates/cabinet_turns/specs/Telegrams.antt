@@ -1,9 +1,8 @@
 -- All telegrams that a cabinet has sent in its order, one after the other, so that they can be sent again: those of kinds 1 to 4 in their sequence; then of ballots its
 -- last promise, its last acceptance, and those of its own ballot that it opened last. Each is byte for byte what was sent.
-use Rattle.std.specs.Prelude.{ℕ, zero, suc, Bool, cond, not, ◌||◌, List, [], ◌∷◌, ◌++◌, map, eqb}
+use Rattle.std.specs.Prelude.{ℕ, zero, suc, cond, not, ◌||◌, List, [], ◌∷◌, ◌++◌, map, eqb}
 use Rattle.model.specs.Numbers.{is_none}
 use Rattle.model.specs.declared.Outcome.TheVariants.{None}
-use Rattle.model.specs.declared.Message.{Message}
 use Rattle.model.specs.declared.BallotKind.TheVariants.{Prepare, Promise, Accept, Accepted}
 use Rattle.model.specs.declared.BallotMessage.{BallotMessage}
 use Rattle.model.specs.declared.Telegram.{Telegram}

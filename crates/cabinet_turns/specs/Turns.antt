@@ -1,5 +1,5 @@
 -- What each accepted call makes of a cabinet: the controller's answer (`protocol`, Calls) is taken over with what it sends.
-use Rattle.std.specs.Prelude.{ℕ, max, Bool, cond, leb, replicate}
+use Rattle.std.specs.Prelude.{ℕ, cond, leb, replicate}
 use Rattle.ground.specs.Limit.{limit}
 use Rattle.votes.specs.VoteSets.{empty}
 use Rattle.model.specs.declared.Outcome.TheVariants.{None}
@@ -8,7 +8,6 @@ use Rattle.records.specs.Codes.{flag_of}
 use Rattle.checkpoint_record.specs.declared.ReadCheckpoint.{ReadCheckpoint}
 use Rattle.checkpoint_record.specs.declared.ReadCheckpoint.TheVariants.{Read, Refused}
 use Rattle.protocol.specs.declared.Answer.{Answer}
-use Rattle.protocol.specs.declared.Identity.{Identity}
 use Rattle.protocol.specs.Alone.{in_order}
 use Rattle.protocol.specs.Controllers.{in_phase, blank}
 use Rattle.protocol.specs.Ballots.{new_acceptor, new_tally}

@@ -1,6 +1,7 @@
 // What each call makes of a cabinet: what is asked of it, the next cabinet, the telegrams that it has sent, and what
 // a display shows.
 #![tactic(auto)]
+
 mod asked;
 mod ballots;
 mod display;

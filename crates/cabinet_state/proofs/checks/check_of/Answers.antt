@@ -1,0 +1,20 @@
+-- After k turns the check is that of the first k words (`check_to`), so at the end that of all before the check word.
+use Prim.Native.Nat.{ℕ}
+use mathlib.Core.Path.{◌≡◌, refl, ap, ◌∙◌}
+use native.Mathlib.Omega.{arith}
+use Rattle.cabinet_state.specs.Words.{check_place, check_to, column_in}
+use Rattle.cabinet_state.specs.FillLaws.{check-next}
+use Rattle.cabinet_state.proofs.checks.check_of.Goals as goal
+
+pub loop-k-init : goal.loop-k-init
+unfolding check_to
+loop-k-init c = (omega arith, refl)
+
+pub loop-k-preserved : goal.loop-k-preserved
+loop-k-preserved c = (omega arith, c.mixed-acc.ensures ∙ check-next _ _ _ _ c.loop-k.invariant.1 c.column.ensures)
+
+pub returns : goal.returns
+returns c =
+    let e : c.loop-k.k ≡ check_place = omega (arith, c.loop-k-test.false, c.loop-k.invariant.0) in
+    let x = c.args in
+    c.loop-k.invariant.1 ∙ ap (λ (m : ℕ). check_to m (column_in x.head x.ballots x.sets)) e

@@ -1,0 +1,13 @@
+use lib.ListN.{length-map}
+use Rattle.protocol.specs.BallotCalls.{ballot_to_others}
+use Rattle.cabinet_turns.specs.Telegrams.{asks_sent}
+use borrow.Author.Tests.{eq-eqb, ne_eqb}
+use Rattle.cabinet_turns.proofs.telegrams.count_asks.Goals as goal
+
+pub returns-then-x-eq0 : goal.returns-then-x-eq0
+unfolding asks_sent
+returns-then-x-eq0 c = simp (eq-eqb _ _ c.if-x-eq0.true)
+
+pub returns : goal.returns
+unfolding asks_sent ballot_to_others
+returns c = simp (ne_eqb _ _ c.if-x-eq0.false, length-map, c.count_others.ensures)

@@ -1,0 +1,6 @@
+use Rattle.cabinet_turns.specs.Telegrams.{acceptance_sent}
+use Rattle.cabinet_turns.proofs.telegrams.nth_acceptance.Goals as goal
+
+pub returns : goal.returns
+unfolding acceptance_sent
+returns c = simp (← c.no_acceptance_sent.ensures, ← c.acceptance_message.ensures, c.nth_of_one.ensures)
