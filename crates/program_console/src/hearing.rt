@@ -38,14 +38,14 @@ pub struct Found {
 }
 
 // Records, all of them read, become their text at the buffer's front; what is refused is printed.
-fn text_of(input: &mut [u8], have: usize) -> First
+fn text_of(rt: &HostRuntime, input: &mut [u8], have: usize) -> First
     requires { have ≤ length input.old }
     ensures { result.have ≤ length input.new }
 {
     let mut text = [0u8; LONGEST_OUTPUT];
     let n = render_text(&input[..have], &mut text);
     if text[0] == b'-' {
-        write_output(&text[..n]);
+        write_output(rt, &text[..n]);
         return First {
             have: 0,
             over: true,
@@ -65,7 +65,7 @@ fn text_of(input: &mut [u8], have: usize) -> First
 }
 
 // At a terminal nothing is read yet. Of anything else all is, so that its form can be told, and records become text.
-pub fn first_lines(input: &mut [u8], terminal: bool) -> First
+pub fn first_lines(rt: &HostRuntime, input: &mut [u8], terminal: bool) -> First
     ensures { result.have ≤ length input.new }
 {
     if terminal {
@@ -74,7 +74,7 @@ pub fn first_lines(input: &mut [u8], terminal: bool) -> First
             over: false,
         };
     }
-    let got = read_input(&mut *input);
+    let got = read_input(rt, &mut *input);
     if got.failed {
         return First {
             have: 0,
@@ -85,15 +85,15 @@ pub fn first_lines(input: &mut [u8], terminal: bool) -> First
     if is_text(&input[..have]) {
         return First { have, over: false };
     }
-    text_of(&mut *input, have)
+    text_of(rt, &mut *input, have)
 }
 
 // Reads on, once; a failure is told by the streams, and ends all.
-fn read_more(input: &mut [u8], have: usize) -> First
+fn read_more(rt: &HostRuntime, input: &mut [u8], have: usize) -> First
     requires { have ≤ length input.old }
     ensures { result.have ≤ length input.new }
 {
-    let more = read_some(&mut input[have..]);
+    let more = read_some(rt, &mut input[have..]);
     First {
         have: have + more.count,
         over: more.failed,
@@ -111,7 +111,7 @@ fn line_end(s: &[u8], at: usize) -> usize
 }
 
 // Reads on until the line that begins at a place has ended.
-pub fn next_line(input: &mut [u8], at: usize, have: usize) -> Found {
+pub fn next_line(rt: &HostRuntime, input: &mut [u8], at: usize, have: usize) -> Found {
     if input.len() < have {
         return Found {
             end: at,
@@ -131,7 +131,7 @@ pub fn next_line(input: &mut [u8], at: usize, have: usize) -> Found {
                 over: false,
             };
         }
-        let more = read_more(&mut *input, have);
+        let more = read_more(rt, &mut *input, have);
         let now = more.have;
         if now <= have {
             return Found {

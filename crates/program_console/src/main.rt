@@ -1,5 +1,6 @@
 // The console: a bench to sit at. It reads a schedule in text a line at a time, plays each event by the bench's own act, and shows what came of it.
 #![tactic(auto)]
+
 mod hearing;
 mod telling;
 
@@ -43,11 +44,11 @@ fn count_after(k: u32, heard: Heard) -> u32 {
     k
 }
 
-fn main() {
-    let terminal = is_terminal();
-    greet(terminal);
+fn main(rt: HostRuntime) {
+    let terminal = is_terminal(&rt);
+    greet(&rt, terminal);
     let mut input = [0u8; ROOM];
-    let first = first_lines(&mut input, terminal);
+    let first = first_lines(&rt, &mut input, terminal);
     if first.over {
         return;
     }
@@ -64,7 +65,7 @@ fn main() {
     let mut k: u32 = 0;
     // each line is one byte further on, so there are no more lines than bytes
     while at <= have {
-        let found = next_line(&mut input, at, have);
+        let found = next_line(&rt, &mut input, at, have);
         if found.over {
             return;
         }
@@ -72,7 +73,7 @@ fn main() {
         let end = found.end;
         // one more than a text may have
         if ROOM <= have {
-            write_output(b"- 1\n");
+            write_output(&rt, b"- 1\n");
             return;
         }
         if end < at {
@@ -98,6 +99,7 @@ fn main() {
         let done = played(b, ring.count != 0, newest, heard);
         let after = done.bench;
         if !tell(
+            &rt,
             terminal,
             heard,
             &input,
@@ -118,7 +120,7 @@ fn main() {
         if found.last {
             return;
         }
-        prompt(terminal);
+        prompt(&rt, terminal);
         at = end + 1;
         line += 1;
     }

@@ -12,8 +12,9 @@ use trace_text::put_shown;
 // Room for what is shown of one act: 32 C lines, and at most 124 telegrams, words and the like of 84 bytes.
 const ROOM: usize = 65536;
 
-fn tell_help() -> bool {
+fn tell_help(rt: &HostRuntime) -> bool {
     write_output(
+        rt,
         b"A bench to sit at. One event a line; each is answered at once, and then what came of it. Ctrl-D ends.
 lock n f                       a lock of n controllers, up to f of which may be down
 lock n f own-arbiter           one without an arbiter
@@ -32,17 +33,17 @@ help                           this again
 }
 
 // Whoever sits at a terminal is asked for a line.
-pub fn prompt(terminal: bool) {
+pub fn prompt(rt: &HostRuntime, terminal: bool) {
     if terminal {
-        write_output(b"> ");
+        write_output(rt, b"> ");
     }
 }
 
-pub fn greet(terminal: bool) {
+pub fn greet(rt: &HostRuntime, terminal: bool) {
     if terminal {
-        tell_help();
+        tell_help(rt);
     }
-    prompt(terminal);
+    prompt(rt, terminal);
 }
 
 // The line of an act, as whoever types it sees it.
@@ -68,6 +69,7 @@ fn echo(out: &mut [u8], terminal: bool, a: Act) -> usize {
 
 // What came of an act; from a file or a pipe its line before that.
 fn tell_act(
+    rt: &HostRuntime,
     terminal: bool,
     a: Act,
     k: u32,
@@ -82,11 +84,11 @@ fn tell_act(
     if ROOM < end {
         return false;
     }
-    write_output(&out[..end])
+    write_output(rt, &out[..end])
 }
 
 // A line that is no event: its number and the first word that was not expected.
-fn tell_refused(input: &[u8], have: usize, line: usize, word: usize) -> bool {
+fn tell_refused(rt: &HostRuntime, input: &[u8], have: usize, line: usize, word: usize) -> bool {
     if input.len() < have {
         return false;
     }
@@ -95,11 +97,12 @@ fn tell_refused(input: &[u8], have: usize, line: usize, word: usize) -> bool {
     if 60 < end {
         return false;
     }
-    write_output(&out[..end])
+    write_output(rt, &out[..end])
 }
 
 // What is said of a line; false where it could not be written.
 pub fn tell(
+    rt: &HostRuntime,
     terminal: bool,
     heard: Heard,
     input: &[u8],
@@ -113,8 +116,8 @@ pub fn tell(
 ) -> bool {
     match heard {
         Heard::Nothing => true,
-        Heard::Help => tell_help(),
-        Heard::Unexpected(word) => tell_refused(input, have, line, word),
-        Heard::Plays(a) => tell_act(terminal, a, k, undone, answer, old, new),
+        Heard::Help => tell_help(rt),
+        Heard::Unexpected(word) => tell_refused(rt, input, have, line, word),
+        Heard::Plays(a) => tell_act(rt, terminal, a, k, undone, answer, old, new),
     }
 }

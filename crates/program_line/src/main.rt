@@ -1,12 +1,13 @@
 // The line program: acts on standard input, a line for each on standard output.
 #![tactic(auto)]
+
 use line_output::MOST;
 use streams::{read_input, write_output};
 
-fn main() {
+fn main(rt: HostRuntime) {
     // one byte more than the acts that are run
     let mut input = [0u8; MOST + 1];
-    let got = read_input(&mut input);
+    let got = read_input(&rt, &mut input);
     if got.failed {
         return;
     }
@@ -14,5 +15,5 @@ fn main() {
     // room for any output: always-fits in crates/line_output/specs/Room.antt
     let mut text = [0u8; 90112];
     let length = line_output::render(&input[..n], &mut text);
-    write_output(&text[..length]);
+    write_output(&rt, &text[..length]);
 }

@@ -1,6 +1,7 @@
 // Drives one controller by commands of 24 bytes from standard input, and prints a line for each: what the controller answered, what it
 // shows, and what it sent. For comparison with another implementation.
 #![tactic(auto)]
+
 mod ballots;
 mod command;
 mod print;
@@ -36,7 +37,7 @@ fn begin() -> Trial {
     }
 }
 
-fn step(s: &[u8], t: Trial, out: &mut [u8]) -> Trial {
+fn step(rt: &HostRuntime, s: &[u8], t: Trial, out: &mut [u8]) -> Trial {
     if !is_command(s) {
         return t;
     }
@@ -49,7 +50,7 @@ fn step(s: &[u8], t: Trial, out: &mut [u8]) -> Trial {
     let saved = saved_by(s, me, c);
     let mut waiting = put_line(out, t.waiting, me, answer, saved);
     waiting = put_call(out, waiting, me, call);
-    waiting = end_line(out, waiting);
+    waiting = end_line(rt, out, waiting);
     let c = answer.controller;
     let part = part_after(held, call);
     Trial {
@@ -61,32 +62,32 @@ fn step(s: &[u8], t: Trial, out: &mut [u8]) -> Trial {
 }
 
 // The commands of a chunk, one after the other. A short last one is left out.
-fn chunk(s: &[u8], t: Trial, out: &mut [u8]) -> Trial {
+fn chunk(rt: &HostRuntime, s: &[u8], t: Trial, out: &mut [u8]) -> Trial {
     let mut next = t;
     let mut at: usize = 0;
     while 24 <= s.len() - at {
         let end = at + 24;
-        next = step(&s[at..end], next, out);
+        next = step(rt, &s[at..end], next, out);
         at = end;
     }
     next
 }
 
-fn main() {
+fn main(rt: HostRuntime) {
     let mut input = [0u8; 65520];
-    let mut out = io::large_buffer();
+    let mut out = [0u8; 65536];
     let mut t = begin();
     let mut k: u32 = 0;
     while k < 100000 {
-        let got = streams::read_input(&mut input);
+        let got = streams::read_input(&rt, &mut input);
         let n = got.count;
-        t = chunk(&input[..n], t, &mut out);
+        t = chunk(&rt, &input[..n], t, &mut out);
         // where reading failed, what came before it is answered
         if n < 65520 {
-            flush(&out, t.waiting);
+            flush(&rt, &out, t.waiting);
             return;
         }
         k += 1;
     }
-    flush(&out, t.waiting);
+    flush(&rt, &out, t.waiting);
 }

@@ -26,7 +26,7 @@ fn put_text(out: &mut [u8], at: usize, text: &[u8]) -> usize {
 // A mark, then a number in decimal digits.
 pub(crate) fn put_number(out: &mut [u8], at: usize, mark: u8, v: u32) -> usize {
     let mut digits = [0u8; 20];
-    let n = io::decimal(v as u64, &mut digits);
+    let n = text::put_number(&mut digits, 0, v);
     let next = put(out, at, mark);
     put_text(out, next, &digits[..n])
 }
@@ -144,17 +144,17 @@ fn put_messages(out: &mut [u8], at: usize, me: Identity, sends: Sends) -> usize 
 }
 
 // The first n bytes go to standard output.
-pub(crate) fn flush(out: &[u8], n: usize) {
+pub(crate) fn flush(rt: &HostRuntime, out: &[u8], n: usize) {
     if n <= out.len() {
-        streams::write_output(&out[..n]);
+        streams::write_output(rt, &out[..n]);
     }
 }
 
 // The end of a line, which has at most some 1,000 bytes. A buffer that is nearly full is written out, and begins again at 0.
-pub(crate) fn end_line(out: &mut [u8], at: usize) -> usize {
+pub(crate) fn end_line(rt: &HostRuntime, out: &mut [u8], at: usize) -> usize {
     let next = put(out, at, b'\n');
     if 64000 < next {
-        flush(out, next);
+        flush(rt, out, next);
         return 0;
     }
     next

@@ -1,15 +1,16 @@
 // Reads pairs of ranges, sixteen bytes each with nothing between, and prints of each what the levels program prints, a short last one
 // included. Another implementation prints the same.
 #![tactic(auto)]
+
 use levels_text::ROOM;
 use streams::{read_input, write_output};
 
 const PAIR: usize = 16;
 
 // Answers the next pair, and whether there may be another.
-fn round() -> bool {
+fn round(rt: &HostRuntime) -> bool {
     let mut pair = [0u8; PAIR];
-    let got = read_input(&mut pair);
+    let got = read_input(rt, &mut pair);
     if got.failed {
         return false;
     }
@@ -19,16 +20,16 @@ fn round() -> bool {
     }
     let mut text = [0u8; ROOM];
     let length = levels_text::render(&pair[..n], &mut text);
-    if !write_output(&text[..length]) {
+    if !write_output(rt, &text[..length]) {
         return false;
     }
     n == PAIR
 }
 
 // A proved loop has to end, so the rounds are counted down, from a number that no input uses up.
-fn main() {
+fn main(rt: HostRuntime) {
     let mut rounds: u64 = 4294967296;
-    while rounds > 0 && round() {
+    while rounds > 0 && round(&rt) {
         rounds -= 1;
     }
 }

@@ -64,16 +64,16 @@ fn glyph(digit: u8) -> u8 {
     b'?'
 }
 
-fn show(text: [u8; 80], used: usize) -> bool {
+fn show(rt: &HostRuntime, text: [u8; 80], used: usize) -> bool {
     if used <= 80 {
-        return streams::write_output(&text[..used]);
+        return streams::write_output(rt, &text[..used]);
     }
     false
 }
 
 // Prints a line, and answers whether all of it was taken.
-pub(crate) fn print(line: Line) -> bool {
+pub(crate) fn print(rt: &HostRuntime, line: Line) -> bool {
     let ended = put(line, b'\n');
     let text = ended.text;
-    show(text, ended.used)
+    show(rt, text, ended.used)
 }

@@ -3,6 +3,7 @@
 // Byte 0 says what to do: 0, 1, 2 read a telegram, a checkpoint, an event; 3, 4, 5 write one. Byte 1 is the length of the slice or of the buffer, 0 to
 // 32. What is read, or the fields of what is written, starts at byte 2. A short last frame is ignored.
 #![tactic(auto)]
+
 mod line;
 mod reading;
 mod writing;
@@ -36,11 +37,11 @@ fn line_of(frame: &[u8]) -> Line
 }
 
 // The frames of a chunk, one after the other; whether all lines were taken.
-fn run(s: &[u8]) -> bool {
+fn run(rt: &HostRuntime, s: &[u8]) -> bool {
     let mut at = 0;
     while FRAME <= s.len() - at {
         let end = at + FRAME;
-        if !line::print(line_of(&s[at..end])) {
+        if !line::print(rt, line_of(&s[at..end])) {
             return false;
         }
         at = end;
@@ -49,23 +50,23 @@ fn run(s: &[u8]) -> bool {
 }
 
 // Reads and runs as many frames as there are at once, and answers whether there may be more.
-fn round() -> bool {
+fn round(rt: &HostRuntime) -> bool {
     let mut buf = [0u8; CHUNK];
-    let got = streams::read_input(&mut buf);
+    let got = streams::read_input(rt, &mut buf);
     if got.failed {
         return false;
     }
     let n = got.count;
-    if !run(&buf[..n]) {
+    if !run(rt, &buf[..n]) {
         return false;
     }
     n == CHUNK
 }
 
 // A proved loop has to end, so the rounds are counted down, from a number that no input uses up.
-fn main() {
+fn main(rt: HostRuntime) {
     let mut rounds: u64 = 4294967296;
-    while rounds > 0 && round() {
+    while rounds > 0 && round(&rt) {
         rounds -= 1;
     }
 }

@@ -1,5 +1,6 @@
 // Plays the schedule on standard input as the bench program does, but record by record, by the step by value; steps back too. For comparison with another implementation.
 #![tactic(auto)]
+
 ghost use Rattle.std.specs.Prelude.{◌≤◌, ◌≡◌, length, take};
 
 use bench_back::{Acted, Recall, act};
@@ -54,15 +55,15 @@ fn render(s: &[u8], out: &mut [u8]) -> usize
     write_report(&mut *out, &answers[..k], summary_of(b.shared, stations))
 }
 
-fn main() {
+fn main(rt: HostRuntime) {
     // one byte more than a schedule may have, so that a longer one is known by it
     let mut input = [0u8; LONGEST_SCHEDULE + 1];
-    let got = read_input(&mut input);
+    let got = read_input(&rt, &mut input);
     if got.failed {
         return;
     }
     let n = got.count;
     let mut text = [0u8; LONGEST_OUTPUT];
     let length = render(&input[..n], &mut text);
-    write_output(&text[..length]);
+    write_output(&rt, &text[..length]);
 }

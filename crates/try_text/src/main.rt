@@ -1,6 +1,7 @@
 // Reads frames of 512 bytes: 0 for the records or 1 for the text of a schedule, its length (2), and the schedule with noughts after it. Writes of each what `records`
 // or `text` prints, after the length of that (2). Another implementation writes the same.
 #![tactic(auto)]
+
 ghost use Rattle.std.specs.Prelude.{◌<◌};
 
 use schedule_input::{render_records, render_text};
@@ -20,25 +21,25 @@ fn wide(x: u8) -> usize
 }
 
 // The length before the bytes, and the bytes.
-fn answer(bytes: &[u8]) -> bool {
+fn answer(rt: &HostRuntime, bytes: &[u8]) -> bool {
     let n = bytes.len();
     let head = [(n / 256 % 256) as u8, (n % 256) as u8];
-    write_output(&head) && write_output(bytes)
+    write_output(rt, &head) && write_output(rt, bytes)
 }
 
 // Answers a schedule.
-fn turn(mode: u8, s: &[u8]) -> bool {
+fn turn(rt: &HostRuntime, mode: u8, s: &[u8]) -> bool {
     let mut out = [0u8; ROOM];
     if mode == 0 {
         let length = render_records(s, &mut out);
-        return answer(&out[..length]);
+        return answer(rt, &out[..length]);
     }
     let length = render_text(s, &mut out);
-    answer(&out[..length])
+    answer(rt, &out[..length])
 }
 
 // Answers a frame.
-fn turn_frame(frame: &[u8]) -> bool {
+fn turn_frame(rt: &HostRuntime, frame: &[u8]) -> bool {
     if frame.len() < HEAD {
         return false;
     }
@@ -47,26 +48,26 @@ fn turn_frame(frame: &[u8]) -> bool {
     if frame.len() < end {
         return false;
     }
-    turn(frame[0], &frame[HEAD..end])
+    turn(rt, frame[0], &frame[HEAD..end])
 }
 
 // Answers the next frame, and whether there may be another.
-fn round() -> bool {
+fn round(rt: &HostRuntime) -> bool {
     let mut frame = [0u8; FRAME];
-    let got = read_input(&mut frame);
+    let got = read_input(rt, &mut frame);
     if got.failed {
         return false;
     }
     if got.count != FRAME {
         return false;
     }
-    turn_frame(&frame)
+    turn_frame(rt, &frame)
 }
 
 // A proved loop has to end, so the rounds are counted down, from a number that no input uses up.
-fn main() {
+fn main(rt: HostRuntime) {
     let mut rounds: u64 = 4294967296;
-    while rounds > 0 && round() {
+    while rounds > 0 && round(&rt) {
         rounds -= 1;
     }
 }
