@@ -33,7 +33,7 @@ contract() { # crate, function
 head_of() { # crate, function
     find "crates/$1/src" -name '*.rt' -exec cat {} + | awk -v name="$2" '
         $0 ~ "(^|[ \t])fn " name "[(<]" { inside = 1; sub(".*fn ", "") }
-        inside && /^[ \t]*[{]/ { exit }
+        inside && /^[ \t]*[{]/ { inside = 0 }
         inside { print }'
 }
 
