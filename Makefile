@@ -8,10 +8,9 @@ STRICT = -std=gnu11 -Wall -Wextra -Werror -Iinclude
 all: $(ARCHIVE)
 
 # proved and built where it was not yet, or where a source is newer; `rt` is asked for nothing else
-CRATES := $(shell bin/below cabinet)
+CRATES := $(shell bin/below cabinet_c)
 $(ARCHIVE): crates.txt $(shell find $(foreach c,$(CRATES),$(wildcard crates/$(c)/src crates/$(c)/specs crates/$(c)/proofs)))
-	rt staticlib cabinet
-	touch $@
+	bin/archive cabinet
 
 target/cabinets: examples/cabinets/cabinets.c include/cabinet.h $(ARCHIVE)
 	$(CC) $(CFLAGS) $(STRICT) -o $@ $< $(ARCHIVE)

@@ -6,11 +6,8 @@ ref=target/reference
 for tool in rt rustc; do
     command -v "$tool" > /dev/null || { echo "benchmark: $tool is not on the PATH" >&2; exit 1; }
 done
-mkdir -p target
-echo "benchmark: the bench is proved and built first, which takes some minutes where nothing was proved yet" >&2
-for crate in bench_output survey_output; do
-    rt staticlib "$crate" > target/staticlib.log 2>&1 || { tail -n 5 target/staticlib.log >&2; exit 1; }
-done
+echo "benchmark: the bench is proved and built first, which takes long where nothing was proved yet" >&2
+for library in bench_output survey_output; do bin/archive "$library"; done
 reference/build.sh
 rustc --edition 2021 -O -L native=target/staticlib --extern reference="$ref/libreference.rlib" -o "$ref/benchmark" benchmark/main.rs
 "$ref/gen_schedules" 400 21 > "$ref/benchmark.schedules"

@@ -1,6 +1,7 @@
 #!/usr/bin/env bash
 # Looks that the papers name what is there. docs/QUESTIONS.md: a row for each question of crates/question_words, in its words; so those in include/cabinet.h. docs/ASSUMPTIONS.md: of each row with `crate::function` and `Definition` or `Definition.field`, that the crate is
 # listed, that the function stands in its source with an `ensures` that names the definition, and that a record of that name has the field.
+# Of each export of a crate NAME_c: that its head and its clauses are those of the function of that name in NAME.
 # That it is proved is for `rt ci`, which proves every function of every listed crate.
 set -euo pipefail
 cd "$(dirname "$0")/.."
@@ -28,6 +29,24 @@ contract() { # crate, function
         inside && told { print }'
 }
 
+# A function from its name to its body: its parameters, its result and its clauses.
+head_of() { # crate, function
+    find "crates/$1/src" -name '*.rt' -exec cat {} + | awk -v name="$2" '
+        $0 ~ "(^|[ \t])fn " name "[(<]" { inside = 1; sub(".*fn ", "") }
+        inside && /^[ \t]*[{]/ { inside = 0 }
+        inside { print }'
+}
+
+exports=0
+for crate in crates/*_c; do
+    crate=${crate#crates/}
+    for function in $(sed -n 's/^pub extern "C" fn \([a-z_0-9]*\).*/\1/p' "crates/$crate/src/lib.rt"); do
+        exports=$((exports + 1))
+        head=$(head_of "$crate" "$function")
+        [ -n "$head" ] && [ "$head" = "$(head_of "${crate%_c}" "$function")" ] || { echo "$crate::$function: it is not declared as in ${crate%_c}, with the same clauses" >&2; bad=$((bad + 1)); }
+    done
+done
+
 rows=0
 while IFS=' ' read -r function definition; do
     rows=$((rows + 1))
@@ -50,4 +69,4 @@ done < <(sed -n 's/^|.*| *`\([a-z_0-9]*::[a-z_0-9]*\)` *| *`\([^`]*\)` *|$/\1 \2
 named=$(grep -c '^|.*`[a-z_0-9]*::[a-z_0-9]*`' docs/ASSUMPTIONS.md)
 [ "$named" -eq "$rows" ] || fault "$named rows name a function, and $rows have the form of a contract"
 [ "$bad" -eq 0 ] || exit 1
-echo "docs/ASSUMPTIONS.md: $rows rows, each with a contract that is there"
+echo "docs/ASSUMPTIONS.md: $rows rows, each with a contract that is there; $exports exports, each with the clauses of its library"

@@ -1,7 +1,7 @@
 //! Calls the proved bench from Rust: each schedule named on the command line gives what stands beside it and the count of gates still open
 //! that its C lines show, and a buffer that is too short is left as it was. The gate builds and runs this:
 //!
-//!     rt staticlib bench_output
+//!     bin/archive bench_output
 //!     rustc --edition 2021 -L native=target/staticlib -o target/from_rust examples/from_rust.rs
 //!     target/from_rust examples/*.events
 

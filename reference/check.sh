@@ -2,26 +2,27 @@
 # Compares what was proved with the independent implementation beside this script: records, single controllers, the examples, whole
 # schedules; then what each request of document 02 has in checks/; and calls the exported function from Rust.
 # The comparisons run on two cores, as two sides that share no file but those made before.
-# The programs under test are in target/bin; `rt check` or `rt ci` puts them there.
+# The programs under test are those that `rt ci` or `bin/run` left in crates/NAME/out; one that is not there, or is older than a source, is built first.
 set -euo pipefail
 here=$(cd "$(dirname "$0")" && pwd)
 root=$(cd "$here/.." && pwd)
-bin=$root/target/bin
 ref=$root/target/reference
 work=$ref/work
+bin=$work/bin
 
 say() { printf 'compare: %s\n' "$*"; }
 stop() { printf 'compare: FAILED: %s\n' "$*" >&2; exit 1; }
 
-for program in $(sed -e '/^#/d' -e 's/^[^|]*| *\([^ |]*\).*/\1/' "$root/bin/programs"); do
-    [ -x "$bin/$program" ] || stop "target/bin/$program is missing: run 'rt check' first"
-done
+mkdir -p "$bin"
+while read -r name program; do
+    "$root/bin/$name" < /dev/null > /dev/null || stop "bin/$name does not start"
+    cp "$root/crates/$program/out/$program" "$bin/"
+done < <(sed -e '/^#/d' -e 's/^ *\([^ |]*\) *| *\([^ |]*\).*/\1 \2/' "$root/bin/programs")
 
 "$here/build.sh" || stop "the reference implementation does not build"
 for program in "$here"/programs/*.rs; do
     grep -qF "programs/$(basename "$program")" "$here/Cargo.toml" || stop "reference/Cargo.toml does not name programs/$(basename "$program")"
 done
-mkdir -p "$work"
 "$ref/trials" > "$work/trials.out" || { cat "$work/trials.out"; stop "the reference fails its own trials"; }
 say "the reference passes its own trials"
 
@@ -37,9 +38,9 @@ compare() { # kind, program under test, count, seed
 "$ref/gen_schedules" 2000 3 > "$work/schedules"
 "$ref/gen_steps_back" 2000 43 > "$work/back"
 
-# One side: the exported functions, called from Rust and from C. Archives are built here alone, since two calls of `rt` at a time would spoil each other's notes.
+# One side: the exported functions, called from Rust and from C. Archives are built here alone.
 exported() {
-    (cd "$root" && rt staticlib bench_output) > "$work/staticlib.log" 2>&1 || { tail -n 5 "$work/staticlib.log"; stop "the archive does not build"; }
+    "$root/bin/archive" bench_output || stop "the archive does not build"
     rustc --edition 2021 -D warnings -L native="$root/target/staticlib" -o "$work/from_rust" "$root/examples/from_rust.rs" || stop "examples/from_rust.rs does not build"
     "$work/from_rust" "$root"/examples/*.events > "$work/from_rust.out" || stop "a call from Rust gives something else"
     say "$(cat "$work/from_rust.out")"

@@ -2,7 +2,7 @@
 # Runs of cabinets: runs.sh FIRST LAST [AGAIN] makes the runs of seeds FIRST to LAST and plays what each recorded on the
 # bench, which must accept every event and show the cabinets' own C lines. With AGAIN 0 nothing is sent twice: then cabinets
 # may be left open, and still none may disagree. The lock, the loss and the kills of a run follow from its seed.
-# Needs target/cabinets (make examples) and target/bin/program_bench. valgrind.sh puts itself before the program (CABINETS),
+# Needs target/cabinets (make examples) and the bench program (bin/bench builds it). valgrind.sh puts itself before the program (CABINETS),
 # and makes its waits longer (SLOW).
 set -euo pipefail
 root=$(cd "$(dirname "$0")/../.." && pwd)
@@ -26,7 +26,7 @@ for seed in $(seq "$first" "$last"); do
         > "$work/counts" || status=$?
     [ "$status" = 0 ] || { [ "$status" = 3 ] && [ "$again" = 0 ]; } \
         || stop "seed $seed ($lock): status $status, $(cat "$work/counts")"
-    "$root/target/bin/program_bench" < "$work/run/schedule" > "$work/played"
+    "$root/crates/program_bench/out/program_bench" < "$work/run/schedule" > "$work/played"
     awk '!/^[CT]/ && $2 != 0' "$work/played" > "$work/refused"
     [ ! -s "$work/refused" ] || stop "seed $seed: the bench refuses $(head -n 1 "$work/refused")"
     grep '^C' "$work/played" | cmp -s - "$work/run/lines" || stop "seed $seed: the bench shows other C lines"

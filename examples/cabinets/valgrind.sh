@@ -1,8 +1,8 @@
 #!/usr/bin/env bash
 # The C programs of the cabinet library under valgrind, to their end: the tests with one bit of 61 turned, and two runs with
 # kills, one with an arbiter and one with ballots, ten times slower. Any error or lost memory fails, in any process, in those
-# that are killed too. Needs target/cabinet_tests, target/cabinets (make examples) and target/bin/program_bench. Without
-# valgrind it says so.
+# that are killed too. Needs target/cabinet_tests, target/cabinets (make examples) and the bench program (bin/bench builds
+# it). Without valgrind it says so.
 set -euo pipefail
 root=$(cd "$(dirname "$0")/../.." && pwd)
 command -v valgrind > /dev/null || { echo "cabinets: valgrind is not here: not run under it"; exit 0; }
