@@ -8,9 +8,9 @@ use native.Mathlib.Omega.{arith}
 use lib.Dec.{eqb, leb, ltb}
 use borrow.Author.Tests.{eqb-true, eq-eqb, ltb-true, lt-ltb}
 use Rattle.ground.specs.Mask.{has, insert}
-use Rattle.ground.specs.MaskLaws.{none_has, has-none, insert_only}
+use Rattle.ground.proofs.MaskLaws.{none_has, has-none, insert_only}
 use Rattle.ground.specs.Quantify.{count_to}
-use Rattle.ground.specs.Sizes.{count_mono}
+use Rattle.ground.proofs.Sizes.{count_mono}
 use Rattle.ground.specs.Tests.{by_cond, split, and_l, and_r, no_both, or-e}
 use Rattle.model.specs.Numbers.{word_of, is_none, outcome_number}
 use Rattle.model.specs.QuestionLaws.{all_yes, reply-accepted}

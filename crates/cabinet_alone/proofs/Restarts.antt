@@ -7,7 +7,7 @@ use mathlib.Core.List.{List, [], ◌∷◌}
 use native.Mathlib.Omega.{arith}
 use lib.Dec.{eqb, leb}
 use borrow.Author.Tests.{eqb-true, eq-eqb, leb-true, leb-false, ltb-true}
-use Rattle.ground.specs.MaskLaws.{has-none}
+use Rattle.ground.proofs.MaskLaws.{has-none}
 use Rattle.ground.specs.Tests.{by_cond, split, and_l, and_r, no_both, refuted}
 use Rattle.model.specs.Questions.{number, first_no}
 use Rattle.model.specs.QuestionLaws.{all_yes, reply-accepted}

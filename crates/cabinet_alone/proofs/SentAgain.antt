@@ -8,7 +8,7 @@ use native.Mathlib.Omega.{arith}
 use lib.Dec.{eqb, leb, ltb}
 use borrow.Author.Tests.{eqb-true, leb-false}
 use Rattle.ground.specs.Mask.{has}
-use Rattle.ground.specs.MaskLaws.{none_has, has_or}
+use Rattle.ground.proofs.MaskLaws.{none_has, has_or}
 use Rattle.ground.specs.Tests.{by_cond, and_l, and_r, or_l}
 use Rattle.votes.specs.declared.VoteSet.{VoteSet}
 use Rattle.model.specs.declared.Kind.{Kind}

@@ -8,7 +8,7 @@ use lib.Dec.{eqb, ltb}
 use borrow.Author.Tests.{eq-eqb, ltb-true, lt-ltb}
 use Rattle.ground.specs.Mask.{has}
 use Rattle.ground.specs.Quantify.{count_to}
-use Rattle.ground.specs.Sizes.{count_mono}
+use Rattle.ground.proofs.Sizes.{count_mono}
 use Rattle.ground.specs.Tests.{split}
 use Rattle.model.specs.Numbers.{word_of}
 use Rattle.model.specs.QuestionLaws.{all_yes, reply-accepted}

@@ -6,10 +6,10 @@ use mathlib.Core.List.{List, [], ◌∷◌}
 use native.Mathlib.Omega.{arith}
 use lib.ListN.{get_or, length}
 use Rattle.model.specs.declared.Checkpoint.{Checkpoint}
-use Rattle.records.specs.ByteLaws.{spread}
+use Rattle.records.proofs.ByteLaws.{spread}
 use Rattle.records.specs.Codes.{is_outcome}
 use Rattle.records.specs.CodeLaws.{outcome-listed, outcome-of-number, number-of-outcome}
-use Rattle.records.specs.CodecLaws.{Lawful, promises-kept}
+use Rattle.records.proofs.CodecLaws.{Lawful, promises-kept}
 use Rattle.records.specs.Promises.{Promises}
 use Rattle.checkpoint_record.specs.Checkpoints.{checkpoint_form, checkpoints}
 

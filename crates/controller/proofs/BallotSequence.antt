@@ -10,7 +10,7 @@ use lib.Dec.{eqb}
 use lib.ListN.{length, take, drop, get_or}
 use borrow.Author.Tests.{eq-eqb, ne_eqb, le-leb}
 use Rattle.ground.specs.Mask.{has, remove, up_to}
-use Rattle.ground.specs.UpTo.{collect-same, has-up-to, others_are}
+use Rattle.ground.proofs.UpTo.{collect-same, has-up-to, others_are}
 use Rattle.model.specs.declared.BallotMessage.{BallotMessage}
 use Rattle.protocol.specs.declared.ToSendBallot.{ToSendBallot}
 use Rattle.protocol.specs.declared.ToSendBallot.TheVariants.{AllSent, Next}

@@ -12,9 +12,9 @@ use borrow.Author.Tests.{eqb-true, not-true, le-leb, lt-leb}
 use Rattle.ground.specs.Limit.{limit}
 use Rattle.ground.specs.Tests.{split, by_cond, and_l, and_r, and_i, same_test, refuted, no_both}
 use Rattle.ground.specs.Mask.{has, insert, collect}
-use Rattle.ground.specs.MaskLaws.{has_or}
-use Rattle.ground.specs.Collect.{has-collect}
-use Rattle.ground.specs.Inclusion.{same_set}
+use Rattle.ground.proofs.MaskLaws.{has_or}
+use Rattle.ground.proofs.Collect.{has-collect}
+use Rattle.ground.proofs.Inclusion.{same_set}
 use Rattle.ground.specs.Update.{upd, upd_same, upd_other, upd-all, fun_ext}
 use Rattle.votes.specs.declared.VoteSet.{VoteSet}
 use Rattle.model.specs.Ranges.{different_controllers}

@@ -14,10 +14,10 @@ use Rattle.model.specs.declared.Act.TheVariants.{Play, Back}
 use Rattle.model.specs.declared.Event.{Event}
 use Rattle.model.specs.declared.Event.TheVariants.{Lock, Order, Cast, Deliver, Timeout, Decide, Stop, Save, Restore, OfBallots}
 use Rattle.model.specs.declared.BallotEvent.TheVariants.{Open, Carry}
-use Rattle.records.specs.ByteLaws.{spread}
+use Rattle.records.proofs.ByteLaws.{spread}
 use Rattle.records.specs.Codes.{is_kind, kind_of, is_ballot_kind, ballot_kind_of, is_flag, flag_of, flag_number, unused}
 use Rattle.records.specs.CodeLaws.{kind-listed, kind-of-number, number-of-kind, ballot-kind-listed, ballot-kind-of-number, number-of-ballot-kind, kinds-apart, flag-listed, flag-of-number, number-of_flag}
-use Rattle.records.specs.CodecLaws.{Lawful, promises-kept}
+use Rattle.records.proofs.CodecLaws.{Lawful, promises-kept}
 use Rattle.records.specs.Promises.{Promises}
 use Rattle.records.specs.Rows.{row_of}
 use Rattle.event_record.specs.Events.{fields, fields_in, numbers_in, ballot_fields, event_fields, fields_of, delivery_listed, delivery_of, rows, row_for, events}

@@ -8,9 +8,9 @@ use lib.Dec.{eqb, lit<}
 use lib.Bits.{bit_and, bit_or, and_mask}
 use lib.Count.{ones}
 use Rattle.ground.specs.Mask.{width, has, insert, full_to}
-use Rattle.ground.specs.MaskLaws.{insert-at}
+use Rattle.ground.proofs.MaskLaws.{insert-at}
 use Rattle.ground.specs.Quantify.{count_to}
-use Rattle.ground.specs.Sizes.{size_ones}
+use Rattle.ground.proofs.Sizes.{size_ones}
 
 -- 1 shifted left, in w bits
 pub shifted : (w n : ℕ) → n < w → 1 * 2 ^ n % 2 ^ w ≡ 2 ^ n

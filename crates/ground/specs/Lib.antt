@@ -5,8 +5,3 @@ pub mod Update
 pub mod Lists
 pub mod Firsts
 pub mod Mask
-pub mod MaskLaws
-pub mod Inclusion
-pub mod Collect
-pub mod UpTo
-pub mod Sizes

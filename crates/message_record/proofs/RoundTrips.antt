@@ -23,10 +23,10 @@ use Rattle.model.specs.declared.Telegram.{Telegram}
 use Rattle.model.specs.declared.Telegram.TheVariants.{Plain, OfBallot}
 use Rattle.votes.specs.declared.VoteSet.{VoteSet}
 use Rattle.records.specs.Bytes.{Width, one, two, four, size}
-use Rattle.records.specs.ByteLaws.{spread}
+use Rattle.records.proofs.ByteLaws.{spread}
 use Rattle.records.specs.Codes.{is_kind, kind_of, is_ballot_kind, ballot_kind_of, is_outcome, outcome_of, unused}
 use Rattle.records.specs.CodeLaws.{kind-listed, kind-of-number, number-of-kind, ballot-kind-listed, ballot-kind-of-number, number-of-ballot-kind, outcome-listed, outcome-of-number, number-of-outcome}
-use Rattle.records.specs.CodecLaws.{Holds, Fit, Lawful, promises-kept}
+use Rattle.records.proofs.CodecLaws.{Holds, Fit, Lawful, promises-kept}
 use Rattle.records.specs.Promises.{In32Bits, Promises}
 use Rattle.records.specs.Codec.{form_bytes, own_form, bytes_of, reads}
 use Rattle.message_record.specs.declared.MessageBody.{MessageBody}

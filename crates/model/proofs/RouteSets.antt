@@ -8,8 +8,8 @@ use lib.Dec.{eqb, leb, ltb}
 use lib.Bits.{bit_xor}
 use borrow.Author.Tests.{le-leb, lt-leb, lt-ltb, le-ltb, eq-eqb, ne_eqb}
 use Rattle.ground.specs.Mask.{collect, up_to}
-use Rattle.ground.specs.MaskLaws.{has_xor}
-use Rattle.ground.specs.UpTo.{collect-same, collect_nobody, has-up-to, up-to_wide}
+use Rattle.ground.proofs.MaskLaws.{has_xor}
+use Rattle.ground.proofs.UpTo.{collect-same, collect_nobody, has-up-to, up-to_wide}
 use Rattle.model.specs.Ranges.{is_backup, is_second_backup}
 use Rattle.model.specs.Routes.{vote_route, ack_route, help_route, others_of}
 

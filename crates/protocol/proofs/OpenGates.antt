@@ -12,7 +12,7 @@ use borrow.Author.Tests.{eqb-true, eq-eqb, lt-ltb, not-true}
 use Rattle.ground.specs.Limit.{limit}
 use Rattle.ground.specs.Tests.{split, same_test, by_cond}
 use Rattle.ground.specs.Quantify.{all_to, all-at, all_of, count_to, count_le}
-use Rattle.ground.specs.Sizes.{count-new, count_none, none-count, all-count}
+use Rattle.ground.proofs.Sizes.{count-new, count_none, none-count, all-count}
 use Rattle.ground.specs.Update.{upd, upd_same, fun_ext}
 use Rattle.votes.specs.VoteSets.{empty}
 use Rattle.model.specs.Ranges.{sizes_in_range}

@@ -1,10 +1,8 @@
 pub mod Bytes
-pub mod ByteLaws
 pub mod Codes
 pub mod CodeLaws
 pub mod Rows
 pub mod Codec
 pub mod Promises
-pub mod CodecLaws
 pub mod Frames
 pub mod FrameLaws

@@ -10,7 +10,7 @@ use Rattle.ground.specs.Lists.{nth}
 use Rattle.ground.specs.Mask.{has}
 use Rattle.votes.specs.VoteSets.{empty}
 use Rattle.votes.specs.Joining.{join, join_all}
-use Rattle.votes.specs.JoinLaws.{join-past, join_absorbs}
+use Rattle.votes.proofs.JoinLaws.{join-past, join_absorbs}
 use Rattle.votes.specs.declared.VoteSet.{VoteSet}
 use Rattle.votes.specs.declared.Joined.{Joined}
 use Rattle.votes.specs.declared.Joined.TheVariants.{Agreed, Contradiction}

@@ -5,7 +5,7 @@ use mathlib.Core.Bool.{Bool, true, false, cond}
 use mathlib.Core.List.{List, [], ◌∷◌, map}
 use Rattle.votes.specs.VoteSets.{empty}
 use Rattle.votes.specs.Joining.{joined_number, joined_values, join_next, join_from, join_all, pairwise}
-use Rattle.votes.specs.JoinLaws.{list-is, senders-list}
+use Rattle.votes.proofs.JoinLaws.{list-is, senders-list}
 use Rattle.votes.specs.Tallies.{tally_of, tallied_of, tallied_number, tallied_values, tally_from, sets_of, union_list}
 use Rattle.votes.specs.OnePass.{OnePass}
 use Rattle.votes.specs.declared.VoteSet.{VoteSet}

@@ -8,8 +8,8 @@ use Rattle.std.proofs.Math.Logic.{inl, inr}
 use Rattle.ground.specs.Tests.{split, and_l, and_r, and_i, same_test}
 use Rattle.ground.specs.Quantify.{any_to, any_at, any_of, Found}
 use Rattle.ground.specs.Mask.{has}
-use Rattle.ground.specs.MaskLaws.{has_or, has-none}
-use Rattle.ground.specs.Inclusion.{same_set}
+use Rattle.ground.proofs.MaskLaws.{has_or, has-none}
+use Rattle.ground.proofs.Inclusion.{same_set}
 use Rattle.ground.specs.Lists.{nth}
 use Rattle.votes.specs.VoteSets.{empty, union, union_all, Among}
 use Rattle.votes.specs.declared.VoteSet.{VoteSet}

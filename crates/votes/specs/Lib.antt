@@ -1,9 +1,6 @@
 pub mod VoteSets
 pub mod Halves
-pub mod VoteLaws
 pub mod Joining
 pub mod Tallies
 pub mod Contradictions
 pub mod OnePass
-pub mod JoinLaws
-pub mod MemberLaws

@@ -1,3 +1,2 @@
 pub mod Xorshift
 pub mod Claim
-pub mod XorshiftLaws

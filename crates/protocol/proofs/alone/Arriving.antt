@@ -9,9 +9,9 @@ use borrow.Author.Tests.{leb-true, leb-false}
 use Rattle.ground.specs.Limit.{limit}
 use Rattle.ground.specs.Tests.{split, no_both, refuted, by_cond, and_l, and_r}
 use Rattle.ground.specs.Mask.{within}
-use Rattle.ground.specs.Inclusion.{within_has}
+use Rattle.ground.proofs.Inclusion.{within_has}
 use Rattle.votes.specs.VoteSets.{knows, wills}
-use Rattle.votes.specs.VoteLaws.{union-knows}
+use Rattle.votes.proofs.VoteLaws.{union-knows}
 use Rattle.votes.specs.Joining.{contradicts, join, agreed_or}
 use Rattle.votes.specs.declared.VoteSet.{VoteSet}
 use Rattle.model.specs.declared.Kind.{Kind}

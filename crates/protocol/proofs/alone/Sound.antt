@@ -11,9 +11,9 @@ use borrow.Author.Tests.{eqb-true, eq-eqb}
 use Rattle.ground.specs.Limit.{limit}
 use Rattle.ground.specs.Tests.{split, no_both, and_l, and_r}
 use Rattle.ground.specs.Quantify.{count_to}
-use Rattle.ground.specs.Sizes.{insert-size}
+use Rattle.ground.proofs.Sizes.{insert-size}
 use Rattle.ground.specs.Mask.{has, insert}
-use Rattle.ground.specs.MaskLaws.{has-none, insert_only, none_has}
+use Rattle.ground.proofs.MaskLaws.{has-none, insert_only, none_has}
 use Rattle.ground.specs.Lists.{nth, put, nth-put-at, length-put}
 use Rattle.ground.specs.Update.{upd, upd_same, upd_other}
 use Rattle.votes.specs.VoteSets.{empty, knows}

@@ -9,9 +9,9 @@ use lib.Dec.{eqb, leb}
 use borrow.Author.Tests.{eqb-true, not-true}
 use Rattle.ground.specs.Tests.{no_both, refuted, by_cond, and_l, and_r, or_r, eqb_same}
 use Rattle.votes.specs.VoteSets.{knows, wills, single, union}
-use Rattle.votes.specs.VoteLaws.{union-knows, union-wills}
+use Rattle.votes.proofs.VoteLaws.{union-knows, union-wills}
 use Rattle.votes.specs.Joining.{join, agreed_or}
-use Rattle.votes.specs.JoinLaws.{join-agreed}
+use Rattle.votes.proofs.JoinLaws.{join-agreed}
 use Rattle.votes.specs.declared.VoteSet.{VoteSet}
 use Rattle.votes.specs.declared.Joined.{Joined}
 use Rattle.model.specs.Ranges.{is_backup}

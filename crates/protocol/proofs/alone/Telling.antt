@@ -8,12 +8,12 @@ use mathlib.Core.Logic.{◌⊎◌, inl, inr}
 use Rattle.ground.specs.Tests.{split, and_l, and_r, and_i, or-e, or_l, or_r, same_test}
 use Rattle.ground.specs.Quantify.{any_to, any_of, any_at, Found}
 use Rattle.ground.specs.Mask.{has}
-use Rattle.ground.specs.MaskLaws.{none_has}
+use Rattle.ground.proofs.MaskLaws.{none_has}
 use Rattle.ground.specs.Lists.{nth}
 use Rattle.votes.specs.VoteSets.{empty, knows, wills, union, union_all}
-use Rattle.votes.specs.VoteLaws.{union-knows, union-wills}
+use Rattle.votes.proofs.VoteLaws.{union-knows, union-wills}
 use Rattle.votes.specs.Joining.{contradicts, join, join_all, agreed_or}
-use Rattle.votes.specs.JoinLaws.{agree_at, at_agree, join-agreed, all_fact, all-agreed}
+use Rattle.votes.proofs.JoinLaws.{agree_at, at_agree, join-agreed, all_fact, all-agreed}
 use Rattle.votes.specs.declared.VoteSet.{VoteSet}
 use Rattle.votes.specs.declared.Joined.{Joined}
 use Rattle.votes.specs.declared.Joined.TheVariants.{Agreed}

@@ -7,7 +7,7 @@ use mathlib.Core.List.{List, [], ◌∷◌, ◌++◌}
 use lib.Dec.{eqb}
 use Rattle.ground.specs.Tests.{by_cond}
 use Rattle.votes.specs.VoteSets.{single}
-use Rattle.votes.specs.JoinLaws.{join-agreed}
+use Rattle.votes.proofs.JoinLaws.{join-agreed}
 use Rattle.model.specs.declared.Outcome.TheVariants.{None}
 use Rattle.model.specs.declared.Message.{Message}
 use Rattle.model.specs.declared.Checkpoint.{Checkpoint}

@@ -9,7 +9,7 @@ use borrow.Author.Tests.{eqb-true, not-true}
 use Rattle.ground.specs.Limit.{limit}
 use Rattle.ground.specs.Tests.{by_cond, and_l, and_r}
 use Rattle.ground.specs.Mask.{has}
-use Rattle.ground.specs.MaskLaws.{has-none}
+use Rattle.ground.proofs.MaskLaws.{has-none}
 use Rattle.votes.specs.VoteSets.{union}
 use Rattle.votes.specs.Joining.{join_next, agreed_or}
 use Rattle.votes.specs.declared.Joined.{Joined}

@@ -11,12 +11,12 @@ use borrow.Author.Tests.{eqb-true, not-true}
 use Rattle.ground.specs.Limit.{limit}
 use Rattle.ground.specs.Tests.{no_both, and_l, and_r}
 use Rattle.ground.specs.Mask.{width, has}
-use Rattle.ground.specs.Inclusion.{within_has}
+use Rattle.ground.proofs.Inclusion.{within_has}
 use Rattle.ground.specs.Lists.{nth}
 use Rattle.votes.specs.VoteSets.{empty, knows, wills, single}
-use Rattle.votes.specs.VoteLaws.{single-knows, single-wills, single-within}
+use Rattle.votes.proofs.VoteLaws.{single-knows, single-wills, single-within}
 use Rattle.votes.specs.Joining.{contradicts}
-use Rattle.votes.specs.JoinLaws.{at_agree, empty-agrees}
+use Rattle.votes.proofs.JoinLaws.{at_agree, empty-agrees}
 use Rattle.votes.specs.declared.VoteSet.{VoteSet}
 use Rattle.protocol.specs.declared.Identity.{Identity}
 use Rattle.protocol.specs.declared.Acks.{Acks}

@@ -13,7 +13,7 @@ use Rattle.ground.specs.Tests.{split, and_l, and_r, or-e, eqb_same}
 use Rattle.ground.specs.Quantify.{count_to, count_le}
 use Rattle.ground.specs.Mask.{has}
 use Rattle.ground.specs.Update.{upd, upd_other}
-use Rattle.ground.specs.Sizes.{count-new, count_mono}
+use Rattle.ground.proofs.Sizes.{count-new, count_mono}
 use Rattle.model.specs.Routes.{vote_route, ack_route}
 use Rattle.model.specs.declared.Kind.TheVariants.{Vote, Ack}
 use Rattle.protocol.specs.declared.Bench.{Bench}

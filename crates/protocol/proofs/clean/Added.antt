@@ -8,11 +8,11 @@ use lib.Dec.{leb, eqb}
 use mathlib.Core.Logic.{◌⊎◌, inl, inr}
 use borrow.Author.Tests.{leb-true, le-leb, eqb-true}
 use Rattle.ground.specs.Tests.{split, and_l, and_r, or_r, or-e, eqb_same}
-use Rattle.ground.specs.MaskLaws.{insert-own}
+use Rattle.ground.proofs.MaskLaws.{insert-own}
 use Rattle.ground.specs.Mask.{width, has}
 use Rattle.ground.specs.Update.{upd_same}
 use Rattle.votes.specs.VoteSets.{knows}
-use Rattle.votes.specs.VoteLaws.{single-knows, single-wills, union-knows}
+use Rattle.votes.proofs.VoteLaws.{single-knows, single-wills, union-knows}
 use Rattle.votes.specs.declared.VoteSet.{VoteSet}
 use Rattle.ground.specs.Limit.{limit}
 use Rattle.model.specs.Ranges.{is_controller}

@@ -13,7 +13,7 @@ use Rattle.ground.specs.Tests.{split}
 use Rattle.ground.specs.Quantify.{count_to}
 use Rattle.ground.specs.Mask.{has}
 use Rattle.ground.specs.Update.{upd, upd_same, upd_other}
-use Rattle.ground.specs.Sizes.{count-new, none-count}
+use Rattle.ground.proofs.Sizes.{count-new, none-count}
 use Rattle.model.specs.Routes.{vote_route, ack_route}
 use Rattle.model.specs.declared.Kind.TheVariants.{Vote, Ack, Help, Helped}
 use Rattle.model.specs.declared.Event.{Event}

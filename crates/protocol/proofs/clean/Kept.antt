@@ -7,9 +7,9 @@ use lib.Dec.{leb, eqb}
 use mathlib.Core.Logic.{◌⊎◌, inl, inr}
 use borrow.Author.Tests.{leb-true, eqb-true}
 use Rattle.ground.specs.Tests.{no_both, by_cond, and_l, and_r, or-second}
-use Rattle.ground.specs.MaskLaws.{insert-keeps}
+use Rattle.ground.proofs.MaskLaws.{insert-keeps}
 use Rattle.votes.specs.VoteSets.{knows, single}
-use Rattle.votes.specs.JoinLaws.{keeps-known}
+use Rattle.votes.proofs.JoinLaws.{keeps-known}
 use Rattle.votes.specs.declared.VoteSet.{VoteSet}
 use Rattle.ground.specs.Limit.{limit}
 use Rattle.model.specs.Ranges.{is_controller, is_backup}

@@ -11,7 +11,7 @@ use borrow.Author.Tests.{leb-true}
 use Rattle.ground.specs.Tests.{refuted, no_both, split, and_i, or_r}
 use Rattle.ground.specs.Quantify.{all_to, all_of}
 use Rattle.votes.specs.VoteSets.{knows, complete, unanimous}
-use Rattle.votes.specs.VoteLaws.{knows_in-all, knows-complete}
+use Rattle.votes.proofs.VoteLaws.{knows_in-all, knows-complete}
 use Rattle.model.specs.Routes.{vote_route, ack_route}
 use Rattle.model.specs.Numbers.{word_of}
 use Rattle.model.specs.declared.Kind.TheVariants.{Vote, Ack}

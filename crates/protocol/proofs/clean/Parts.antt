@@ -11,7 +11,7 @@ use lib.Dec.{leb, eqb}
 use mathlib.Core.Logic.{◌⊎◌, inl, inr}
 use borrow.Author.Tests.{leb-true, le-leb, eqb-true, ne_eqb}
 use Rattle.ground.specs.Tests.{refuted, no_both, split, and_r, and_i, or_l, or_r, or-e, eqb_same, and_l}
-use Rattle.ground.specs.MaskLaws.{has-none}
+use Rattle.ground.proofs.MaskLaws.{has-none}
 use Rattle.ground.specs.Update.{upd_same}
 use Rattle.votes.specs.VoteSets.{knows}
 use Rattle.ground.specs.Limit.{limit}

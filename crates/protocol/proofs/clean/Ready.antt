@@ -10,8 +10,8 @@ use mathlib.Core.Logic.{inl, inr}
 use borrow.Author.Tests.{leb-true, le-leb, eqb-true, eq-eqb}
 use Rattle.ground.specs.Tests.{no_both, split, by_cond, and_l, and_r, or-e, or_l, or_r}
 use Rattle.ground.specs.Mask.{has}
-use Rattle.ground.specs.MaskLaws.{has_or}
-use Rattle.ground.specs.Collect.{collect-at}
+use Rattle.ground.proofs.MaskLaws.{has_or}
+use Rattle.ground.proofs.Collect.{collect-at}
 use Rattle.ground.specs.Update.{upd_same, upd_other}
 use Rattle.votes.specs.declared.VoteSet.{VoteSet}
 use Rattle.ground.specs.Limit.{limit}

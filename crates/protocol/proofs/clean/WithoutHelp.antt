@@ -11,7 +11,7 @@ use borrow.Author.Tests.{leb-true, eqb-true}
 use Rattle.ground.specs.Limit.{limit}
 use Rattle.ground.specs.Tests.{no_both, split, by_cond, and_l, and_r, or_l, or_no, or-second}
 use Rattle.ground.specs.Mask.{has}
-use Rattle.ground.specs.MaskLaws.{has-none}
+use Rattle.ground.proofs.MaskLaws.{has-none}
 use Rattle.ground.specs.Update.{upd-all}
 use Rattle.model.specs.Ranges.{is_backup}
 use Rattle.model.specs.Numbers.{word_of}

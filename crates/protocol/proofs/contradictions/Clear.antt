@@ -10,12 +10,12 @@ use borrow.Author.Tests.{leb-true, eqb-true, eq-eqb}
 use Rattle.ground.specs.Limit.{limit}
 use Rattle.ground.specs.Tests.{no_both, refuted, and_l, and_r, and_i, same_test}
 use Rattle.ground.specs.Mask.{has, insert, none_above, within}
-use Rattle.ground.specs.MaskLaws.{insert-own, insert_only, none_has}
-use Rattle.ground.specs.Inclusion.{le-none-above, has_within, same_set}
+use Rattle.ground.proofs.MaskLaws.{insert-own, insert_only, none_has}
+use Rattle.ground.proofs.Inclusion.{le-none-above, has_within, same_set}
 use Rattle.votes.specs.VoteSets.{empty, knows, single, union}
-use Rattle.votes.specs.VoteLaws.{single-knows}
+use Rattle.votes.proofs.VoteLaws.{single-knows}
 use Rattle.votes.specs.Joining.{contradicts}
-use Rattle.votes.specs.JoinLaws.{at_agree, join-agreed}
+use Rattle.votes.proofs.JoinLaws.{at_agree, join-agreed}
 use Rattle.votes.specs.declared.VoteSet.{VoteSet}
 use Rattle.votes.specs.declared.Joined.TheVariants.{Agreed}
 use Rattle.model.specs.Ranges.{is_controller}

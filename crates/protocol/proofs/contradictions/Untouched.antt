@@ -8,10 +8,10 @@ use lib.Dec.{eqb}
 use mathlib.Core.Logic.{inl, inr}
 use Rattle.ground.specs.Tests.{split, no_both, or_l, or_r, and_i, eqb_same}
 use Rattle.ground.specs.Mask.{has}
-use Rattle.ground.specs.MaskLaws.{none_has}
+use Rattle.ground.proofs.MaskLaws.{none_has}
 use Rattle.votes.specs.VoteSets.{empty, single, union, union_all}
 use Rattle.votes.specs.Joining.{contradicts, join, join_all, agreed_or}
-use Rattle.votes.specs.JoinLaws.{empty-agrees, join-agreed}
+use Rattle.votes.proofs.JoinLaws.{empty-agrees, join-agreed}
 use Rattle.votes.specs.declared.VoteSet.{VoteSet}
 use Rattle.votes.specs.declared.Joined.{Joined}
 use Rattle.votes.specs.declared.Joined.TheVariants.{Agreed}

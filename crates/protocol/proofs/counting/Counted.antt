@@ -10,7 +10,7 @@ use lib.ListN.{length, length-map}
 use Rattle.ground.specs.Tests.{no_both, split, or_no_l, or_no_r}
 use Rattle.ground.specs.Quantify.{count_to}
 use Rattle.ground.specs.Mask.{has}
-use Rattle.ground.specs.MaskLaws.{has-none, none_has}
+use Rattle.ground.proofs.MaskLaws.{has-none, none_has}
 use Rattle.model.specs.declared.Kind.{Kind}
 use Rattle.model.specs.declared.Kind.TheVariants.{Vote, Ack, Help, Helped}
 use Rattle.model.specs.declared.Event.{Event}

@@ -11,9 +11,9 @@ use mathlib.Core.Logic.{inl, inr}
 use borrow.Author.Tests.{eqb-true, ne_eqb}
 use Rattle.ground.specs.Tests.{no_both, refuted, and_l, and_r, or_l, or-second}
 use Rattle.ground.specs.Quantify.{count_to}
-use Rattle.ground.specs.Sizes.{count-union}
+use Rattle.ground.proofs.Sizes.{count-union}
 use Rattle.ground.specs.Mask.{has, insert}
-use Rattle.ground.specs.MaskLaws.{has-none, has_or, insert_only, none_has}
+use Rattle.ground.proofs.MaskLaws.{has-none, has_or, insert_only, none_has}
 use Rattle.ground.specs.Update.{upd, upd_same, upd_other, upd-all}
 use Rattle.votes.specs.declared.VoteSet.{VoteSet}
 use Rattle.model.specs.declared.Kind.{Kind}

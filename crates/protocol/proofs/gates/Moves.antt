@@ -9,10 +9,10 @@ use lib.Dec.{eqb}
 use mathlib.Core.Logic.{◌⊎◌, inl, inr}
 use borrow.Author.Tests.{leb-true, eqb-true}
 use Rattle.ground.specs.Tests.{no_both, split, by_cond, and_l, and_r}
-use Rattle.ground.specs.MaskLaws.{none_has}
+use Rattle.ground.proofs.MaskLaws.{none_has}
 use Rattle.ground.specs.Mask.{width}
 use Rattle.votes.specs.VoteSets.{wills, single}
-use Rattle.votes.specs.VoteLaws.{single-wills}
+use Rattle.votes.proofs.VoteLaws.{single-wills}
 use Rattle.ground.specs.Update.{upd, upd-all, upd_same, upd_other}
 use Rattle.ground.specs.Limit.{limit}
 use Rattle.model.specs.Ranges.{is_controller}

@@ -7,7 +7,7 @@ use native.Mathlib.Decide.{ℕ_discrete}
 use mathlib.Core.Logic.{◌⊎◌, inl, inr}
 use Rattle.ground.specs.Tests.{split}
 use Rattle.ground.specs.Quantify.{count_to}
-use Rattle.ground.specs.Sizes.{all-count}
+use Rattle.ground.proofs.Sizes.{all-count}
 
 -- where each of 1..m that passes p passes q or r, no more pass p than q and r together
 pub count_cover : (m : ℕ) (p q r : ℕ → Bool) → ((k : ℕ) → 1 ≤ k → k ≤ m → p k ≡ true → (q k ≡ true) ⊎ (r k ≡ true)) → count_to m p ≤ count_to m q + count_to m r

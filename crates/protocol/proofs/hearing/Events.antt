@@ -11,7 +11,7 @@ use borrow.Author.Tests.{leb-true, eqb-true, eq-eqb}
 use Rattle.ground.specs.Limit.{limit}
 use Rattle.ground.specs.Tests.{no_both, split, by_cond, and_l, and_r, or-e, or_l, or_r, or-second}
 use Rattle.ground.specs.Mask.{has}
-use Rattle.ground.specs.MaskLaws.{insert_only, none_has}
+use Rattle.ground.proofs.MaskLaws.{insert_only, none_has}
 use Rattle.ground.specs.Update.{upd, upd_same, upd_other, upd-all}
 use Rattle.votes.specs.declared.VoteSet.{VoteSet}
 use Rattle.model.specs.Ranges.{is_controller, is_backup}

@@ -13,7 +13,7 @@ use Rattle.ground.specs.Tests.{no_both, refuted, and_l}
 use Rattle.ground.specs.Quantify.{count_to, all_to, all-at}
 use Rattle.ground.specs.Limit.{limit}
 use Rattle.ground.specs.Mask.{width, has}
-use Rattle.ground.specs.MaskLaws.{has-none, insert-own, insert_only}
+use Rattle.ground.proofs.MaskLaws.{has-none, insert-own, insert_only}
 use Rattle.ground.specs.Update.{upd_same, upd_other, fun_ext}
 use Rattle.votes.specs.VoteSets.{complete}
 use Rattle.votes.specs.declared.VoteSet.{VoteSet}

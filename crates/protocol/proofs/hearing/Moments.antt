@@ -8,7 +8,7 @@ use native.Mathlib.Omega.{arith}
 use mathlib.Core.Logic.{inl, inr}
 use Rattle.ground.specs.Tests.{no_both, split}
 use Rattle.ground.specs.Mask.{has}
-use Rattle.ground.specs.MaskLaws.{none_has}
+use Rattle.ground.proofs.MaskLaws.{none_has}
 use Rattle.model.specs.RangeLaws.{Ranges, ranges}
 use Rattle.model.specs.declared.Event.{Event}
 use Rattle.protocol.specs.declared.Bench.{Bench}

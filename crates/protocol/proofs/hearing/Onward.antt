@@ -12,7 +12,7 @@ use borrow.Author.Tests.{le-leb}
 use Rattle.ground.specs.Limit.{limit}
 use Rattle.ground.specs.Tests.{no_both, split, and_i, and_l, and_r}
 use Rattle.ground.specs.Mask.{has}
-use Rattle.ground.specs.MaskLaws.{has-none}
+use Rattle.ground.proofs.MaskLaws.{has-none}
 use Rattle.ground.specs.Quantify.{count_to}
 use Rattle.ground.specs.Update.{upd-all, fun_ext}
 use Rattle.votes.specs.declared.VoteSet.{VoteSet}

@@ -9,7 +9,7 @@ use borrow.Author.Tests.{leb-false, le-leb, lt-ltb, ne_eqb}
 use Rattle.ground.specs.Limit.{limit}
 use Rattle.ground.specs.Tests.{no_both, by_cond, or_l, or_r}
 use Rattle.ground.specs.Mask.{width, has}
-use Rattle.ground.specs.MaskLaws.{insert-own, insert-keeps}
+use Rattle.ground.proofs.MaskLaws.{insert-own, insert-keeps}
 use Rattle.votes.specs.Joining.{unanimous_in}
 use Rattle.votes.specs.declared.VoteSet.{VoteSet}
 use Rattle.model.specs.Ranges.{is_backup}

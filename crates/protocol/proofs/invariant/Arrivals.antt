@@ -12,12 +12,12 @@ use borrow.Author.Tests.{not-true, leb-true, le-leb, eqb-true, leb-false}
 use Rattle.ground.specs.Tests.{no_both, split, by_cond, and_l, and_r, or-e, or_l, or_r, eqb_same, same_test}
 use Rattle.ground.specs.Quantify.{count_to}
 use Rattle.ground.specs.Mask.{has, insert}
-use Rattle.ground.specs.MaskLaws.{has-none, has_or, insert-own, insert-keeps, insert_only, insert-from, none_has}
-use Rattle.ground.specs.Collect.{has-collect}
+use Rattle.ground.proofs.MaskLaws.{has-none, has_or, insert-own, insert-keeps, insert_only, insert-from, none_has}
+use Rattle.ground.proofs.Collect.{has-collect}
 use Rattle.ground.specs.Update.{upd, upd_same}
 use Rattle.votes.specs.VoteSets.{knows, single}
-use Rattle.votes.specs.VoteLaws.{single-knows, single-wills, union-knows}
-use Rattle.votes.specs.JoinLaws.{keeps-known}
+use Rattle.votes.proofs.VoteLaws.{single-knows, single-wills, union-knows}
+use Rattle.votes.proofs.JoinLaws.{keeps-known}
 use Rattle.votes.specs.declared.VoteSet.{VoteSet}
 use Rattle.ground.specs.Limit.{limit}
 use Rattle.model.specs.Ranges.{is_backup}

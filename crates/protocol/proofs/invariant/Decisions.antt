@@ -9,7 +9,7 @@ use mathlib.Core.Logic.{inr}
 use Rattle.ground.specs.Tests.{no_both, by_cond}
 use Rattle.ground.specs.Quantify.{count_to}
 use Rattle.ground.specs.Mask.{has}
-use Rattle.ground.specs.MaskLaws.{has-none, none_has}
+use Rattle.ground.proofs.MaskLaws.{has-none, none_has}
 use Rattle.ground.specs.Update.{upd-all}
 use Rattle.votes.specs.VoteSets.{empty}
 use Rattle.model.specs.Numbers.{word_of}

@@ -8,7 +8,7 @@ use native.Mathlib.Decide.{dec_le}
 use mathlib.Core.Logic.{◌⊎◌, inl, inr}
 use Rattle.ground.specs.Tests.{no_both}
 use Rattle.votes.specs.VoteSets.{knows, wills, unanimous}
-use Rattle.votes.specs.VoteLaws.{unanimous-known}
+use Rattle.votes.proofs.VoteLaws.{unanimous-known}
 use Rattle.model.specs.declared.Outcome.TheVariants.{Stay, Move}
 use Rattle.protocol.specs.declared.Sent.{Sent}
 use Rattle.protocol.proofs.view.View.{View}

@@ -9,12 +9,12 @@ use borrow.Author.Tests.{lt-ltb}
 use Rattle.ground.specs.Tests.{or_l, or_r}
 use Rattle.ground.specs.Quantify.{count_to, count_le}
 use Rattle.ground.specs.Mask.{has}
-use Rattle.ground.specs.MaskLaws.{has-insert, insert-is, insert-keeps}
+use Rattle.ground.proofs.MaskLaws.{has-insert, insert-is, insert-keeps}
 use Rattle.ground.specs.Update.{upd-all}
-use Rattle.ground.specs.Sizes.{insert-size}
+use Rattle.ground.proofs.Sizes.{insert-size}
 use Rattle.ground.specs.Lists.{nth-put, length-put, nth}
 use Rattle.votes.specs.VoteSets.{empty, wills, union}
-use Rattle.votes.specs.VoteLaws.{union-wills}
+use Rattle.votes.proofs.VoteLaws.{union-wills}
 use Rattle.votes.specs.declared.VoteSet.{VoteSet}
 use Rattle.ground.specs.Limit.{limit}
 use Rattle.model.specs.declared.Outcome.{Outcome}

@@ -12,11 +12,11 @@ use borrow.Author.Tests.{leb-true, le-leb}
 use Rattle.ground.specs.Tests.{no_both, refuted, and_l, and_r, or_r}
 use Rattle.ground.specs.Quantify.{Found, all_to, all-at, count_to}
 use Rattle.ground.specs.Mask.{has}
-use Rattle.ground.specs.MaskLaws.{has-none, has_or}
+use Rattle.ground.proofs.MaskLaws.{has-none, has_or}
 use Rattle.ground.specs.Update.{upd, upd_same}
 use Rattle.votes.specs.VoteSets.{empty, knows, union, complete, unanimous}
 use Rattle.votes.specs.Joining.{unanimous_in}
-use Rattle.votes.specs.VoteLaws.{union-knows, union-unanimous, knows_in-all, complete-knows}
+use Rattle.votes.proofs.VoteLaws.{union-knows, union-unanimous, knows_in-all, complete-knows}
 use Rattle.votes.specs.declared.VoteSet.{VoteSet}
 use Rattle.ground.specs.Limit.{limit}
 use Rattle.model.specs.Routes.{recipients}

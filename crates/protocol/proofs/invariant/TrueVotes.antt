@@ -9,12 +9,12 @@ use borrow.Author.Tests.{not-true}
 use Rattle.ground.specs.Tests.{no_both, and_l, and_r, and_i, or-e, or_l, or_r, same_test, refuted}
 use Rattle.ground.specs.Quantify.{Found, not-all}
 use Rattle.ground.specs.Mask.{has}
-use Rattle.ground.specs.MaskLaws.{none_has}
+use Rattle.ground.proofs.MaskLaws.{none_has}
 use Rattle.ground.specs.Lists.{nth}
 use Rattle.votes.specs.VoteSets.{empty, knows, wills, union, union_all, complete, unanimous}
-use Rattle.votes.specs.VoteLaws.{union-knows, union-wills, knows_in-all, wills_in-all, all-known_by, all_willed_by, complete-knows, unanimous-known, unanimous-willing, votes-unanimous, unanimous-is}
+use Rattle.votes.proofs.VoteLaws.{union-knows, union-wills, knows_in-all, wills_in-all, all-known_by, all_willed_by, complete-knows, unanimous-known, unanimous-willing, votes-unanimous, unanimous-is}
 use Rattle.votes.specs.Joining.{contradicts, join, join_all, agreed_or}
-use Rattle.votes.specs.JoinLaws.{at_agree, join-agreed, all-agreed}
+use Rattle.votes.proofs.JoinLaws.{at_agree, join-agreed, all-agreed}
 use Rattle.votes.specs.declared.VoteSet.{VoteSet}
 use Rattle.votes.specs.declared.Joined.{Joined}
 use Rattle.votes.specs.declared.Joined.TheVariants.{Agreed}

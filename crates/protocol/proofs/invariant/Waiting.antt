@@ -15,7 +15,7 @@ use Rattle.votes.specs.VoteSets.{knows, wills, union, union_all, unanimous}
 use Rattle.votes.specs.Joining.{join_next, unanimous_in, agreed_or}
 use Rattle.votes.specs.declared.Joined.{Joined}
 use Rattle.votes.specs.declared.Joined.TheVariants.{Agreed}
-use Rattle.votes.specs.VoteLaws.{all-unanimous}
+use Rattle.votes.proofs.VoteLaws.{all-unanimous}
 use Rattle.model.specs.Numbers.{word_of, says_move, is_stay}
 use Rattle.model.specs.declared.Outcome.{Outcome}
 use Rattle.protocol.specs.declared.Controller.{Controller}

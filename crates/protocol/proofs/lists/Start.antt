@@ -8,7 +8,7 @@ use native.Mathlib.Omega.{arith}
 use lib.ListN.{length, replicate}
 use mathlib.Core.Logic.{◌⊎◌, inl, inr}
 use Rattle.ground.specs.Tests.{split, by_cond}
-use Rattle.ground.specs.MaskLaws.{has-none, none_has}
+use Rattle.ground.proofs.MaskLaws.{has-none, none_has}
 use Rattle.ground.specs.Lists.{nth}
 use Rattle.votes.specs.VoteSets.{empty}
 use Rattle.votes.specs.declared.VoteSet.{VoteSet}

@@ -7,7 +7,7 @@ use lib.ListN.{length}
 use Rattle.ground.specs.Tests.{no_both, by_cond, and_l}
 use Rattle.ground.specs.Lists.{put, length-put}
 use Rattle.ground.specs.Mask.{has, insert}
-use Rattle.ground.specs.MaskLaws.{insert-keeps}
+use Rattle.ground.proofs.MaskLaws.{insert-keeps}
 use Rattle.model.specs.Numbers.{is_none}
 use Rattle.model.specs.declared.Outcome.{Outcome}
 use Rattle.protocol.specs.declared.Acceptor.{Acceptor}

@@ -13,7 +13,7 @@ use Rattle.ground.specs.Tests.{split, by_cond, and_l, and_r}
 use Rattle.ground.specs.Update.{upd, upd_same}
 use Rattle.ground.specs.Lists.{nth, nth-put-at}
 use Rattle.ground.specs.Mask.{width, has}
-use Rattle.ground.specs.MaskLaws.{insert-own}
+use Rattle.ground.proofs.MaskLaws.{insert-own}
 use Rattle.ground.specs.Quantify.{count_to}
 use Rattle.model.specs.Numbers.{is_none, word_of}
 use Rattle.model.specs.declared.Outcome.{Outcome}

@@ -14,9 +14,9 @@ use Rattle.ground.specs.Tests.{split, by_cond, and_l, and_r, or_r}
 use Rattle.ground.specs.Update.{upd, upd-all, fun_ext}
 use Rattle.ground.specs.Lists.{nth, put, nth-put, length-put}
 use Rattle.ground.specs.Mask.{has}
-use Rattle.ground.specs.MaskLaws.{none_has}
+use Rattle.ground.proofs.MaskLaws.{none_has}
 use Rattle.ground.specs.Quantify.{count_to, Found, any_at}
-use Rattle.ground.specs.Sizes.{count_mono}
+use Rattle.ground.proofs.Sizes.{count_mono}
 use Rattle.model.specs.Ranges.{is_controller}
 use Rattle.model.specs.Numbers.{word_of, is_none, says_move, is_stay}
 use Rattle.model.specs.declared.Outcome.{Outcome}

@@ -11,7 +11,7 @@ use Rattle.ground.specs.Tests.{split}
 use Rattle.ground.specs.Update.{upd, upd_same, fun_ext}
 use Rattle.ground.specs.Lists.{nth, nth-put-at}
 use Rattle.ground.specs.Mask.{width, has}
-use Rattle.ground.specs.MaskLaws.{has-insert}
+use Rattle.ground.proofs.MaskLaws.{has-insert}
 use Rattle.model.specs.declared.Outcome.{Outcome}
 use Rattle.protocol.specs.declared.BallotRow.{BallotRow}
 use Rattle.protocol.specs.Ballots.{report}

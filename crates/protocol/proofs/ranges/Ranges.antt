@@ -10,8 +10,8 @@ use borrow.Author.Tests.{leb-true, ne_eqb, eqb-false, not-true}
 use Rattle.ground.specs.Limit.{limit}
 use Rattle.ground.specs.Tests.{by_cond, and_l, and_r, and_i, or-e}
 use Rattle.ground.specs.Mask.{has}
-use Rattle.ground.specs.MaskLaws.{insert_only, none_has}
-use Rattle.ground.specs.Collect.{has-collect}
+use Rattle.ground.proofs.MaskLaws.{insert_only, none_has}
+use Rattle.ground.proofs.Collect.{has-collect}
 use Rattle.ground.specs.Update.{upd-all}
 use Rattle.votes.specs.VoteSets.{empty, knows, wills}
 use Rattle.votes.specs.declared.VoteSet.{VoteSet}

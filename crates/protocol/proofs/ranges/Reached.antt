@@ -11,8 +11,8 @@ use mathlib.Core.Logic.{inl, inr}
 use borrow.Author.Tests.{le-leb, eq-eqb}
 use Rattle.ground.specs.Tests.{no_both, and_l, and_i}
 use Rattle.ground.specs.Mask.{has, within}
-use Rattle.ground.specs.MaskLaws.{has-none, none_has}
-use Rattle.ground.specs.Inclusion.{has_within}
+use Rattle.ground.proofs.MaskLaws.{has-none, none_has}
+use Rattle.ground.proofs.Inclusion.{has_within}
 use Rattle.ground.specs.Limit.{limit}
 use Rattle.votes.specs.VoteSets.{empty}
 use Rattle.votes.specs.Contradictions.{WellFormed}

@@ -13,9 +13,9 @@ use borrow.Author.Tests.{le-leb, le-ltb, lt-ltb, ne_eqb}
 use Rattle.ground.specs.Limit.{limit}
 use Rattle.ground.specs.Tests.{no_both}
 use Rattle.ground.specs.Mask.{has, insert}
-use Rattle.ground.specs.MaskLaws.{has-none, insert-own, insert-keeps}
+use Rattle.ground.proofs.MaskLaws.{has-none, insert-own, insert-keeps}
 use Rattle.ground.specs.Quantify.{count_to}
-use Rattle.ground.specs.Sizes.{none-count, all-count}
+use Rattle.ground.proofs.Sizes.{none-count, all-count}
 use Rattle.ground.specs.Update.{upd, upd_same, upd_other}
 use Rattle.model.specs.Numbers.{is_none}
 use Rattle.model.specs.Ranges.{sizes_in_range, is_controller}

@@ -12,7 +12,7 @@ use borrow.Author.Tests.{le-leb, ne_eqb}
 use Rattle.ground.specs.Limit.{limit}
 use Rattle.ground.specs.Tests.{no_both, by_cond, and_i, and_l, and_r, or-second}
 use Rattle.ground.specs.Mask.{has, insert}
-use Rattle.ground.specs.MaskLaws.{has-none, none_has, insert_only}
+use Rattle.ground.proofs.MaskLaws.{has-none, none_has, insert_only}
 use Rattle.ground.specs.Update.{upd_same}
 use Rattle.votes.specs.Joining.{unanimous_in}
 use Rattle.model.specs.Ranges.{sizes_in_range, is_backup}

@@ -9,7 +9,7 @@ use lib.Dec.{eqb, leb}
 use borrow.Author.Tests.{le-leb, eqb-true}
 use Rattle.ground.specs.Tests.{no_both, by_cond, and_l}
 use Rattle.ground.specs.Mask.{width, has, insert}
-use Rattle.ground.specs.MaskLaws.{insert-own, insert-keeps}
+use Rattle.ground.proofs.MaskLaws.{insert-own, insert-keeps}
 use Rattle.model.specs.Numbers.{is_none}
 use Rattle.model.specs.declared.Outcome.{Outcome}
 use Rattle.protocol.specs.declared.Acceptor.{Acceptor}

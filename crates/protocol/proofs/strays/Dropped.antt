@@ -10,9 +10,9 @@ use mathlib.Core.Logic.{inl, inr}
 use borrow.Author.Tests.{eqb-true, ne_eqb}
 use Rattle.ground.specs.Tests.{split, by_cond, and_l}
 use Rattle.ground.specs.Quantify.{count_to}
-use Rattle.ground.specs.Sizes.{count-new}
+use Rattle.ground.proofs.Sizes.{count-new}
 use Rattle.ground.specs.Mask.{width, has, remove}
-use Rattle.ground.specs.MaskLaws.{has-remove}
+use Rattle.ground.proofs.MaskLaws.{has-remove}
 use Rattle.ground.specs.Lists.{nth}
 use Rattle.ground.specs.Update.{upd, upd_same, upd_other, fun_ext}
 use Rattle.votes.specs.VoteSets.{empty}

@@ -12,14 +12,14 @@ use Rattle.ground.specs.Limit.{limit}
 use Rattle.ground.specs.Tests.{split, no_both, refuted, by_cond, and_l, and_r}
 use Rattle.ground.specs.Quantify.{count_to}
 use Rattle.ground.specs.Mask.{width, has, insert, within}
-use Rattle.ground.specs.MaskLaws.{has-none, has-insert}
-use Rattle.ground.specs.Inclusion.{within_has}
+use Rattle.ground.proofs.MaskLaws.{has-none, has-insert}
+use Rattle.ground.proofs.Inclusion.{within_has}
 use Rattle.ground.specs.Lists.{nth}
 use Rattle.ground.specs.Update.{upd_other}
 use Rattle.votes.specs.VoteSets.{empty, knows, wills, single}
-use Rattle.votes.specs.VoteLaws.{union-knows, union-wills}
+use Rattle.votes.proofs.VoteLaws.{union-knows, union-wills}
 use Rattle.votes.specs.Joining.{contradicts, agreed_or}
-use Rattle.votes.specs.JoinLaws.{join-agreed, join-refused}
+use Rattle.votes.proofs.JoinLaws.{join-agreed, join-refused}
 use Rattle.votes.specs.declared.VoteSet.{VoteSet}
 use Rattle.votes.specs.declared.Joined.{Joined}
 use Rattle.model.specs.RangeLaws.{ranges, member, is_member}

@@ -1,5 +1,5 @@
 -- `votes::contradictions` meets its contract.
-use Rattle.votes.specs.MemberLaws.{contradictions}
+use Rattle.votes.proofs.MemberLaws.{contradictions}
 use Rattle.std.proofs.Common.{rules}
 use Rattle.votes.proofs.contradictions.Goals as goal
 

@@ -6,7 +6,7 @@ use mathlib.Core.List.{List}
 use native.Mathlib.Omega.{arith}
 use native.Mathlib.Numerals.{add-one}
 use borrow.Author.Tests.{not-true, not-false}
-use Rattle.ground.specs.Inclusion.{has-past}
+use Rattle.ground.proofs.Inclusion.{has-past}
 use Rattle.ground.specs.Limit.{limit}
 use Rattle.ground.specs.Mask.{has}
 use Rattle.ground.specs.Lists.{nth}

@@ -1,7 +1,7 @@
 use Prim.Native.Nat.{suc, ◌<◌, ◌^◌}
 use native.Mathlib.Omega.{arith}
 use native.Mathlib.Numerals.{add-one}
-use Rattle.ground.specs.Inclusion.{has-past}
+use Rattle.ground.proofs.Inclusion.{has-past}
 use Rattle.ground.specs.Lists.{nth}
 use Rattle.protocol.specs.Rules.{second_knows}
 use Rattle.std.proofs.Common.{rules}

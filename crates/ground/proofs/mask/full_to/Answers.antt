@@ -3,7 +3,7 @@ use Rattle.ground.proofs.Computed.{filled}
 use mathlib.Core.Path.{sym}
 use native.Mathlib.Omega.{arith}
 use lib.Pow.{pow_pos}
-use Rattle.ground.specs.Inclusion.{full-past}
+use Rattle.ground.proofs.Inclusion.{full-past}
 use Rattle.std.proofs.Common.{rules}
 use Rattle.ground.proofs.mask.full_to.Goals as goal
 

@@ -2,8 +2,8 @@
 use mathlib.Core.Path.{◌≡◌, sym}
 use native.Mathlib.Omega.{arith}
 use Rattle.ground.specs.Mask.{has}
-use Rattle.ground.specs.MaskLaws.{has-at}
-use Rattle.ground.specs.Inclusion.{has-past}
+use Rattle.ground.proofs.MaskLaws.{has-at}
+use Rattle.ground.proofs.Inclusion.{has-past}
 use Rattle.std.proofs.Common.{rules}
 use Rattle.ground.proofs.mask.has.Goals as goal
 

@@ -1,5 +1,5 @@
 -- `ground::insert` meets its contract: a number that has a bit sets it, and no other changes the set.
-use Rattle.ground.specs.MaskLaws.{insert-zero, insert-past}
+use Rattle.ground.proofs.MaskLaws.{insert-zero, insert-past}
 use Rattle.ground.proofs.Computed.{inserted}
 use mathlib.Core.Path.{◌≡◌, sym}
 use native.Mathlib.Omega.{arith}

@@ -2,7 +2,7 @@
 use mathlib.Core.Path.{sym}
 use native.Mathlib.Omega.{arith}
 use Rattle.ground.specs.Mask.{none_above}
-use Rattle.ground.specs.Inclusion.{none-above-past}
+use Rattle.ground.proofs.Inclusion.{none-above-past}
 use Rattle.std.proofs.Common.{rules}
 use Rattle.ground.proofs.mask.none_above.Goals as goal
 

@@ -1,7 +1,7 @@
 -- `ground::size` meets its contract: the count of the set bits is the count of the members.
 use lib.Pow.{pow_pos}
 use lib.Count.{ones-le}
-use Rattle.ground.specs.Sizes.{size_le}
+use Rattle.ground.proofs.Sizes.{size_le}
 use Rattle.ground.proofs.Computed.{counted, counted-all}
 use native.Mathlib.Omega.{arith}
 use Rattle.std.proofs.Common.{rules}

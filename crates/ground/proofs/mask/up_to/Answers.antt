@@ -3,7 +3,7 @@ use Prim.Native.Nat.{ℕ, ◌-◌}
 use mathlib.Core.Path.{sym, ◌∙◌, ap}
 use native.Mathlib.Omega.{arith}
 use lib.Pow.{pow_pos}
-use Rattle.ground.specs.UpTo.{up-to_ones, up-to_wide}
+use Rattle.ground.proofs.UpTo.{up-to_ones, up-to_wide}
 use Rattle.ground.proofs.Computed.{shifted}
 use Rattle.std.proofs.Common.{rules}
 use Rattle.ground.proofs.mask.up_to.Goals as goal

@@ -1,6 +1,6 @@
 -- `model::routes::others` meets its contract, by the law of sets cut to 1..n.
 use mathlib.Core.Path.{◌∙◌}
-use Rattle.ground.specs.UpTo.{others_are}
+use Rattle.ground.proofs.UpTo.{others_are}
 use Rattle.model.specs.Routes.{others_of}
 use Rattle.std.proofs.Common.{rules}
 use Rattle.model.proofs.routes.others.Goals as goal

@@ -2,7 +2,7 @@
 use Prim.Native.Nat.{◌+◌}
 use mathlib.Core.Path.{sym}
 use native.Mathlib.Omega.{arith}
-use Rattle.records.specs.ByteLaws.{byte_past}
+use Rattle.records.proofs.ByteLaws.{byte_past}
 use Rattle.std.proofs.Common.{rules}
 use Rattle.records.proofs.number.byte_after.Goals as goal
 

@@ -12,11 +12,11 @@ use Rattle.std.proofs.Math.Logic.{inl, inr}
 use Rattle.ground.specs.Tests.{split, no_both, refuted, and_l, and_r, and_i, or_l, or_r, same_test, by_cond, or-second}
 use Rattle.ground.specs.Quantify.{Found}
 use Rattle.ground.specs.Mask.{has, within}
-use Rattle.ground.specs.MaskLaws.{has_and, has_xor, has-none, none_has}
-use Rattle.ground.specs.Inclusion.{empty-zero, some-member, within_has}
+use Rattle.ground.proofs.MaskLaws.{has_and, has_xor, has-none, none_has}
+use Rattle.ground.proofs.Inclusion.{empty-zero, some-member, within_has}
 use Rattle.ground.specs.Lists.{nth, nth_past}
 use Rattle.votes.specs.VoteSets.{empty, knows, wills, union, union_all}
-use Rattle.votes.specs.VoteLaws.{union-knows, union-wills, union_comm, union_assoc, union-empty, union-within}
+use Rattle.votes.proofs.VoteLaws.{union-knows, union-wills, union_comm, union_assoc, union-empty, union-within}
 use Rattle.votes.specs.Joining.{disputed, contradicts, join, agreed_or, join_next, join_from, join_list, join_all, agrees_with, pairwise}
 use Rattle.votes.specs.Tallies.{union_list, sets_of}
 use Rattle.votes.specs.Contradictions.{WellFormed, AllWellFormed, Differ}

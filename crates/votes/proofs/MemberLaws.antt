@@ -13,11 +13,11 @@ use Rattle.ground.specs.Tests.{and_l, and_r, and_i, same_test}
 use Rattle.ground.specs.Lists.{nth}
 use Rattle.ground.specs.Mask.{has}
 use Rattle.votes.specs.VoteSets.{empty, union_all, Among}
-use Rattle.votes.specs.VoteLaws.{all_same}
+use Rattle.votes.proofs.VoteLaws.{all_same}
 use Rattle.votes.specs.Joining.{contradicts, joined_number, joined_values, join_all, agrees_with, pairwise}
 use Rattle.votes.specs.Tallies.{sets_of}
 use Rattle.votes.specs.Contradictions.{AllWellFormed, Contradictions}
-use Rattle.votes.specs.JoinLaws.{at_agree, contradict-differ, differ-contradicts, contradicts_swap, join-refused, join-agreed, join_swap, monotone, list-is, senders_are}
+use Rattle.votes.proofs.JoinLaws.{at_agree, contradict-differ, differ-contradicts, contradicts_swap, join-refused, join-agreed, join_swap, monotone, list-is, senders_are}
 use Rattle.votes.specs.declared.VoteSet.{VoteSet}
 use Rattle.votes.specs.declared.Joined.{Joined}
 use Rattle.votes.specs.declared.Joined.TheVariants.{Agreed, Contradiction}

@@ -6,7 +6,7 @@ use Rattle.std.proofs.Math.Path.{ap}
 use Rattle.model.specs.Questions.{Reply, accepted, refused, Question, first_no}
 use Rattle.model.specs.QuestionLaws.{AllYes, all_yes, yes-all}
 use Rattle.records.specs.Bytes.{byte, number2, bytes2, bytes4, AllBytes, Width, one, two, four, size, number_at, bytes_of_width, numbers_at, bytes_of_widths, total_width}
-use Rattle.records.specs.ByteLaws.{number-of-two, number-of-four, of_two, of_four}
+use Rattle.records.proofs.ByteLaws.{number-of-two, number-of-four, of_two, of_four}
 use Rattle.records.specs.Codec.{Mark, marked, unmarked, mark_bytes, mark_length, mark_question, Reading, is_record, is_refusal, Form, form_length, fields_by, value_by, form_bytes, form_questions, Codec, own_form, value_on, bytes_of, read_questions, returned, reads, write_reply, written, writes}
 use Rattle.records.specs.Promises.{In32Bits, answer_by, Promises}
 

@@ -8,8 +8,8 @@ use Rattle.ground.specs.Tests.{and_l, and_r, and_i, or-e, or_l, or_r, same_test}
 use Rattle.ground.specs.Quantify.{all_to, all-at, all_of, Found}
 use Rattle.ground.specs.Update.{upd}
 use Rattle.ground.specs.Mask.{width, has, insert, full_to, within}
-use Rattle.ground.specs.MaskLaws.{has-none, has-insert, full_is, none_has}
-use Rattle.ground.specs.Inclusion.{or_assoc, within_has, has_within}
+use Rattle.ground.proofs.MaskLaws.{has-none, has-insert, full_is, none_has}
+use Rattle.ground.proofs.Inclusion.{or_assoc, within_has, has_within}
 use Rattle.ground.specs.Lists.{nth}
 use Rattle.votes.specs.VoteSets.{empty, knows, wills, single, union, complete, unanimous, union_all, Among}
 use Rattle.votes.specs.Halves.{known_half, willing_half, on-union, in_all, on-all_by, same-sets}

@@ -9,7 +9,7 @@ use Rattle.ground.specs.Tests.{split}
 use Rattle.ground.specs.Quantify.{count_to, count_le}
 use Rattle.ground.specs.Update.{upd, upd_same, upd_other}
 use Rattle.ground.specs.Mask.{width, has, insert}
-use Rattle.ground.specs.MaskLaws.{low-suc, insert-is}
+use Rattle.ground.proofs.MaskLaws.{low-suc, insert-is}
 
 -- counts ---------------------------------------------------------------------------
 

@@ -10,7 +10,7 @@ use Rattle.std.specs.Int.Bits.{bit_or}
 use Rattle.ground.specs.Tests.{split, no_both, refuted, or_l}
 use Rattle.ground.specs.Quantify.{any_to, all-at, any_at, any_of, Found}
 use Rattle.ground.specs.Mask.{has, full_to, none_above, within}
-use Rattle.ground.specs.MaskLaws.{low-suc, has_or, has-none, full_is}
+use Rattle.ground.proofs.MaskLaws.{low-suc, has_or, has-none, full_is}
 
 -- bits that no member has ---------------------------------------------------------
 

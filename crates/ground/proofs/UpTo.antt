@@ -11,9 +11,9 @@ use Rattle.std.proofs.lemmas.Nat.{and_le_l, and_le_r}
 use borrow.Author.Tests.{eq-eqb, lt-leb, le-leb}
 use Rattle.ground.specs.Quantify.{all-at}
 use Rattle.ground.specs.Mask.{width, has, insert, remove, full_to, collect, up_to}
-use Rattle.ground.specs.MaskLaws.{has_and, has-remove-low, full_is}
-use Rattle.ground.specs.Inclusion.{has-past, same_set}
-use Rattle.ground.specs.Collect.{collect-past, collect-at, collect_fits}
+use Rattle.ground.proofs.MaskLaws.{has_and, has-remove-low, full_is}
+use Rattle.ground.proofs.Inclusion.{has-past, same_set}
+use Rattle.ground.proofs.Collect.{collect-past, collect-at, collect_fits}
 
 -- masks with the same members are equal
 same-mask : (a b : ℕ) → a < 2 ^ width → b < 2 ^ width → ((k : ℕ) → 1 ≤ k → k ≤ width → has a k ≡ has b k) → a ≡ b

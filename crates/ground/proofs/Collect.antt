@@ -8,7 +8,7 @@ use Rattle.std.proofs.lemmas.Nat.{or_lt}
 use Rattle.std.proofs.lemmas.Bool.{lt-leb}
 use Rattle.ground.specs.Tests.{by_cond}
 use Rattle.ground.specs.Mask.{width, has, insert, collect}
-use Rattle.ground.specs.MaskLaws.{has-none, insert-own, insert-other}
+use Rattle.ground.proofs.MaskLaws.{has-none, insert-own, insert-other}
 
 has-zero : (m : ℕ) → has m 0 ≡ false
 unfolding has
