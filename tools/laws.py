@@ -14,7 +14,12 @@ MOVED = {
     "ground": ["MaskLaws", "Inclusion", "Collect", "UpTo", "Sizes"],
     "votes": ["VoteLaws", "JoinLaws", "MemberLaws"],
     "xorshift": ["XorshiftLaws"],
-    "records": ["ByteLaws", "CodecLaws"],
+    "records": ["ByteLaws", "CodecLaws", "FrameLaws"],
+    "generator": ["FileLaws", "ReplyLaws", "OutputLaws"],
+    "bench_report": ["Room"],
+    "levels": ["PairLaws", "EndsLaws"],
+    "tariff": ["TariffLaws", "ChargeLaws"],
+    "dues": ["PiecesLaws"],
 }
 
 

@@ -24,7 +24,7 @@ use Rattle.bench_report.specs.declared.Summary.{Summary}
 use Rattle.bench_report.specs.Limits.{longest_schedule, most_answers, is_too_long, longest_report, longest_output}
 use Rattle.bench_report.specs.Lines.{report_of}
 use Rattle.bench_report.specs.Report.{too_long, reported}
-use Rattle.bench_report.specs.Room.{report-length, report-some}
+use Rattle.bench_report.proofs.Room.{report-length, report-some}
 use Rattle.bench_summary.specs.Summary.{summary_of}
 use Rattle.schedule_input.specs.Room.{either_fits, either-some}
 use Rattle.bench_output.specs.Output.{bench_after, output_of, printed_of}

@@ -1,3 +1,4 @@
+pub mod Room
 mod Fitting
 mod Short
 mod Counting

@@ -4,5 +4,4 @@ pub mod Lines
 pub mod Report
 pub mod Listing
 -- how long it can be
-pub mod Room
 pub mod Digits

@@ -8,4 +8,3 @@ pub mod Printed
 pub mod SheetLaws
 pub mod SumLaws
 pub mod PrintedLaws
-pub mod PiecesLaws

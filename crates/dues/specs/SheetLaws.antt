@@ -4,7 +4,7 @@ use Rattle.std.proofs.Common.{arith, add-one}
 use Rattle.records.specs.Codes.{outcome_of, flag_of}
 use Rattle.tariff.specs.Shares.{upper_share, lower_share}
 use Rattle.tariff.specs.ShareLaws.{upper-most}
-use Rattle.tariff.specs.ChargeLaws.{charge-most}
+use Rattle.tariff.proofs.ChargeLaws.{charge-most}
 use Rattle.dues.specs.declared.Lockage.{Lockage}
 use Rattle.dues.specs.Sheet.{charge_of, lockage_at, lockages_to, every, total}
 

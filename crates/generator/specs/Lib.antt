@@ -6,6 +6,3 @@ pub mod Claim
 pub mod Output
 -- laws
 pub mod DrawingLaws
-pub mod FileLaws
-pub mod ReplyLaws
-pub mod OutputLaws

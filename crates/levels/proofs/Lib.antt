@@ -1,1 +1,4 @@
+pub mod PairLaws
+pub mod EndsLaws
 pub mod HeightLaws
+pub mod ExamplesRight

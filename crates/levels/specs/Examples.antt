@@ -1,15 +1,10 @@
 -- Each answer is met: a table of ranges in mm and what they are answered.
-use Rattle.std.specs.Prelude.{◌≡◌, ℕ, ◌-◌, ◌^◌, List, [], ◌∷◌, map, ℤ, pos, negsuc, refl}
-use Rattle.std.proofs.Common.{subst}
-use Rattle.model.specs.Positions.{millimetres}
-use Rattle.model.specs.Questions.{unless, first_no}
+use Rattle.std.specs.Prelude.{ℕ, ◌-◌, ◌^◌, List, [], ◌∷◌, ℤ, pos, negsuc}
 use Rattle.levels.specs.declared.Range.{Range}
 use Rattle.levels.specs.declared.Willingness.{Willingness}
 use Rattle.levels.specs.declared.Willingness.TheVariants.{Willing, CertainlyUnwilling, Unsure, Refused}
 use Rattle.levels.specs.Heads.{mm, minus}
 use Rattle.levels.specs.Judged.{Judged}
-use Rattle.levels.specs.Ends.{by_heads, willingness}
-use Rattle.levels.specs.EndsLaws.{ends-decide}
 
 -- a level in two's complement, and a range
 abbrev pub encoded : ℤ → ℕ
@@ -49,17 +44,3 @@ examples = row (mm 1200 to mm 1250) (mm 1190 to mm 1210) Willing
 abbrev pub Right : List Example → Type 0
 Right [] = Unit
 Right (e ∷ es) = Judged e.above e.below e.answer × Right es
-
-found : Example → Willingness
-found e = willingness e.above e.below
-
-all_right : (es : List Example) → map found es ≡ map (λ (e : Example). e.answer) es → Right es
-unfolding found
-all_right [] p = tt
-all_right (e ∷ es) p =
-    let q : willingness e.above e.below ≡ e.answer = cc in
-    (subst (Judged e.above e.below) q (ends-decide e.above e.below), all_right es (cc))
-
-pub examples_right : Right examples
-unfolding found willingness first_no unless by_heads millimetres
-examples_right = all_right examples refl

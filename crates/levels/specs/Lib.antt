@@ -5,6 +5,4 @@ pub mod Judged
 pub mod Ends
 pub mod Heights
 pub mod Integers
-pub mod PairLaws
-pub mod EndsLaws
 pub mod Examples

@@ -6,7 +6,7 @@ use Rattle.levels.specs.declared.Willingness.{Willingness}
 use Rattle.levels.specs.declared.Willingness.TheVariants.{Willing, CertainlyUnwilling, Unsure, Refused}
 use Rattle.levels.specs.Judged.{Judged}
 use Rattle.levels.specs.Ends.{willingness}
-use Rattle.levels.specs.EndsLaws.{ends-decide, judged-once}
+use Rattle.levels.proofs.EndsLaws.{ends-decide, judged-once}
 use Rattle.levels_text.specs.Output.{range_at, willingness_in, words, output_of}
 
 -- of an input of 16 bytes the program prints the words of the answer that is right for its two ranges

@@ -8,7 +8,7 @@ use Rattle.model.specs.Questions.{number, first_no}
 use Rattle.model.specs.declared.Telegram.{Telegram}
 use Rattle.records.specs.Codec.{form_length, fields_by, write_reply, writes}
 use Rattle.records.specs.Frames.{frame_questions, write_number, buffer_after}
-use Rattle.records.specs.FrameLaws.{record-written}
+use Rattle.records.proofs.FrameLaws.{record-written}
 use Rattle.message_record.specs.declared.BallotFields.{BallotFields}
 use Rattle.message_record.specs.declared.Fields.{Fields}
 use Rattle.message_record.specs.declared.MessageBody.{MessageBody}

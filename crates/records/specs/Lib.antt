@@ -5,4 +5,3 @@ pub mod Rows
 pub mod Codec
 pub mod Promises
 pub mod Frames
-pub mod FrameLaws

@@ -14,9 +14,9 @@ use Rattle.event_record.specs.Events.{event_length}
 use Rattle.generator.specs.File.{file_of, most_drawn, asked, refusal_of, generated}
 use Rattle.generator.specs.Claim.{records_in}
 use Rattle.generator.specs.Output.{longest_output}
-use Rattle.generator.specs.OutputLaws.{limits}
-use Rattle.generator.specs.FileLaws.{length_file}
-use Rattle.generator.specs.ReplyLaws.{file-reply}
+use Rattle.generator.proofs.OutputLaws.{limits}
+use Rattle.generator.proofs.FileLaws.{length_file}
+use Rattle.generator.proofs.ReplyLaws.{file-reply}
 use Rattle.steps_back.specs.Claim.{bench}
 use Rattle.bench_run.specs.declared.RunResult.{RunResult}
 use Rattle.bench_run.specs.Schedule.{count, acts}

@@ -4,6 +4,4 @@ pub mod Shares
 pub mod Charges
 pub mod Examples
 -- laws
-pub mod TariffLaws
 pub mod ShareLaws
-pub mod ChargeLaws

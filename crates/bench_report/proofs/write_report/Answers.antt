@@ -1,6 +1,6 @@
 -- `bench_report::write_report` meets its contract, at each of its returns.
 use native.Mathlib.Nat.{le_trans}
-use Rattle.bench_report.specs.Room.{report-length}
+use Rattle.bench_report.proofs.Room.{report-length}
 use Rattle.bench_report.proofs.Fitting.{too_many, too_long_lem, written}
 use Rattle.bench_report.proofs.write_report.Goals as goal
 

@@ -3,7 +3,7 @@ use borrow.Author.Tests.{not-true, not-false}
 use mathlib.Core.Path.{◌≡◌, refl, sym, ◌∙◌}
 use native.Mathlib.Omega.{arith}
 use lib.ListN.{length}
-use Rattle.records.specs.FrameLaws.{frame_refused, frame-length, unlisted, question-refused, questions-passed}
+use Rattle.records.proofs.FrameLaws.{frame_refused, frame-length, unlisted, question-refused, questions-passed}
 use Rattle.checkpoint_record.specs.Checkpoints.{checkpoints}
 use Rattle.checkpoint_record.proofs.Numbered.{checkpoint-numbered}
 use Rattle.std.proofs.Common.{rules}

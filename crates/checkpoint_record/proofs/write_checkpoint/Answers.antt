@@ -1,6 +1,6 @@
 -- `write_checkpoint` meets its contract.
 use mathlib.Core.Path.{refl}
-use Rattle.records.specs.FrameLaws.{record-written}
+use Rattle.records.proofs.FrameLaws.{record-written}
 use Rattle.checkpoint_record.specs.Checkpoints.{checkpoints}
 use Rattle.checkpoint_record.proofs.Numbered.{checkpoint-numbered}
 use Rattle.std.proofs.Common.{rules}

@@ -2,7 +2,7 @@
 use mathlib.Core.Path.{refl, sym, ◌∙◌, ap}
 use borrow.Author.Tests.{not-true, not-false}
 use lib.ListN.{length}
-use Rattle.records.specs.FrameLaws.{frame_refused, frame-length, unlisted, question-refused, questions-passed}
+use Rattle.records.proofs.FrameLaws.{frame_refused, frame-length, unlisted, question-refused, questions-passed}
 use Rattle.message_record.specs.Telegrams.{mark_of, telegram_of, listed_in, form_for, telegrams}
 use Rattle.message_bytes.proofs.Numbered.{telegram-numbered}
 use Rattle.message_bytes.proofs.Framing.{enough}

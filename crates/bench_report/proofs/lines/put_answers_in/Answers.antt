@@ -5,7 +5,7 @@ use native.Mathlib.Omega.{arith}
 use Rattle.text.specs.Text.{lines}
 use Rattle.text.specs.Writing.{Put}
 use Rattle.text.specs.WritingLaws.{put-none, put-lines, put-length}
-use Rattle.bench_report.specs.Room.{answer-length}
+use Rattle.bench_report.proofs.Room.{answer-length}
 use Rattle.bench_report.proofs.Decades.{put-more, reach}
 use Rattle.bench_report.proofs.lines.put_answers_in.Goals as goal
 

@@ -3,7 +3,7 @@ use Prim.Native.Nat.{◌≤◌}
 use native.Mathlib.Omega.{arith}
 use native.Mathlib.Numerals.{add-one-dec}
 use Rattle.text.specs.WritingLaws.{put-none, put-line, put-lines, put_then, put-length}
-use Rattle.bench_report.specs.Room.{answer-length}
+use Rattle.bench_report.proofs.Room.{answer-length}
 use Rattle.bench_report.proofs.Decades.{reach}
 use Rattle.bench_report.proofs.lines.put_decade.Goals as goal
 

@@ -2,7 +2,7 @@
 use borrow.Author.Tests.{not-true, not-false}
 use mathlib.Core.Path.{refl, sym, ◌∙◌, ap}
 use Rattle.model.specs.Questions.{first_no}
-use Rattle.records.specs.FrameLaws.{frame_refused, frame-length, unlisted, questions-passed}
+use Rattle.records.proofs.FrameLaws.{frame_refused, frame-length, unlisted, questions-passed}
 use Rattle.event_record.specs.declared.Fields.{Fields}
 use Rattle.event_record.specs.Events.{row_for, events}
 use Rattle.std.proofs.Common.{rules}

@@ -1,4 +1,4 @@
-use Rattle.generator.specs.FileLaws.{files-kept}
+use Rattle.generator.proofs.FileLaws.{files-kept}
 use Rattle.generator.proofs.file.files.Goals as goal
 
 pub returns : goal.returns

@@ -1,7 +1,7 @@
 -- `generator::generate` meets its contract, at each of its returns: refused, of another length, or written (ReplyLaws).
 use mathlib.Core.Path.{sym, ◌∙◌}
-use Rattle.generator.specs.FileLaws.{length_file}
-use Rattle.generator.specs.ReplyLaws.{not-refused, some-controllers, as_long, refused-reply, length-reply, written-reply}
+use Rattle.generator.proofs.FileLaws.{length_file}
+use Rattle.generator.proofs.ReplyLaws.{not-refused, some-controllers, as_long, refused-reply, length-reply, written-reply}
 use Rattle.generator.proofs.Filled.{filled_by}
 use Rattle.generator.proofs.file.generate.Goals as goal
 

@@ -1,5 +1,5 @@
 use Rattle.text.specs.WritingLaws.{put_then, put-text}
-use Rattle.generator.specs.FileLaws.{file-parts}
+use Rattle.generator.proofs.FileLaws.{file-parts}
 use Rattle.generator.proofs.file.put_file.Goals as goal
 
 pub returns : goal.returns

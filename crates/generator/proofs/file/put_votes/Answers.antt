@@ -1,7 +1,7 @@
 -- `generator::put_votes` meets its contract. The invariant: the votes of the first k controllers are written. It rests on `one-vote-more` (FileLaws).
 use native.Mathlib.Omega.{arith}
 use Rattle.text.specs.WritingLaws.{put_then, put-text, put-length}
-use Rattle.generator.specs.FileLaws.{one-vote-more}
+use Rattle.generator.proofs.FileLaws.{one-vote-more}
 use Rattle.generator.proofs.Votes.{put_no-votes, put-votes-to}
 use Rattle.generator.proofs.file.put_votes.Goals as goal
 

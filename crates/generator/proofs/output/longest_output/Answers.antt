@@ -1,5 +1,5 @@
 use mathlib.Core.Path.{refl}
-use Rattle.generator.specs.OutputLaws.{all_fit}
+use Rattle.generator.proofs.OutputLaws.{all_fit}
 use Rattle.generator.proofs.output.longest_output.Goals as goal
 
 pub returns : goal.returns

@@ -2,7 +2,7 @@
 use mathlib.Core.Path.{sym}
 use lib.Seq.{length-take-le}
 use Rattle.text.specs.WritingLaws.{same-fitted}
-use Rattle.generator.specs.OutputLaws.{refused-output, short-output, whole-output}
+use Rattle.generator.proofs.OutputLaws.{refused-output, short-output, whole-output}
 use Rattle.generator.proofs.output.write_for.Goals as goal
 
 pub returns-then-refusal-ne0 : goal.returns-then-refusal-ne0

@@ -1,6 +1,6 @@
 -- `levels::judge` meets its contract: each return is one case of `willingness` (HeightLaws), which is right of every pair of levels (`right_answer`).
 use Rattle.std.proofs.Common.{sym, ◌∙◌}
-use Rattle.levels.specs.EndsLaws.{right_answer}
+use Rattle.levels.proofs.EndsLaws.{right_answer}
 use Rattle.levels.proofs.HeightLaws.{listed-true, above-outside, below-outside, above_crossed, below_crossed, answered}
 use Rattle.levels.proofs.answer.judge.Goals as goal
 

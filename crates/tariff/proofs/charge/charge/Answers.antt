@@ -1,5 +1,5 @@
 -- `tariff::charge::charge` meets its contract.
-use Rattle.tariff.specs.TariffLaws.{full-charge-most}
+use Rattle.tariff.proofs.TariffLaws.{full-charge-most}
 use Rattle.tariff.specs.Charges.{charge}
 use Rattle.tariff.proofs.charge.charge.Goals as goal
 

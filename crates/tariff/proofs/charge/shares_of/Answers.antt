@@ -1,7 +1,7 @@
 -- `tariff::charge::shares_of` meets its contract.
 use Rattle.tariff.specs.ShareLaws.{upper-most}
 use Rattle.tariff.specs.Charges.{shared}
-use Rattle.tariff.specs.ChargeLaws.{charge-most}
+use Rattle.tariff.proofs.ChargeLaws.{charge-most}
 use Rattle.tariff.proofs.charge.shares_of.Goals as goal
 
 pub upper_share-upper-requires : goal.upper_share-upper-requires

@@ -3,7 +3,7 @@ use mathlib.Core.Path.{◌≡◌, refl, sym, ◌∙◌}
 use native.Mathlib.Omega.{arith}
 use lib.ListN.{length}
 use Rattle.tariff.specs.Tariff.{tariff, full_charge}
-use Rattle.tariff.specs.TariffLaws.{found_here, found-later}
+use Rattle.tariff.proofs.TariffLaws.{found_here, found-later}
 use Rattle.tariff.proofs.lookup.full_charge.Goals as goal
 
 pub loop-i-init : goal.loop-i-init

@@ -8,7 +8,7 @@ use Rattle.model.specs.QuestionLaws.{all_yes, reply-accepted, reply-refused, fir
 use Rattle.model.specs.RangeLaws.{ranges}
 use Rattle.event_record.specs.Events.{event_length}
 use Rattle.generator.specs.Claim.{records_in}
-use Rattle.generator.specs.FileLaws.{length_file}
+use Rattle.generator.proofs.FileLaws.{length_file}
 use Rattle.generator.specs.File.{file_of, asked, refusal_of, reply_to, generated}
 
 module _ (n f count start : ℕ) where

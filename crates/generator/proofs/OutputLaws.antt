@@ -13,8 +13,8 @@ use Rattle.text.specs.Lengths.{refusal-length}
 use Rattle.text.specs.Writing.{fitted, fitted_length}
 use Rattle.text.specs.WritingLaws.{nothing-fitted, fitted-whole}
 use Rattle.generator.specs.File.{file_of, most_drawn, asked, refusal_of, generated}
-use Rattle.generator.specs.FileLaws.{length_file}
-use Rattle.generator.specs.ReplyLaws.{not-refused, file-reply}
+use Rattle.generator.proofs.FileLaws.{length_file}
+use Rattle.generator.proofs.ReplyLaws.{not-refused, file-reply}
 use Rattle.generator.specs.Claim.{records_in}
 use Rattle.generator.specs.Output.{file_or_refusal, output_for, output_of, longest_output, AllFit}
 

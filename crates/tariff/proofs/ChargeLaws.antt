@@ -4,7 +4,7 @@ use Rattle.std.proofs.Common.{arith}
 use Rattle.model.specs.declared.Outcome.{Outcome}
 use Rattle.model.specs.declared.Outcome.TheVariants.{None, Stay, Move}
 use Rattle.tariff.specs.Tariff.{tariff, full_charge}
-use Rattle.tariff.specs.TariffLaws.{full-charge-most}
+use Rattle.tariff.proofs.TariffLaws.{full-charge-most}
 use Rattle.tariff.specs.ShareLaws.{half-most}
 use Rattle.tariff.specs.Charges.{charge}
 

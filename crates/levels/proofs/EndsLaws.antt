@@ -13,7 +13,7 @@ use Rattle.levels.specs.Integers.{Below, le-true, lt-true, not_lt}
 use Rattle.levels.specs.Heads.{low, high, mm, minus, EveryPair, NoPair}
 use Rattle.levels.specs.Judged.{ordered, questions, Says, SaysAfter, Judged, votes}
 use Rattle.levels.specs.Ends.{least, greatest, by_heads, after, willingness}
-use Rattle.levels.specs.PairLaws.{every, none-low, none-high, not-every-low, not-every-high, some, not_both}
+use Rattle.levels.proofs.PairLaws.{every, none-low, none-high, not-every-low, not-every-high, some, not_both}
 
 module _ (above below : Range) where
   module _ (oa : Below (low above) (high above)) (ob : Below (low below) (high below)) where
