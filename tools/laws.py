@@ -1,7 +1,8 @@
 #!/usr/bin/env python3
 """Moves the laws that must-fail edits of definitions meet from specs/ to proofs/, statements and proofs as they are; may run again at any time.
 
-usage: python3 tools/laws.py
+usage: python3 tools/laws.py          moves what is still to move
+       python3 tools/laws.py --list   prints each law that was moved, whole
 
 An edit of a definition whose laws stand in specs/ can't be tried, since the text of specs/ is no longer right. MOVED names these files by crate.
 Run again after a merge: it turns each path that still has the old folder, in proofs, sources, edits and lists of modules.
@@ -9,6 +10,7 @@ Run again after a merge: it turns each path that still has the old folder, in pr
 
 import os
 import re
+import sys
 
 MOVED = {
     "ground": ["MaskLaws", "Inclusion", "Collect", "UpTo", "Sizes"],
@@ -17,6 +19,7 @@ MOVED = {
     "records": ["ByteLaws", "CodecLaws", "FrameLaws"],
     "generator": ["FileLaws", "ReplyLaws", "OutputLaws"],
     "bench_report": ["Room"],
+    # and the theorem of specs/Examples.antt, whose table stays: proofs/ExamplesRight.antt
     "levels": ["PairLaws", "EndsLaws"],
     "tariff": ["TariffLaws", "ChargeLaws"],
     "dues": ["PiecesLaws"],
@@ -33,7 +36,43 @@ def write(path, text):
         f.write(text)
 
 
-def main():
+def laws(text):
+    """The statements of a file, with the parameters of the modules that they stand in; words in `where` and helpers that are local to a proof are none."""
+    found, modules, lines, i = [], [], text.split("\n"), 0
+    while i < len(lines):
+        l = lines[i]
+        depth = len(l) - len(l.lstrip())
+        if l.strip() and not l.lstrip().startswith("--"):
+            modules = [m for m in modules if m[0] < depth]
+            if re.match(r"\s*module _ ", l):
+                modules.append((depth, l.strip()))
+            elif (m := re.match(r"\s*(pub )?([^\s()]+) : ", l)) and m.group(2) not in ("abbrev", "unfoldable") and depth == (modules[-1][0] + 2 if modules else 0):
+                k = i + 1
+                while k < len(lines) and lines[k].strip() and len(lines[k]) - len(lines[k].lstrip()) > depth:
+                    k += 1
+                found.append(([m[1] for m in modules], " ".join(x.strip() for x in lines[i:k])))
+                i = k
+                continue
+        i += 1
+    return found
+
+
+def listed():
+    for crate, names in MOVED.items():
+        for name in names:
+            print(f"\n{crate}: specs/{name}.antt is proofs/{name}.antt\n")
+            last = []
+            for modules, statement in laws(read(f"crates/{crate}/proofs/{name}.antt")):
+                if modules != last:
+                    print("".join(f"    in {m}\n" for m in modules), end="")
+                    last = modules
+                print("    " + statement)
+    return 0
+
+
+def main(argv):
+    if "--list" in argv:
+        return listed()
     for crate, names in MOVED.items():
         here = f"crates/{crate}"
         if not os.path.isdir(here):
@@ -72,4 +111,4 @@ def main():
 
 
 if __name__ == "__main__":
-    raise SystemExit(main())
+    raise SystemExit(main(sys.argv[1:]))
