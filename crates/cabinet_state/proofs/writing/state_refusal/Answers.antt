@@ -1,3 +1,5 @@
+use Rattle.std.proofs.Common.{◌≡◌, arith}
+use Rattle.cabinet_state.specs.Words.{mark_word, word}
 use Rattle.cabinet_state.specs.States.{state_refusal}
 use borrow.Author.Tests.{eq-eqb, ne_eqb}
 use Rattle.cabinet_state.proofs.writing.state_refusal.Goals as goal
@@ -12,8 +14,12 @@ returns-then-word-ne-MARK c = simp (eq-eqb _ _ c.if-s-ne-WORDS.false, ← c.word
 
 pub returns-then-not-written_form : goal.returns-then-not-written_form
 unfolding state_refusal
-returns-then-not-written_form c = simp (eq-eqb _ _ c.if-s-ne-WORDS.false, ← c.word.ensures, eq-eqb _ _ c.if-word-ne-MARK.false, ← c.written_form.ensures, c.if-not-written_form.true)
+returns-then-not-written_form c =
+    let e : word c.args.s.now 0 ≡ mark_word = omega arith in
+    simp (eq-eqb _ _ c.if-s-ne-WORDS.false, eq-eqb _ _ e, ← c.written_form.ensures, c.if-not-written_form.true)
 
 pub returns : goal.returns
 unfolding state_refusal
-returns c = simp (eq-eqb _ _ c.if-s-ne-WORDS.false, ← c.word.ensures, eq-eqb _ _ c.if-word-ne-MARK.false, ← c.written_form.ensures, c.if-not-written_form.false)
+returns c =
+    let e : word c.args.s.now 0 ≡ mark_word = omega arith in
+    simp (eq-eqb _ _ c.if-s-ne-WORDS.false, eq-eqb _ _ e, ← c.written_form.ensures, c.if-not-written_form.false)
