@@ -3,7 +3,7 @@
 
 ghost use Rattle.std.specs.Prelude.{◌≡◌};
 ghost use Rattle.text.specs.Writing.{Rendered};
-ghost use Rattle.bench_output.specs.OpenGates.{open_gates_of};
+ghost use Rattle.bench_output.specs.OpenGates.{open_gates_after};
 ghost use Rattle.bench_output.specs.Output.{output_of};
 
 // Writes the bench program's whole output for a schedule of records to the front of the buffer and answers its length; 0, and nothing written, if it does
@@ -18,7 +18,7 @@ pub extern "C" fn bench_render(s: &[u8], out: &mut [u8]) -> usize
 // How many gates are still open after a schedule, for a panel in another language. One that is too long is not run, and gets 255.
 #[unsafe(no_mangle)]
 pub extern "C" fn bench_open_gates(s: &[u8]) -> u8
-    ensures { result ≡ open_gates_of s.now }
+    ensures { result ≡ open_gates_after s.now }
 {
     bench_output::bench_open_gates(s)
 }
