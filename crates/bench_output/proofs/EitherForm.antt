@@ -1,7 +1,7 @@
 -- What is printed of an input, by what it is.
 use Prim.Native.Nat.{ℕ, ◌≤◌, ◌<◌}
 use mathlib.Core.Path.{◌≡◌, refl, sym, ◌∙◌, ap}
-use mathlib.Core.Bool.{true, false}
+use mathlib.Core.Bool.{false}
 use mathlib.Core.List.{List}
 use native.Mathlib.Omega.{arith}
 use native.Mathlib.Decide.{dec_lt}
@@ -9,8 +9,8 @@ use borrow.Author.Tests.{le-leb, lt-leb, lt-ltb, le-ltb}
 use lib.ListN.{length}
 use Rattle.text.specs.Text.{digits, decimal, refusal}
 use Rattle.records.specs.Bytes.{AllBytes}
-use Rattle.schedule_text.specs.Texts.{Result, made, refused, read_text, write_text}
-use Rattle.schedule_input.specs.Input.{is_text, longest_text, refused_line, records_in, either_or, either_form, text_or}
+use Rattle.schedule_text.specs.Texts.{Result, made, refused, write_text}
+use Rattle.schedule_input.specs.Input.{is_text, longest_text, records_in, either_or, either_form, text_or}
 use Rattle.schedule_input.specs.InputLaws.{of-text, of-records}
 use Rattle.schedule_input.specs.Room.{few-lines}
 use Rattle.schedule_input.proofs.NothingLost.{nothing_lost}

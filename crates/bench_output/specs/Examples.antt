@@ -1,5 +1,5 @@
 -- What the program prints for some events, computed: the listing with an unwilling vote, the other conditions, nothing. (The listing itself, from its bytes: `Listing`.)
-use Rattle.std.specs.Prelude.{◌-◌, ◌≡◌, refl, false, List, [], ◌∷◌, map}
+use Rattle.std.specs.Prelude.{◌≡◌, refl, false, List, [], ◌∷◌, map}
 use Prim.Native.String.{String}
 use Rattle.model.specs.declared.Event.{Event}
 use Rattle.model.specs.declared.Event.TheVariants.{Lock, Order, Stop, Save, Restore}

@@ -18,7 +18,6 @@ use Rattle.model.specs.declared.Event.TheVariants.{Lock, Order, Cast, Deliver, T
 use Rattle.protocol.specs.declared.Station.{Station}
 use Rattle.protocol.specs.declared.Acceptor.{Acceptor}
 use Rattle.protocol.specs.declared.BallotRow.{BallotRow}
-use Rattle.protocol.specs.declared.Ballots.{Ballots}
 use Rattle.protocol.specs.declared.Bench.{Bench}
 use Rattle.protocol.specs.Benches.{station, sent_by}
 use Rattle.protocol.specs.Events.{subject, source}

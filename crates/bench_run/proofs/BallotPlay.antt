@@ -21,14 +21,13 @@ use Rattle.protocol.specs.declared.Acceptor.{Acceptor}
 use Rattle.protocol.specs.declared.BallotAnswer.{BallotAnswer}
 use Rattle.protocol.specs.declared.BallotRow.{BallotRow}
 use Rattle.protocol.specs.declared.Ballots.{Ballots}
-use Rattle.protocol.specs.declared.Bench.{Bench}
 use Rattle.protocol.specs.declared.Shared.{Shared}
 use Rattle.protocol.specs.declared.Station.{Station}
 use Rattle.protocol.specs.Ballots.{ballot_limit, is_ballot, majority, new_acceptor, new_row, acceptor, row, is_word_of, chosen_in, is_chosen}
 use Rattle.protocol.specs.BallotSteps.{ballot_subject, row_after, answered}
-use Rattle.protocol.specs.Benches.{fresh_station, controller}
+use Rattle.protocol.specs.Benches.{controller}
 use Rattle.protocol.specs.Questions.{Facts, number, first_no, may_open, may_give, was_proposed, no_other_word, questions_of, facts_of}
-use Rattle.protocol.specs.Steps.{perform, step}
+use Rattle.protocol.specs.Steps.{perform}
 use Rattle.bench_state.specs.BallotQuestions.{ballot_number, ballot_asked}
 use Rattle.bench_state.proofs.BallotReplies.{has-row, in_row}
 use Rattle.bench_turns.specs.declared.BallotTurn.{BallotTurn}

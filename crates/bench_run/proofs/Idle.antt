@@ -24,7 +24,7 @@ use Rattle.protocol.specs.Controllers.{cleared}
 use Rattle.protocol.specs.Calls.{renew}
 use Rattle.protocol.specs.Benches.{fresh, fresh_station, bench_of, new_bench, station, sent_by}
 use Rattle.protocol.specs.Events.{subject, source}
-use Rattle.protocol.specs.Questions.{accepted, is_accepted, questions, reply}
+use Rattle.protocol.specs.Questions.{is_accepted, questions, reply}
 use Rattle.protocol.specs.Steps.{renewed, order_opened, proposed_to, decided_as, answering, effect_of, effect, perform_one, perform, step, run}
 
 -- a station that has just begun

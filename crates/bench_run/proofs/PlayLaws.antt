@@ -2,9 +2,9 @@
 use Prim.Native.Nat.{ℕ, ◌+◌, ◌-◌, ◌*◌, ◌≤◌, ◌<◌, min}
 use mathlib.Core.Path.{◌≡◌, refl, sym, ap, subst, ◌∙◌}
 use mathlib.Core.Bool.{Bool, true, false, cond, not, ◌&&◌, ◌||◌}
-use mathlib.Core.List.{List, [], map}
+use mathlib.Core.List.{List, []}
 use native.Mathlib.Omega.{arith}
-use lib.Dec.{eqb, leb, ltb}
+use lib.Dec.{leb, ltb}
 use lib.ListN.{length, drop, get_or, set}
 use borrow.Author.Tests.{not-true}
 use lib.Seq.{set-set, get_or-set_same}
@@ -23,20 +23,18 @@ use Rattle.model.specs.declared.Kind.TheVariants.{Vote, Ack, Help, Helped}
 use Rattle.model.specs.declared.Event.{Event}
 use Rattle.model.specs.declared.Event.TheVariants.{Lock, Order, Cast, Deliver, Timeout, Decide, Stop, Save, Restore}
 use Rattle.event_record.specs.Events.{read_event}
-use Rattle.event_record.specs.declared.ReadEvent.{ReadEvent}
 use Rattle.event_record.specs.declared.ReadEvent.TheVariants.{Read}
 use Rattle.protocol.specs.declared.Ballots.{Ballots}
 use Rattle.protocol.specs.declared.Condition.{Condition}
 use Rattle.protocol.specs.declared.Condition.TheVariants.{Stopped, Standby}
-use Rattle.protocol.specs.declared.Controller.{Controller}
 use Rattle.protocol.specs.declared.Effect.{Effect}
 use Rattle.protocol.specs.declared.Outgoing.{Outgoing}
 use Rattle.protocol.specs.declared.Shared.{Shared}
 use Rattle.protocol.specs.declared.Station.{Station}
 use Rattle.protocol.specs.Ballots.{new_ballots}
 use Rattle.protocol.specs.Benches.{fresh_station, new_bench, all_undecided, identity, of_kind}
-use Rattle.protocol.specs.Controllers.{phase_in, phase, advance, bump, cleared, conclude, keep_ack, has_ack}
-use Rattle.protocol.specs.Rules.{becomes, sending, acks_to, count_own, second_timeout, first_timeout, propose_if_sufficient, vote_arrives, ack_arrives, help_arrives, helped_arrives, vote_rule}
+use Rattle.protocol.specs.Controllers.{phase_in, phase, advance, bump, cleared, conclude, keep_ack}
+use Rattle.protocol.specs.Rules.{becomes, sending, acks_to, count_own, second_timeout, propose_if_sufficient, vote_arrives, help_arrives, helped_arrives, vote_rule}
 use Rattle.protocol.specs.Calls.{arrives, save}
 use Rattle.protocol.specs.Events.{subject, source}
 use Rattle.protocol.specs.Questions.{number, first_no, questions_of, facts_of, may_open, may_give, is_saved}

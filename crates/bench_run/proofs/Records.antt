@@ -1,14 +1,14 @@
 -- Where a run stands between two turns of its loop, and what one turn makes of that: a record that is read or not, a step back, a note.
-use Prim.Native.Nat.{ℕ, zero, suc, ◌+◌, ◌-◌, ◌*◌, ◌%◌, ◌≤◌, ◌<◌, max}
+use Prim.Native.Nat.{ℕ, zero, suc, ◌+◌, ◌-◌, ◌*◌, ◌%◌, ◌≤◌, ◌<◌}
 use mathlib.Core.Path.{◌≡◌, refl, sym, ap, subst, ◌∙◌}
 use mathlib.Core.Bool.{Bool, true, false, cond, ◌&&◌, false≢true, true≢false}
-use mathlib.Core.List.{List, [], ◌∷◌, ◌++◌, append_assoc}
+use mathlib.Core.List.{List, [], ◌∷◌, ◌++◌}
 use mathlib.Core.Logic.{◌⊎◌, inl, inr}
 use native.Mathlib.Omega.{arith}
 use native.Mathlib.Numerals.{add-one}
 use lib.Dec.{ltb}
 use lib.ListN.{length, take, drop, get_or, set, length-append, length-set, length-drop, take-append-drop}
-use lib.Seq.{drop-drop, take-take, take-suc, take_all, take-suc-set, set-get_or, get_or-take, get_or-append_seam, drop-set-lt, take-nil}
+use lib.Seq.{drop-drop, take_all, take-suc-set, set-get_or, get_or-take, get_or-append_seam, drop-set-lt}
 use borrow.Author.Tests.{le-leb, lt-leb, ltb-true, ltb-false, lt-ltb, le-ltb}
 use Rattle.ground.specs.Tests.{split, and_l, and_r}
 use Rattle.model.specs.Questions.{Reply, accepted, refused, is_accepted, number, first_no, unless}
@@ -26,20 +26,18 @@ use Rattle.protocol.specs.Benches.{new_bench}
 use Rattle.protocol.specs.Questions.{reply}
 use Rattle.protocol.specs.Steps.{step, run}
 use Rattle.protocol.specs.Claim.{after}
-use Rattle.protocol.specs.Questions.{number as reply_number}
 use Rattle.bench_state.proofs.Replies.{zero-accepted}
-use Rattle.steps_back.specs.Memory.{Remembering, answer, run_acts, left_from}
+use Rattle.steps_back.specs.Memory.{answer, left_from}
 use Rattle.steps_back.specs.Claim.{at}
 use Rattle.steps_back.proofs.Theorem.{run_snoc}
 use Rattle.steps_back.proofs.Moments.{as-left}
 use Rattle.bench_run.specs.declared.Next.{Next}
 use Rattle.bench_run.specs.declared.Next.TheVariants.{Play as Plays, Other}
-use Rattle.bench_run.specs.declared.Pause.{Pause}
 use Rattle.bench_run.specs.declared.Pause.TheVariants.{Refused as Unread, Back as StepBack, Note}
 use Rattle.bench_run.specs.Schedule.{piece, piece_at, count, acts_to}
 use Rattle.bench_run.specs.Memory.{place_of, next_of, next_at, remembered, back_number, BackTaken, kept_of as kept_for}
 use Rattle.bench_run.specs.Runs.{answer_number, answer_at, answers_to, has_room, not_run, run_of, answered, end_of, RunAsDefined}
-use Rattle.bench_run.proofs.Remembered.{left_to, front, kept_of, Placed, Memory, none-noted, unread-left, unread-at, refused-left, refused-at, taken-left, taken_at, played, same_memory, within-page, even-page, odd-page, back-number, still-there, one-fewer-noted}
+use Rattle.bench_run.proofs.Remembered.{left_to, front, kept_of, Placed, Memory, none-noted, unread-left, unread-at, refused-left, refused-at, played, same_memory, within-page, even-page, odd-page, back-number, one-fewer-noted}
 
 -- what a run is given: the schedule, the buffer of answers, and how many records there are
 pub record Task : Type 0 where

@@ -1,18 +1,18 @@
 -- What a run's memory stands for (document 02, U11): the events left, by the places of their records, and a bench at the front of each page of them.
-use Prim.Native.Nat.{ℕ, zero, suc, ◌+◌, ◌-◌, ◌%◌, ◌≤◌, ◌<◌, min}
+use Prim.Native.Nat.{ℕ, suc, ◌+◌, ◌-◌, ◌%◌, ◌≤◌, ◌<◌, min}
 use mathlib.Core.Path.{◌≡◌, refl, sym, ap, subst, ◌∙◌}
-use mathlib.Core.Bool.{Bool, true, false, cond, not, false≢true, true≢false}
+use mathlib.Core.Bool.{Bool, true, false, cond, not, false≢true}
 use mathlib.Core.List.{List, [], ◌∷◌, ◌++◌, append-nil}
-use mathlib.Core.Logic.{◌⊎◌, inl, inr}
+use mathlib.Core.Logic.{inl, inr}
 use native.Mathlib.Omega.{arith}
 use native.Mathlib.Numerals.{add-one}
 use lib.Dec.{eqb, ltb}
-use lib.ListN.{length, take, drop, get_or, set, length-append, length-set, take-append-drop, length-take}
-use lib.Seq.{take_all, take-take, take-append-le, take_at, get_or-set_same, get_or-set_other, take-suc}
-use borrow.Author.Tests.{eqb-true, eqb-false, eq-eqb, ne_eqb, ltb-true, ltb-false, lt-ltb, le-ltb}
-use Rattle.ground.specs.Tests.{split, by_cond}
-use Rattle.model.specs.QuestionLaws.{is-accepted, all_yes}
-use Rattle.model.specs.Questions.{Reply, accepted, is_accepted, number}
+use lib.ListN.{length, take, get_or, set, length-append, length-set, length-take}
+use lib.Seq.{take_all, take-append-le, get_or-set_same, get_or-set_other}
+use borrow.Author.Tests.{eqb-true, eqb-false, ne_eqb, ltb-true, ltb-false, lt-ltb, le-ltb}
+use Rattle.ground.specs.Tests.{split}
+use Rattle.model.specs.QuestionLaws.{is-accepted}
+use Rattle.model.specs.Questions.{accepted, is_accepted, number}
 use Rattle.model.specs.declared.Act.{Act}
 use Rattle.model.specs.declared.Act.TheVariants.{Play, Back}
 use Rattle.model.specs.declared.Event.{Event}
@@ -28,10 +28,10 @@ use Rattle.protocol.specs.Claim.{after}
 use Rattle.protocol.proofs.view.Kinds.{IsLock}
 use Rattle.protocol.proofs.lists.Moments.{step-locked, lock-refused}
 use Rattle.protocol.proofs.lists.Start.{new-lock}
-use Rattle.steps_back.specs.Memory.{Remembering, new_remembering, can_be_undone, most_remembered, past_after, is_some, back_reply, answer, done, next, run_acts, without_last, left_by, left_from, left}
+use Rattle.steps_back.specs.Memory.{Remembering, can_be_undone, most_remembered, past_after, is_some, back_reply, answer, done, run_acts, without_last, left_by, left_from, left}
 use Rattle.steps_back.specs.Claim.{at, bench, remembers}
 use Rattle.steps_back.proofs.Theorem.{without_snoc, run_snoc, Found, find, inv, left-taken, at-taken, left-refused, at-refused}
-use Rattle.steps_back.proofs.Moments.{undoable, as-left, one_more, one_fewer}
+use Rattle.steps_back.proofs.Moments.{undoable, as-left, one_fewer}
 use Rattle.bench_run.specs.Schedule.{piece, let_through, acts_to}
 use Rattle.bench_run.specs.Runs.{answer_at}
 use Rattle.bench_run.specs.Memory.{remembered, back_number}

@@ -1,13 +1,12 @@
 -- What the turns of a run leave is the effect of the accepted event: behind the questions, a controller's call is its rule.
-use Prim.Native.Nat.{ℕ, zero, suc, ◌-◌, ◌≤◌}
-use mathlib.Core.Path.{◌≡◌, refl, sym, ap, subst, ◌∙◌}
+use Prim.Native.Nat.{ℕ, ◌-◌}
+use mathlib.Core.Path.{◌≡◌, refl, sym, ap, ◌∙◌}
 use mathlib.Core.Bool.{Bool, true, false, cond, not, ◌&&◌, ◌||◌, or-false, false≢true}
-use mathlib.Core.List.{List, [], ◌∷◌}
 use mathlib.Core.Logic.{inl, inr}
 use lib.Dec.{eqb, leb}
-use lib.ListN.{length, get_or, set}
-use borrow.Author.Tests.{ne_eqb, eqb-true}
-use Rattle.ground.specs.Tests.{split, and_i, or-second}
+use lib.ListN.{get_or, set}
+use borrow.Author.Tests.{ne_eqb}
+use Rattle.ground.specs.Tests.{split, or-second}
 use Rattle.ground.specs.Lists.{put}
 use Rattle.ground.specs.Mask.{has, insert}
 use Rattle.votes.specs.VoteSets.{empty}
@@ -16,7 +15,6 @@ use Rattle.model.specs.Ranges.{is_backup}
 use Rattle.model.specs.Routes.{recipients}
 use Rattle.model.specs.Numbers.{word_of}
 use Rattle.model.specs.declared.Kind.TheVariants.{Ack}
-use Rattle.model.specs.declared.Outcome.{Outcome}
 use Rattle.model.specs.declared.Outcome.TheVariants.{None}
 use Rattle.protocol.specs.declared.Acks.{Acks}
 use Rattle.protocol.specs.declared.Condition.{Condition}
@@ -33,7 +31,7 @@ use Rattle.protocol.specs.Rules.{passing_over, becomes, sending, acks_to, vote_r
 use Rattle.protocol.specs.Calls.{valid_identity, timeout, awaits_decision, decide, stop, restore}
 use Rattle.protocol.specs.Counts.{counts_after}
 use Rattle.protocol.specs.CountLaws.{counts-stay}
-use Rattle.protocol.specs.Benches.{identity, sent_after}
+use Rattle.protocol.specs.Benches.{sent_after}
 use Rattle.protocol.specs.Events.{restore_from}
 use Rattle.protocol.specs.Questions.{is_saved}
 use Rattle.protocol.specs.Steps.{proposed_to, with_counts, station_after, answering}

@@ -3,8 +3,6 @@ use Prim.Native.Nat.{ℕ, suc, ◌+◌}
 use mathlib.Core.Path.{◌≡◌, refl, ◌∙◌, ap}
 use native.Mathlib.Nat.{add_comm}
 use native.Mathlib.Numerals.{add-one}
-use Rattle.ground.specs.Mask.{has}
-use Rattle.ground.specs.Quantify.{count_to}
 use Rattle.model.specs.declared.Kind.{Kind}
 use Rattle.model.specs.declared.Kind.TheVariants.{Vote, Ack, Help, Helped}
 use Rattle.protocol.specs.declared.Bench.{Bench}

@@ -1,6 +1,6 @@
 -- Rules whose code finds each part of the next controller first: those parts together are the rule's answer.
 use Prim.Native.Nat.{ℕ, ◌+◌}
-use mathlib.Core.Path.{◌≡◌, refl, sym, ap, ◌∙◌}
+use mathlib.Core.Path.{◌≡◌, refl}
 use mathlib.Core.Bool.{Bool, true, false, cond, not, ◌&&◌}
 use mathlib.Core.Logic.{inl, inr}
 use lib.Dec.{leb, ltb}
@@ -25,7 +25,7 @@ use Rattle.controller_rules.specs.declared.second.Conclusion.{Conclusion}
 use Rattle.controller_rules.specs.declared.second.Conclusion.TheVariants.{Waits}
 use Rattle.protocol.specs.Controllers.{bump, phase, outcome, in_phase, has_ack, has_called, keep_ack, with_votes, with_help, learn, add_caller, advance, freeze, await, keep_helped, propose, conclude}
 use Rattle.protocol.specs.Rules.{nothing, helps, sending, acks_to, count_own, first_timeout, passing_over, becomes, proposing, verdict, ack_join, decides, sufficient, answers_join, propose_if_sufficient, help_votes, frozen, ready, calls_help, vote_arrives, keeps_call, answers_call, help_arrives, second_timeout}
-use Rattle.controller_rules.specs.Conclusions.{conclusion_of, condition_after, position_after, helped_after, counted_word, word_after, calls_after, waits_after, put_or}
+use Rattle.controller_rules.specs.Conclusions.{conclusion_of, condition_after, position_after, helped_after, word_after, calls_after, waits_after, put_or}
 
 pub vote-joined : (s : VoteSet) (c : Controller)
     → ◌≡◌ {A = Answer} (record { reception = cond (leb (phase c) 1) Taken PassedOver; controller = with_votes c (cond (leb (phase c) 1) (agreed_or c.votes (join c.votes s)) c.votes); sends = nothing; proposal = None }) (vote_arrives s c)

@@ -1,21 +1,20 @@
 -- Event records, both ways round: the description is lawful. By the kind: what is unused is 0, and flags and kinds are what their numbers stand for.
 use Prim.Native.Nat.{ℕ, zero, suc, ◌<◌}
 use mathlib.Core.Path.{◌≡◌, refl, sym, ◌∙◌, ap}
-use mathlib.Core.Bool.{Bool, true, false, cond, ◌&&◌}
+use mathlib.Core.Bool.{Bool, true, ◌&&◌}
 use mathlib.Core.List.{List}
 use mathlib.Core.Logic.{inl, inr}
 use native.Mathlib.Omega.{arith}
 use lib.ListN.{get_or, length}
 use borrow.Author.Tests.{eqb-true}
 use Rattle.ground.specs.Tests.{split, and_l, and_r, no_both}
-use Rattle.model.specs.Numbers.{kind_number, ballot_kind_number}
 use Rattle.model.specs.declared.Act.{Act}
 use Rattle.model.specs.declared.Act.TheVariants.{Play, Back}
 use Rattle.model.specs.declared.Event.{Event}
 use Rattle.model.specs.declared.Event.TheVariants.{Lock, Order, Cast, Deliver, Timeout, Decide, Stop, Save, Restore, OfBallots}
 use Rattle.model.specs.declared.BallotEvent.TheVariants.{Open, Carry}
 use Rattle.records.proofs.ByteLaws.{spread}
-use Rattle.records.specs.Codes.{is_kind, kind_of, is_ballot_kind, ballot_kind_of, is_flag, flag_of, flag_number, unused}
+use Rattle.records.specs.Codes.{is_kind, is_flag, flag_of, flag_number, unused}
 use Rattle.records.specs.CodeLaws.{kind-listed, kind-of-number, number-of-kind, ballot-kind-listed, ballot-kind-of-number, number-of-ballot-kind, kinds-apart, flag-listed, flag-of-number, number-of_flag}
 use Rattle.records.proofs.CodecLaws.{Lawful, promises-kept}
 use Rattle.records.specs.Promises.{Promises}

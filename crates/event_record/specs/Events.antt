@@ -1,5 +1,5 @@
 -- Event records. One stands for an act: an event, or a step back.
-use Rattle.std.specs.Prelude.{ℕ, Bool, false, cond, ◌&&◌, List, [], ◌∷◌, ◌++◌, get_or}
+use Rattle.std.specs.Prelude.{ℕ, Bool, cond, ◌&&◌, List, [], ◌∷◌, ◌++◌, get_or}
 use Rattle.model.specs.Numbers.{kind_number, ballot_kind_number}
 use Rattle.model.specs.declared.Act.{Act}
 use Rattle.model.specs.declared.Act.TheVariants.{Play, Back}

@@ -12,7 +12,7 @@ use lib.ListN.{get_or, length}
 use lib.Pow.{pow_mono}
 use Rattle.ground.specs.Limit.{limit}
 use Rattle.ground.specs.Mask.{none_above}
-use Rattle.ground.specs.Tests.{and_l, and_r, and_i, split}
+use Rattle.ground.specs.Tests.{and_l, and_r, split}
 use Rattle.model.specs.Numbers.{kind_number, ballot_kind_number, outcome_number}
 use Rattle.model.specs.Questions.{accepted, unless, first_no}
 use Rattle.model.specs.QuestionLaws.{AllYes, all_yes}
@@ -35,7 +35,6 @@ use Rattle.message_record.specs.declared.MessageWidth.{MessageWidth}
 use Rattle.message_record.specs.declared.MessageWidth.TheVariants.{Short, Long}
 use Rattle.message_record.specs.declared.Fields.{Fields}
 use Rattle.message_record.specs.declared.ReadTelegram.TheVariants.{Read}
-use Rattle.message_record.specs.declared.TelegramForm.{TelegramForm}
 use Rattle.message_record.specs.Messages.{bits_in_range, willing_known, knows_for_kind, suits, about_message}
 use Rattle.message_record.specs.BallotMessages.{tells_for_kind, ballot_suits, about_ballot}
 use Rattle.message_record.specs.Telegrams.{about_telegram, size_of, formed, short_limit, width_for, suits_width, mark_of, set_width, numbers_in, fields_in, fields_of, telegram_of, listed_in, asked_in, telegram_form, form_of_twenty, form_for, form_of, telegrams}

@@ -1,6 +1,6 @@
 -- Trials of a controller's calls in ballots, in its cabinet (document 02, U14): what it holds of a ballot before a call, the call, what it holds after it, and the telegrams that it
 -- sends, in their sequence. On the bench the questions stand before the rules; here a call that does not fit changes nothing and sends nothing.
-use Rattle.std.specs.Prelude.{ℕ, zero, suc, Bool, true, false, cond, ◌&&◌, List, [], ◌∷◌, ◌++◌, eqb}
+use Rattle.std.specs.Prelude.{ℕ, zero, suc, Bool, true, false, ◌&&◌, List, [], ◌∷◌, ◌++◌, eqb}
 use Rattle.ground.specs.Mask.{insert}
 use Rattle.votes.specs.VoteSets.{empty}
 use Rattle.model.specs.Numbers.{ballot_kind_number}

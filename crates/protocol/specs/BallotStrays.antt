@@ -1,7 +1,7 @@
 -- STRAY TELEGRAMS OF BALLOTS, off the bench. Document 01: "a controller passes over any of another order, n or f, or meant for another controller". Document 02, U14: "Those
 -- standing by, and all at c = 0, take no part"; a ballot "belongs to" one controller, which asks and puts in it. Said of every controller and every telegram.
 -- `stray_ballots` in src/lib.rt has it as its contract.
-use Rattle.std.specs.Prelude.{ℕ, ◌≡◌, Bool, true, false}
+use Rattle.std.specs.Prelude.{ℕ, ◌≡◌, Bool, false}
 use Rattle.ground.specs.Mask.{has}
 use Rattle.model.specs.declared.BallotKind.TheVariants.{Prepare, Promise, Accept, Accepted}
 use Rattle.model.specs.declared.BallotMessage.{BallotMessage}

@@ -1,6 +1,6 @@
 -- Trials of ballots (document 02, U14): schedules at locks whose controllers are their own arbiter, the answer to each event, the C lines, and what stands
 -- in each controller and in each ballot at the end. What only a row tells apart stands beside its row.
-use Rattle.std.specs.Prelude.{ℕ, Bool, true, false, ◌&&◌, List, [], ◌∷◌, ◌++◌, map, eqb}
+use Rattle.std.specs.Prelude.{ℕ, Bool, true, false, ◌&&◌, List, [], ◌∷◌, ◌++◌, eqb}
 use Rattle.model.specs.declared.Kind.TheVariants.{Vote}
 use Rattle.model.specs.declared.Outcome.{Outcome}
 use Rattle.model.specs.declared.Outcome.TheVariants.{None, Stay, Move}

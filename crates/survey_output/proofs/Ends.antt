@@ -1,7 +1,7 @@
 -- What the end of a schedule shows: who is stopped, who ended how, and how many messages at most.
-use Prim.Native.Nat.{ℕ, zero, suc, ◌+◌, ◌*◌, ◌≤◌}
+use Prim.Native.Nat.{ℕ, zero, suc, ◌*◌, ◌≤◌}
 use mathlib.Core.Path.{◌≡◌, refl, sym, ◌∙◌, ap, subst}
-use mathlib.Core.Bool.{true, not}
+use mathlib.Core.Bool.{not}
 use mathlib.Core.List.{List}
 use native.Mathlib.Nat.{suc-mul}
 use native.Mathlib.Omega.{arith}
@@ -16,7 +16,7 @@ use Rattle.model.specs.declared.Kind.TheVariants.{Vote, Ack, Help, Helped}
 use Rattle.protocol.specs.declared.Condition.{Condition}
 use Rattle.protocol.specs.declared.Condition.TheVariants.{Running, Stopped, Standby}
 use Rattle.protocol.specs.declared.Bench.{Bench}
-use Rattle.protocol.specs.Controllers.{phase_in, is_stopped, outcome}
+use Rattle.protocol.specs.Controllers.{phase_in, is_stopped}
 use Rattle.protocol.specs.Benches.{new_bench, controller, sent_by, of_kind}
 use Rattle.protocol.specs.Steps.{run}
 use Rattle.protocol.specs.Display.{stage_shown, sum_to, sent_count, message_count}
@@ -28,7 +28,7 @@ use Rattle.generator.specs.File.{file_of}
 use Rattle.steps_back.specs.Memory.{left}
 use Rattle.steps_back.proofs.Moments.{as-left}
 use Rattle.bench_run.specs.Schedule.{acts}
-use Rattle.survey.specs.Ended.{row_of, is_present}
+use Rattle.survey.specs.Ended.{is_present}
 use Rattle.survey.specs.Surveys.{all_kinds}
 use Rattle.survey_output.specs.Schedules.{bench_of, end_of}
 use Rattle.survey_output.specs.Claim.{AsShown}

@@ -1,11 +1,11 @@
 -- One schedule more: there is room for it, and the figures with it are those of the definition.
-use Prim.Native.Nat.{ℕ, ◌+◌, ◌*◌, ◌≤◌, ◌<◌}
-use mathlib.Core.Path.{◌≡◌, sym, ◌∙◌}
+use Prim.Native.Nat.{ℕ, ◌+◌, ◌≤◌}
+use mathlib.Core.Path.{◌≡◌, ◌∙◌}
 use native.Mathlib.Numerals.{add-one}
 use native.Mathlib.Omega.{arith}
 use Rattle.bench_report.specs.declared.Summary.{Summary}
 use Rattle.survey.specs.declared.Survey.{Survey}
-use Rattle.survey.specs.Surveys.{all_kinds, with_one, survey_of}
+use Rattle.survey.specs.Surveys.{with_one, survey_of}
 use Rattle.survey.proofs.Figures.{adds-up, sum-of_kinds, sum-within}
 use Rattle.survey_output.specs.Bounds.{most_endings, most_of_one, most_sent, HasRoom}
 use Rattle.survey_output.specs.Schedules.{end_of}

@@ -1,6 +1,6 @@
 -- The file of each number is generated and run: none is refused, and there is room for every answer.
 use Prim.Native.Nat.{ℕ, ◌+◌, ◌*◌, ◌≤◌, ◌<◌}
-use mathlib.Core.Path.{◌≡◌, refl, sym, ◌∙◌, ap}
+use mathlib.Core.Path.{◌≡◌, sym, ◌∙◌, ap}
 use mathlib.Core.Bool.{true, not}
 use mathlib.Core.List.{List}
 use native.Mathlib.Omega.{arith}
@@ -8,7 +8,7 @@ use lib.Dec.{eqb, leb}
 use lib.ListN.{length}
 use borrow.Author.Tests.{le-leb, ne_eqb}
 use Rattle.ground.specs.Tests.{and_i}
-use Rattle.model.specs.Questions.{accepted, first_no, unless}
+use Rattle.model.specs.Questions.{accepted}
 use Rattle.model.specs.QuestionLaws.{yes-all}
 use Rattle.event_record.specs.Events.{event_length}
 use Rattle.generator.specs.File.{file_of, most_drawn, asked, refusal_of, generated}
@@ -18,7 +18,6 @@ use Rattle.generator.proofs.OutputLaws.{limits}
 use Rattle.generator.proofs.FileLaws.{length_file}
 use Rattle.generator.proofs.ReplyLaws.{file-reply}
 use Rattle.steps_back.specs.Claim.{bench}
-use Rattle.bench_run.specs.declared.RunResult.{RunResult}
 use Rattle.bench_run.specs.Schedule.{count, acts}
 use Rattle.bench_run.specs.Runs.{run_of}
 use Rattle.bench_report.specs.Limits.{most_answers}

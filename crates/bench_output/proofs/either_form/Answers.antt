@@ -1,6 +1,5 @@
 -- `bench_output::either_form` meets its contract.
 use Rattle.bench_output.proofs.EitherForm.{either-form}
-use Rattle.std.proofs.Common.{rules}
 use Rattle.bench_output.proofs.either_form.Goals as goal
 
 pub returns : goal.returns

@@ -2,7 +2,6 @@ use mathlib.Core.Path.{refl}
 use mathlib.Core.List.{[], ◌∷◌}
 use Rattle.records.specs.Promises.{AskedInSequence}
 use Rattle.checkpoint_record.specs.Checkpoints.{about_checkpoint, checkpoints}
-use Rattle.std.proofs.Common.{rules}
 use Rattle.checkpoint_record.proofs.asked_in_sequence.Goals as goal
 
 asked : AskedInSequence checkpoints (λ k. 1 ∷ 2 ∷ 3 ∷ 4 ∷ 7 ∷ 8 ∷ 11 ∷ []) (λ k. 1 ∷ 4 ∷ 7 ∷ 8 ∷ 11 ∷ [])

@@ -1,4 +1,3 @@
-use Rattle.std.proofs.Common.{rules}
 use Rattle.checkpoint_record.proofs.checkpoint_bytes.Goals as goal
 
 pub returns : goal.returns

@@ -1,5 +1,4 @@
 -- `checkpoint_in` meets its contract: each field is read within the slice, and is the number of its bytes.
-use Rattle.std.proofs.Common.{rules}
 use Rattle.checkpoint_record.proofs.checkpoint_in.Goals as goal
 
 pub returns : goal.returns

@@ -1,8 +1,7 @@
 -- `question` meets its contract: at each return the questions before it are passed, by what each test's call ensures.
-use borrow.Author.Tests.{le-leb, lt-leb, not-true, not-false}
+use borrow.Author.Tests.{le-leb, lt-leb}
 use Rattle.checkpoint_record.specs.Checkpoints.{about_checkpoint}
 use Rattle.model.specs.Questions.{first_no, unless}
-use Rattle.std.proofs.Common.{rules}
 use Rattle.checkpoint_record.proofs.question.Goals as goal
 
 pub returns-then-not-sizes_in_range : goal.returns-then-not-sizes_in_range

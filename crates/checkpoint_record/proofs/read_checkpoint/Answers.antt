@@ -1,12 +1,10 @@
 -- `read_checkpoint` meets its contract: each way out is one of the description (FrameLaws).
-use borrow.Author.Tests.{not-true, not-false}
 use mathlib.Core.Path.{◌≡◌, refl, sym, ◌∙◌}
 use native.Mathlib.Omega.{arith}
 use lib.ListN.{length}
 use Rattle.records.proofs.FrameLaws.{frame_refused, frame-length, unlisted, question-refused, questions-passed}
 use Rattle.checkpoint_record.specs.Checkpoints.{checkpoints}
 use Rattle.checkpoint_record.proofs.Numbered.{checkpoint-numbered}
-use Rattle.std.proofs.Common.{rules}
 use Rattle.checkpoint_record.proofs.read_checkpoint.Goals as goal
 
 pub returns-then-no-ne0 : goal.returns-then-no-ne0

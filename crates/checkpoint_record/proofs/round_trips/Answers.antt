@@ -1,5 +1,4 @@
 use Rattle.checkpoint_record.proofs.RoundTrips.{promises}
-use Rattle.std.proofs.Common.{rules}
 use Rattle.checkpoint_record.proofs.round_trips.Goals as goal
 
 pub returns : goal.returns

@@ -3,7 +3,6 @@ use mathlib.Core.Path.{refl}
 use Rattle.records.proofs.FrameLaws.{record-written}
 use Rattle.checkpoint_record.specs.Checkpoints.{checkpoints}
 use Rattle.checkpoint_record.proofs.Numbered.{checkpoint-numbered}
-use Rattle.std.proofs.Common.{rules}
 use Rattle.checkpoint_record.proofs.write_checkpoint.Goals as goal
 
 pub returns : goal.returns

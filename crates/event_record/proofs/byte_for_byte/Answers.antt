@@ -1,5 +1,4 @@
 use Rattle.event_record.proofs.ByteForByte.{byte_for-byte}
-use Rattle.std.proofs.Common.{rules}
 use Rattle.event_record.proofs.byte_for_byte.Goals as goal
 
 pub returns : goal.returns

@@ -1,6 +1,4 @@
-use borrow.Author.Tests.{not-true, not-false}
 use Rattle.model.specs.Questions.{first_no, unless}
-use Rattle.std.proofs.Common.{rules}
 use Rattle.message_bytes.proofs.question_in.Goals as goal
 
 pub returns-then-not-suits_width : goal.returns-then-not-suits_width

@@ -1,12 +1,10 @@
 -- `read_telegram` meets its contract: each way out is one of the description (FrameLaws), by the form that length and mark say.
 use mathlib.Core.Path.{refl, sym, ◌∙◌, ap}
-use borrow.Author.Tests.{not-true, not-false}
 use lib.ListN.{length}
 use Rattle.records.proofs.FrameLaws.{frame_refused, frame-length, unlisted, question-refused, questions-passed}
 use Rattle.message_record.specs.Telegrams.{mark_of, telegram_of, listed_in, form_for, telegrams}
 use Rattle.message_bytes.proofs.Numbered.{telegram-numbered}
 use Rattle.message_bytes.proofs.Framing.{enough}
-use Rattle.std.proofs.Common.{rules}
 use Rattle.message_bytes.proofs.read_telegram.Goals as goal
 
 pub returns-then-no-ne0 : goal.returns-then-no-ne0

@@ -1,5 +1,4 @@
 use Rattle.message_bytes.proofs.Framing.{written_in}
-use Rattle.std.proofs.Common.{rules}
 use Rattle.message_bytes.proofs.write_telegram.Goals as goal
 
 pub returns : goal.returns

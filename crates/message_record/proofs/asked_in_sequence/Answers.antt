@@ -14,7 +14,6 @@ use Rattle.message_record.specs.declared.MessageWidth.{MessageWidth}
 use Rattle.message_record.specs.Messages.{about_message}
 use Rattle.message_record.specs.BallotMessages.{about_ballot}
 use Rattle.message_record.specs.Telegrams.{formed, telegram_of, telegram_form, form_for, form_of, asked_of, telegrams}
-use Rattle.std.proofs.Common.{rules}
 use Rattle.message_record.proofs.asked_in_sequence.Goals as goal
 
 reading : (w : MessageWidth) (b : MessageBody) (s : List ℕ) → numbers_asked (form_questions (telegram_form (formed w b)) s) ≡ 1 ∷ 2 ∷ 3 ∷ asked_of b

@@ -1,5 +1,4 @@
 use Rattle.message_record.proofs.Refusals.{refusals}
-use Rattle.std.proofs.Common.{rules}
 use Rattle.message_record.proofs.refusals_answered.Goals as goal
 
 pub returns : goal.returns

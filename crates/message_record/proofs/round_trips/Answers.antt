@@ -1,5 +1,4 @@
 use Rattle.message_record.proofs.RoundTrips.{promises}
-use Rattle.std.proofs.Common.{rules}
 use Rattle.message_record.proofs.round_trips.Goals as goal
 
 pub returns : goal.returns

@@ -2,7 +2,6 @@
 use mathlib.Core.Path.{refl}
 use Rattle.protocol.specs.declared.Bench.{Bench}
 use Rattle.protocol.specs.AskedInSequence.{AskedInSequence}
-use Rattle.std.proofs.Common.{rules}
 use Rattle.protocol.proofs.asked_in_sequence.Goals as goal
 
 asked : (b : Bench) → AskedInSequence b

@@ -1,6 +1,5 @@
 -- `protocol::ballots_not_hollow` meets its contract.
 use Rattle.protocol.proofs.settles.Given.{ballots-not_hollow}
-use Rattle.std.proofs.Common.{rules}
 use Rattle.protocol.proofs.ballots_not_hollow.Goals as goal
 
 pub returns : goal.returns

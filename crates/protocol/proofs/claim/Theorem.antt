@@ -20,7 +20,7 @@ use Rattle.model.specs.declared.Event.TheVariants.{Lock, Cast, Timeout, Restore}
 use Rattle.protocol.specs.declared.Bench.{Bench}
 use Rattle.protocol.specs.Controllers.{outcome}
 use Rattle.protocol.specs.Benches.{bench_of, new_bench}
-use Rattle.protocol.specs.Questions.{accepted, is_accepted, unless, first_no, reply}
+use Rattle.protocol.specs.Questions.{is_accepted, unless, first_no, reply}
 use Rattle.protocol.specs.Steps.{step, run}
 use Rattle.protocol.specs.Display.{shown_outcome, shown_position, sum_to, message_count}
 use Rattle.protocol.specs.Claim.{after, Accepted, opens_any, SameOrder, InOrder, Holds, Moves, IsSecondTimeout, Clean, AllWilling, OneUnwilling, WillingVote, Demand3}

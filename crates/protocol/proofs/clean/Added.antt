@@ -16,7 +16,7 @@ use Rattle.votes.proofs.VoteLaws.{single-knows, single-wills, union-knows}
 use Rattle.votes.specs.declared.VoteSet.{VoteSet}
 use Rattle.ground.specs.Limit.{limit}
 use Rattle.model.specs.Ranges.{is_controller}
-use Rattle.model.specs.Routes.{route, vote_route}
+use Rattle.model.specs.Routes.{vote_route}
 use Rattle.model.specs.declared.Kind.TheVariants.{Vote, Ack}
 use Rattle.model.specs.declared.Event.{Event}
 use Rattle.model.specs.declared.Event.TheVariants.{Cast, Deliver, Timeout}

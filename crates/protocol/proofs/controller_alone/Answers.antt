@@ -1,6 +1,5 @@
 -- `protocol::controller_alone` meets its contract.
 use Rattle.protocol.proofs.alone.Theorem.{controller-alone}
-use Rattle.std.proofs.Common.{rules}
 use Rattle.protocol.proofs.controller_alone.Goals as goal
 
 pub returns : goal.returns

@@ -1,6 +1,5 @@
 -- `protocol::demand_3` meets its contract: the theorem of Theorem.antt. Assumes nothing.
 use Rattle.protocol.proofs.claim.Theorem.{demand_3}
-use Rattle.std.proofs.Common.{rules}
 use Rattle.protocol.proofs.demand_3.Goals as goal
 
 pub returns : goal.returns

@@ -1,6 +1,5 @@
 -- `protocol::kept_checkpoints` meets its contract.
 use Rattle.protocol.proofs.Checkpoints.{kept-checkpoints}
-use Rattle.std.proofs.Common.{rules}
 use Rattle.protocol.proofs.kept_checkpoints.Goals as goal
 
 pub returns : goal.returns

@@ -23,7 +23,6 @@ use Rattle.protocol.specs.declared.Saved.{Saved}
 use Rattle.protocol.specs.declared.Saved.TheVariants.{Nothing, Newest}
 use Rattle.model.specs.declared.Checkpoint.{Checkpoint}
 use Rattle.protocol.specs.declared.Bench.{Bench}
-use Rattle.protocol.specs.Controllers.{outcome}
 use Rattle.protocol.specs.Benches.{unsent_all, fresh, fresh_station, bench_of, new_bench, station, controller}
 use Rattle.protocol.specs.Questions.{is_accepted, first_no, reply}
 use Rattle.protocol.specs.Steps.{perform, step, run}

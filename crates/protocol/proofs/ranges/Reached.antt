@@ -10,7 +10,7 @@ use lib.Dec.{eqb}
 use mathlib.Core.Logic.{inl, inr}
 use borrow.Author.Tests.{le-leb, eq-eqb}
 use Rattle.ground.specs.Tests.{no_both, and_l, and_i}
-use Rattle.ground.specs.Mask.{has, within}
+use Rattle.ground.specs.Mask.{has}
 use Rattle.ground.proofs.MaskLaws.{has-none, none_has}
 use Rattle.ground.proofs.Inclusion.{has_within}
 use Rattle.ground.specs.Limit.{limit}

@@ -1,6 +1,5 @@
 -- `protocol::stray_ballots` meets its contract.
 use Rattle.protocol.proofs.strays.Ballots.{ballot-strays}
-use Rattle.std.proofs.Common.{rules}
 use Rattle.protocol.proofs.stray_ballots.Goals as goal
 
 pub returns : goal.returns

@@ -1,6 +1,5 @@
 -- `protocol::stray_messages` meets its contract.
 use Rattle.protocol.proofs.strays.Strayed.{strays}
-use Rattle.std.proofs.Common.{rules}
 use Rattle.protocol.proofs.stray_messages.Goals as goal
 
 pub returns : goal.returns

@@ -1,6 +1,5 @@
 -- `protocol::trials_hold` meets its contract.
 use Rattle.protocol.proofs.Computed.{trials}
-use Rattle.std.proofs.Common.{rules}
 use Rattle.protocol.proofs.trials_hold.Goals as goal
 
 pub returns : goal.returns

@@ -2,7 +2,6 @@ use mathlib.Core.Path.{sym, ap, ◌∙◌}
 use native.Mathlib.Omega.{arith}
 use Rattle.event_record.specs.Events.{read_event}
 use Rattle.schedule_reader.specs.PieceLaws.{part-is-piece, no-piece, nothing_read}
-use Rattle.std.proofs.Common.{rules}
 use Rattle.schedule_reader.proofs.event_at.Goals as goal
 
 pub returns-then-s-at : goal.returns-then-s-at

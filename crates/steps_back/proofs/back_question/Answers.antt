@@ -1,7 +1,5 @@
 use mathlib.Core.Path.{refl}
-use borrow.Author.Tests.{not-true, not-false}
 use Rattle.model.specs.Questions.{first_no, unless}
-use Rattle.std.proofs.Common.{rules}
 use Rattle.steps_back.proofs.back_question.Goals as goal
 
 pub returns-then-not-locked : goal.returns-then-not-locked

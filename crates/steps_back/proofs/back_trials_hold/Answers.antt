@@ -1,5 +1,4 @@
 use Rattle.steps_back.proofs.Computed.{back_trials}
-use Rattle.std.proofs.Common.{rules}
 use Rattle.steps_back.proofs.back_trials_hold.Goals as goal
 
 pub returns : goal.returns

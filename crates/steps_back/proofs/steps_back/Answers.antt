@@ -1,5 +1,4 @@
 use Rattle.steps_back.proofs.Readings.{all}
-use Rattle.std.proofs.Common.{rules}
 use Rattle.steps_back.proofs.steps_back.Goals as goal
 
 pub returns : goal.returns

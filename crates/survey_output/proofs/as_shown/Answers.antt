@@ -1,6 +1,5 @@
 -- `survey_output::as_shown` meets its contract.
 use Rattle.survey_output.proofs.Ends.{all_shown}
-use Rattle.std.proofs.Common.{rules}
 use Rattle.survey_output.proofs.as_shown.Goals as goal
 
 pub returns : goal.returns

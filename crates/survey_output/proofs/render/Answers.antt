@@ -2,7 +2,6 @@
 use Rattle.text.specs.WritingLaws.{rendered}
 use borrow.Author.Tests.{eq-eqb, ne_eqb}
 use Rattle.survey_output.specs.Output.{output_of}
-use Rattle.std.proofs.Common.{rules}
 use Rattle.survey_output.proofs.render.Goals as goal
 
 pub returns-then-input-ne-RECORD : goal.returns-then-input-ne-RECORD

@@ -4,7 +4,6 @@ use Rattle.text.specs.WritingLaws.{same-fitted}
 use Rattle.survey.specs.declared.Survey.{Survey}
 use Rattle.survey.specs.Page.{page}
 use Rattle.survey_output.proofs.Texts.{refused-output, not-refused, page-output}
-use Rattle.std.proofs.Common.{rules}
 use Rattle.survey_output.proofs.write_for.Goals as goal
 
 pub returns-then-refusal-ne0 : goal.returns-then-refusal-ne0

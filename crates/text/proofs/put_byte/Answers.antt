@@ -1,7 +1,6 @@
 -- `text::put_byte` meets its contract: a byte past the end changes nothing.
 use native.Mathlib.Omega.{arith}
 use Rattle.text.specs.WritingLaws.{put_one, put-past}
-use Rattle.std.proofs.Common.{rules}
 use Rattle.text.proofs.put_byte.Goals as goal
 
 pub returns-then-at-out : goal.returns-then-at-out

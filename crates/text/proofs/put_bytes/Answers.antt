@@ -1,11 +1,8 @@
 -- `text::put_bytes` meets its contract. The invariant: the first i bytes are written.
-use Prim.Native.Nat.{◌≤◌, ◌-◌}
 use mathlib.Core.Path.{sym}
 use native.Mathlib.Numerals.{add-one}
 use native.Mathlib.Omega.{arith}
-use lib.ListN.{length, take}
 use lib.Seq.{take-suc, take_all}
-use Rattle.text.specs.Writing.{Put}
 use Rattle.text.specs.WritingLaws.{put-nothing, put_then, put-text, put-length}
 use Rattle.std.proofs.Common.{rules}
 use Rattle.text.proofs.put_bytes.Goals as goal

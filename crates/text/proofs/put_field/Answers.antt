@@ -1,6 +1,5 @@
 -- `text::put_field` meets its contract.
 use Rattle.text.specs.WritingLaws.{put_then}
-use Rattle.std.proofs.Common.{rules}
 use Rattle.text.proofs.put_field.Goals as goal
 
 pub returns : goal.returns

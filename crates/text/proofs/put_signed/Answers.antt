@@ -2,7 +2,6 @@
 use native.Mathlib.Omega.{arith}
 use Rattle.text.specs.WritingLaws.{put-text, put_then}
 use Rattle.text.proofs.Digits.{signed-plus, signed-minus}
-use Rattle.std.proofs.Common.{rules}
 use Rattle.text.proofs.put_signed.Goals as goal
 
 pub returns-then-v-lt2147483648 : goal.returns-then-v-lt2147483648

@@ -1,6 +1,5 @@
 -- `text::write_bytes` meets its contract.
 use Rattle.text.specs.WritingLaws.{nothing-fitted, all-fitted}
-use Rattle.std.proofs.Common.{rules}
 use Rattle.text.proofs.write_bytes.Goals as goal
 
 pub returns-then-out-bytes : goal.returns-then-out-bytes

@@ -3,7 +3,6 @@ use native.Mathlib.Omega.{arith}
 use Rattle.text.specs.Text.{refusal}
 use Rattle.text.specs.Lengths.{refusal-length}
 use Rattle.text.specs.WritingLaws.{put_then, line-put, same-fitted}
-use Rattle.std.proofs.Common.{rules}
 use Rattle.text.proofs.write_refusal.Goals as goal
 
 pub returns : goal.returns

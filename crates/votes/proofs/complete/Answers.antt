@@ -1,6 +1,5 @@
 -- `votes::complete` meets its contract: the test of the mask is the definition.
 use Rattle.votes.specs.VoteSets.{complete}
-use Rattle.std.proofs.Common.{rules}
 use Rattle.votes.proofs.complete.Goals as goal
 
 pub returns : goal.returns

@@ -1,6 +1,5 @@
 -- `votes::contradictions` meets its contract.
 use Rattle.votes.proofs.MemberLaws.{contradictions}
-use Rattle.std.proofs.Common.{rules}
 use Rattle.votes.proofs.contradictions.Goals as goal
 
 pub returns : goal.returns

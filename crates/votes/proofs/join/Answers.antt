@@ -1,7 +1,6 @@
 -- `votes::join` meets its contract, by what `contradicts` ensures.
 use Rattle.votes.specs.VoteSets.{union}
 use Rattle.votes.specs.Joining.{join}
-use Rattle.std.proofs.Common.{rules}
 use Rattle.votes.proofs.join.Goals as goal
 
 pub returns-then-contradicts : goal.returns-then-contradicts

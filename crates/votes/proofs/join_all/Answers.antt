@@ -2,10 +2,9 @@
 -- than the limit, so the senders after that add nothing.
 use Rattle.ground.specs.Limit.{limit}
 use Rattle.votes.proofs.Computed.{skipped, added, joined-all, contradicted-all}
-use Prim.Native.Nat.{ℕ, ◌+◌, ◌-◌, ◌≤◌, min}
+use Prim.Native.Nat.{ℕ, ◌+◌, min}
 use mathlib.Core.Path.{◌≡◌, sym, ◌∙◌, ap}
 use native.Mathlib.Omega.{arith}
-use borrow.Author.Tests.{not-true, not-false}
 use Rattle.ground.specs.Lists.{nth}
 use Rattle.votes.specs.Joining.{join_all}
 use Rattle.votes.specs.declared.Joined.TheVariants.{Agreed}

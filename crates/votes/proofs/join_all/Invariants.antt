@@ -1,12 +1,7 @@
 -- `votes::join_all` meets its contract. The invariant: after k senders the vote sets of those of 1..k agree, and the set is their join. The array has no more
 -- than the limit, so the senders after that add nothing.
-use Rattle.ground.specs.Limit.{limit}
-use Rattle.votes.proofs.Computed.{skipped, added, joined-all, contradicted-all}
-use Prim.Native.Nat.{ℕ, ◌+◌, ◌-◌, ◌≤◌, min}
-use mathlib.Core.Path.{◌≡◌, sym, ◌∙◌, ap}
-use native.Mathlib.Omega.{arith}
-use borrow.Author.Tests.{not-true, not-false}
-use Rattle.ground.specs.Lists.{nth}
+use Prim.Native.Nat.{◌-◌, ◌≤◌}
+use mathlib.Core.Path.{◌≡◌}
 use Rattle.votes.specs.Joining.{join_all}
 use Rattle.votes.specs.declared.Joined.TheVariants.{Agreed}
 use Rattle.votes.proofs.join_all.Given as goal

@@ -1,6 +1,5 @@
 -- `votes::single` meets its contract, by what `insert` ensures.
 use Rattle.votes.specs.VoteSets.{single}
-use Rattle.std.proofs.Common.{rules}
 use Rattle.votes.proofs.single.Goals as goal
 
 pub returns-then-willing : goal.returns-then-willing

@@ -1,7 +1,6 @@
 -- `votes::unanimous` meets its contract, by what `full_to` ensures of each mask.
 use mathlib.Core.Path.{sym, ◌∙◌}
 use Rattle.votes.specs.VoteSets.{unanimous}
-use Rattle.std.proofs.Common.{rules}
 use Rattle.votes.proofs.unanimous.Goals as goal
 
 pub returns-then-full_to : goal.returns-then-full_to

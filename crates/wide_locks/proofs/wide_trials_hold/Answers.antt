@@ -6,7 +6,6 @@ use Rattle.protocol.specs.CleanOrders.{casts, timeouts, deliveries_of, deliverie
 use Rattle.protocol.specs.Rows.{answers_to, each, same, shows, passes}
 use Rattle.protocol.specs.RowWords.{failing}
 use Rattle.wide_locks.specs.WideTrials.{wide_table, WideTrialsHold}
-use Rattle.std.proofs.Common.{rules}
 use Rattle.wide_locks.proofs.wide_trials_hold.Goals as goal
 
 trials : WideTrialsHold

@@ -1,6 +1,5 @@
 use mathlib.Core.Path.{refl}
 use Rattle.xorshift.specs.Xorshift.{draw}
-use Rattle.std.proofs.Common.{rules}
 use Rattle.xorshift.proofs.draw.Goals as goal
 
 pub returns : goal.returns

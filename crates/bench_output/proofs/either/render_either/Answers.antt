@@ -6,7 +6,6 @@ use lib.Seq.{length-take-le}
 use Rattle.text.specs.WritingLaws.{same-fitted, rendered}
 use Rattle.bench_output.specs.Output.{output_of}
 use Rattle.schedule_input.specs.InputLaws.{text_too-long, done-within, done-output, refused-output, no-room-output}
-use Rattle.std.proofs.Common.{rules}
 use Rattle.bench_output.proofs.either.render_either.Goals as goal
 
 pub returns-then-s-gt-LONGEST_TEXT : goal.returns-then-s-gt-LONGEST_TEXT

@@ -7,7 +7,6 @@ use Rattle.bench_run.specs.declared.RunResult.{RunResult}
 use Rattle.bench_report.specs.Limits.{most_answers, is_too_long}
 use Rattle.bench_output.specs.OpenGates.{open_gates_after}
 use Rattle.bench_output.proofs.Texts.{all-run}
-use Rattle.std.proofs.Common.{rules}
 use Rattle.bench_output.proofs.open_gates.bench_open_gates.Goals as goal
 
 pub returns-then-is_too_long : goal.returns-then-is_too_long

@@ -1,7 +1,4 @@
-use mathlib.Core.Path.{refl, sym, ap, ◌∙◌}
-use borrow.Author.Tests.{not-true, not-false, eq-eqb, ne_eqb, lt-ltb, le-ltb}
-use Rattle.bench_run.specs.Memory.{place_of}
-use Rattle.std.proofs.Common.{rules}
+use mathlib.Core.Path.{refl}
 use Rattle.bench_run.proofs.memory.is_pending.Goals as goal
 
 pub returns-then-remembers : goal.returns-then-remembers

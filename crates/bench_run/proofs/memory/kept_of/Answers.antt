@@ -1,7 +1,5 @@
-use mathlib.Core.Path.{refl, sym, ap, ◌∙◌}
-use borrow.Author.Tests.{not-true, not-false, eq-eqb, ne_eqb, lt-ltb, le-ltb}
-use Rattle.bench_run.specs.Memory.{kept_of}
-use Rattle.std.proofs.Common.{rules}
+use mathlib.Core.Path.{refl}
+use borrow.Author.Tests.{lt-ltb, le-ltb}
 use Rattle.bench_run.proofs.memory.kept_of.Goals as goal
 
 pub returns-then-left-lt-PAGE : goal.returns-then-left-lt-PAGE

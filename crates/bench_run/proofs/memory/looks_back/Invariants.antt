@@ -1,6 +1,5 @@
 -- `bench_run::memory::looks_back` is safe and ends: the last four records end within the schedule, and no place of the loop is behind them.
 use Prim.Native.Nat.{◌-◌, ◌≤◌}
-use native.Mathlib.Omega.{arith}
 use Rattle.bench_run.proofs.memory.looks_back.Given as goal
 
 abbrev pub invariant-loop-at : goal.invariant-loop-at

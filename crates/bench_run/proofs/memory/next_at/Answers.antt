@@ -1,6 +1,5 @@
 use mathlib.Core.Path.{refl, ap, ◌∙◌}
 use Rattle.bench_run.specs.Memory.{next_of, next_at}
-use Rattle.std.proofs.Common.{rules}
 use Rattle.bench_run.proofs.memory.next_at.Goals as goal
 
 pub returns-then-pending : goal.returns-then-pending

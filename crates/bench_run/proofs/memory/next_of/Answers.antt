@@ -2,7 +2,6 @@
 use mathlib.Core.Path.{sym, ap, ◌∙◌}
 use Rattle.event_record.specs.declared.ReadEvent.TheVariants.{Read}
 use Rattle.bench_run.specs.Memory.{next_of}
-use Rattle.std.proofs.Common.{rules}
 use Rattle.bench_run.proofs.memory.next_of.Goals as goal
 
 pub returns-in_default : goal.returns-in_default

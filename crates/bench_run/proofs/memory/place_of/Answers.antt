@@ -4,9 +4,8 @@ use mathlib.Core.Logic.{inl, inr}
 use lib.Dec.{ltb}
 use Rattle.ground.specs.Tests.{split}
 use native.Mathlib.Omega.{arith}
-use borrow.Author.Tests.{not-true, ltb-true, lt-ltb, le-ltb}
+use borrow.Author.Tests.{ltb-true, lt-ltb, le-ltb}
 use Rattle.bench_run.specs.Memory.{place_of}
-use Rattle.std.proofs.Common.{rules}
 use Rattle.bench_run.proofs.memory.place_of.Goals as goal
 
 pub returns-then-not-remembers : goal.returns-then-not-remembers

@@ -1,7 +1,6 @@
-use mathlib.Core.Path.{refl, sym, ap, ◌∙◌}
-use borrow.Author.Tests.{not-true, not-false, eq-eqb, ne_eqb, lt-ltb, le-ltb}
+use mathlib.Core.Path.{refl}
+use borrow.Author.Tests.{eq-eqb, ne_eqb, lt-ltb, le-ltb}
 use Rattle.bench_run.specs.Memory.{remembered}
-use Rattle.std.proofs.Common.{rules}
 use Rattle.bench_run.proofs.memory.remembered.Goals as goal
 
 pub returns-then-left-eq0 : goal.returns-then-left-eq0

@@ -2,9 +2,7 @@
 use mathlib.Core.Path.{refl, sym, ◌∙◌}
 use mathlib.Core.Bool.{false≢true}
 use native.Mathlib.Omega.{arith}
-use borrow.Author.Tests.{not-true, not-false}
 use Rattle.bench_run.proofs.Records.{some}
-use Rattle.std.proofs.Common.{rules}
 use Rattle.bench_run.proofs.memory.step_back.Goals as goal
 
 pub returns-then-not-remembers : goal.returns-then-not-remembers

@@ -1,5 +1,4 @@
 use native.Mathlib.Omega.{arith}
-use Rattle.std.proofs.Common.{rules}
 use Rattle.bench_run.proofs.runs.ballots_asked.Goals as goal
 
 pub returns-then-own : goal.returns-then-own

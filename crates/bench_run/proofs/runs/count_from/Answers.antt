@@ -1,7 +1,6 @@
 use lib.ListN.{length-drop}
 use native.Mathlib.Omega.{arith}
 use Rattle.bench_run.specs.Schedule.{count}
-use Rattle.std.proofs.Common.{rules}
 use Rattle.bench_run.proofs.runs.count_from.Goals as goal
 
 pub returns-then-s-from : goal.returns-then-s-from

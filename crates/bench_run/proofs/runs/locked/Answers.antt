@@ -1,4 +1,3 @@
-use Rattle.std.proofs.Common.{rules}
 use Rattle.bench_run.proofs.runs.locked.Goals as goal
 
 pub returns : goal.returns

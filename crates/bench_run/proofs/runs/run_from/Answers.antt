@@ -1,29 +1,26 @@
 -- The loop keeps `Upto`: the bench in the run's variables is that of the events left of the records so far, or, while events are played again, of the first of them; the buffer begins with
 -- the answers; what is remembered is `Memory`. Each way through the body is one law of PlayLaws, BallotPlay or Records. The second loop keeps that the stations before its index are renewed
 -- and the others as they were; the third, whether the word was chosen in a ballot before its index.
-use borrow.Author.Tests.{not-true, not-false}
-use Prim.Native.Nat.{ℕ, ◌+◌, ◌-◌, ◌*◌, ◌≤◌, min}
+use Prim.Native.Nat.{ℕ, min}
 use mathlib.Core.Path.{◌≡◌, refl, sym, ap, ◌∙◌}
-use mathlib.Core.Bool.{true, false, cond}
+use mathlib.Core.Bool.{true, false}
 use mathlib.Core.List.{List, []}
 use native.Mathlib.Omega.{arith}
-use lib.ListN.{length, drop, get_or, set, replicate, length-replicate}
+use lib.ListN.{length, get_or, set, replicate, length-replicate}
 use Rattle.ground.specs.Limit.{limit}
-use Rattle.ground.specs.Quantify.{any_to}
 use Rattle.ground.specs.Firsts.{map_first, first-none, first_more, first-all}
 use Rattle.model.specs.declared.Event.TheVariants.{OfBallots}
 use Rattle.protocol.specs.declared.Station.{Station}
-use Rattle.protocol.specs.Ballots.{ballot_limit, new_acceptor, new_row, chosen_in}
+use Rattle.protocol.specs.Ballots.{ballot_limit, new_acceptor, new_row}
 use Rattle.protocol.specs.Benches.{fresh_station, fresh, unsent_all}
 use Rattle.protocol.specs.Controllers.{phase_in}
 use Rattle.protocol.specs.Steps.{renewed}
 use Rattle.bench_run.specs.declared.Next.TheVariants.{Play as Plays, Other}
 use Rattle.bench_run.specs.Runs.{end_of}
-use Rattle.bench_run.proofs.Local.{bench_with, all_stations, new-parts, new-ballots}
-use Rattle.bench_run.proofs.Records.{Upto, start, in-room, not-read, no_room, ended, place-within, place_safe, place-all, refused-ready, refused-read, back-ready, step-back-read, due_note, step_safe, stepped-refused, stepped-taken, refused_nearer, back_nearer, note-place, note-few, noted-refused, noted-within, noted-even, noted-odd}
+use Rattle.bench_run.proofs.Local.{all_stations, new-parts, new-ballots}
+use Rattle.bench_run.proofs.Records.{start, in-room, not-read, no_room, ended, place-within, place_safe, place-all, refused-ready, refused-read, back-ready, step-back-read, due_note, step_safe, stepped-refused, stepped-taken, refused_nearer, back_nearer, note-place, note-few, noted-refused, noted-within, noted-even, noted-odd}
 use Rattle.bench_run.proofs.PlayLaws.{reading, in_place, order-size, lock-refused, lock-accepted, order-refused, order-accepted, order_quiet, cast-refused, cast-accepted, delivery-refused, vote-accepted, ack-passed-over, ack-held, ack-put, help-accepted, helped-accepted, timeout-refused, first-laid, second-accepted, decide-refused, decide-accepted, stop-refused, stop-accepted, save-refused, save-accepted, restore-refused, restore-accepted}
 use Rattle.bench_run.proofs.BallotPlay.{none-chosen, more-chosen, may_give_lem, ballot_played}
-use Rattle.std.proofs.Common.{rules}
 use Rattle.bench_run.proofs.runs.run_from.Goals as goal
 
 pub returns-then-answers-count : goal.returns-then-answers-count

@@ -1,5 +1,4 @@
 use native.Mathlib.Omega.{arith}
-use Rattle.std.proofs.Common.{rules}
 use Rattle.bench_run.proofs.runs.slot_reported.Goals as goal
 
 pub returns : goal.returns

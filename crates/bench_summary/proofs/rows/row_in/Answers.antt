@@ -1,5 +1,4 @@
 -- `bench_summary::rows::row_in` meets its contract.
-use Rattle.std.proofs.Common.{rules}
 use Rattle.bench_summary.proofs.rows.row_in.Goals as goal
 
 pub returns-in-Running : goal.returns-in-Running

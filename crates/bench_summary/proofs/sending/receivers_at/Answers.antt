@@ -1,6 +1,5 @@
 -- `bench_summary::sending::receivers_at` meets its contract.
 use borrow.Author.Tests.{lt-ltb, le-ltb}
-use Rattle.std.proofs.Common.{rules}
 use Rattle.bench_summary.proofs.sending.receivers_at.Goals as goal
 
 pub returns-then-i-lt-LIMIT : goal.returns-then-i-lt-LIMIT

@@ -1,6 +1,5 @@
 -- `bench_summary::summary::counted` meets its contract.
 use native.Mathlib.Omega.{arith}
-use Rattle.std.proofs.Common.{rules}
 use Rattle.bench_summary.proofs.summary.counted.Goals as goal
 
 pub returns : goal.returns

@@ -1,10 +1,10 @@
 -- `bench_summary::summary::summary_of` meets its contract. The first loop: the first i rows are those of the stations, the others blank. The second: the messages are
 -- those of the first j controllers, at most 255 of a kind for each.
-use Prim.Native.Nat.{ℕ, suc, ◌*◌, ◌-◌, ◌≤◌, ◌<◌}
-use mathlib.Core.List.{[], ◌++◌, map}
+use Prim.Native.Nat.{ℕ, suc, ◌≤◌, ◌<◌}
+use mathlib.Core.List.{[], map}
 use mathlib.Core.Path.{◌≡◌, refl, sym, ◌∙◌, ap}
 use native.Mathlib.Omega.{arith}
-use lib.ListN.{length, get_or, take, drop, replicate, length-map, length-replicate, get_or-map}
+use lib.ListN.{length, get_or, replicate, length-map, length-replicate, get_or-map}
 use Rattle.ground.specs.Limit.{limit}
 use Rattle.ground.specs.Mask.{has}
 use Rattle.ground.specs.Quantify.{count_to}
@@ -12,12 +12,10 @@ use Rattle.model.specs.declared.Kind.{Kind}
 use Rattle.protocol.specs.Benches.{station, fresh_station, fresh, unsent_all}
 use Rattle.protocol.specs.Display.{message_count, sent_count}
 use Rattle.bench_report.specs.Lines.{blank_row}
-use Rattle.bench_report.specs.declared.MessageCounts.{MessageCounts}
 use Rattle.bench_summary.specs.Summary.{summary_of, row_of, shown_of, counts_to, sent_at}
 use Rattle.bench_summary.proofs.Filled.{one_filled, all_filled}
 use Rattle.bench_summary.proofs.Stations.{sent-at}
 use Rattle.bench_summary.proofs.Sums.{no-messages, more-messages}
-use Rattle.bench_summary.proofs.summary.summary_of.Invariants.{AtMost}
 use Rattle.std.proofs.Common.{rules}
 use Rattle.bench_summary.proofs.summary.summary_of.Goals as goal
 

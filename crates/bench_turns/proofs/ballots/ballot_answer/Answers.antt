@@ -1,5 +1,4 @@
 use Rattle.bench_turns.specs.BallotTurns.{ballot_answer}
-use Rattle.std.proofs.Common.{rules}
 use Rattle.bench_turns.proofs.ballots.ballot_answer.Goals as goal
 
 pub returns-in-Open : goal.returns-in-Open

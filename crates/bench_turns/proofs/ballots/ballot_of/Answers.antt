@@ -1,4 +1,3 @@
-use Rattle.std.proofs.Common.{rules}
 use Rattle.bench_turns.proofs.ballots.ballot_of.Goals as goal
 
 pub returns-in-Carry : goal.returns-in-Carry

@@ -3,7 +3,6 @@ use borrow.Author.Tests.{ne_eqb}
 use Rattle.protocol.specs.Questions.{number, first_no}
 use Rattle.bench_state.specs.BallotQuestions.{ballot_asked}
 use Rattle.bench_turns.specs.BallotTurns.{ballot_turn}
-use Rattle.std.proofs.Common.{rules}
 use Rattle.bench_turns.proofs.ballots.ballot_turn.Goals as goal
 
 pub returns-then-answer-ne0 : goal.returns-then-answer-ne0

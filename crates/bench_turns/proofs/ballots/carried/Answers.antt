@@ -1,5 +1,4 @@
 use Rattle.bench_turns.specs.BallotTurns.{carried_answer}
-use Rattle.std.proofs.Common.{rules}
 use Rattle.bench_turns.proofs.ballots.carried.Goals as goal
 
 pub returns-in-Prepare : goal.returns-in-Prepare

@@ -1,4 +1,3 @@
-use Rattle.std.proofs.Common.{rules}
 use Rattle.bench_turns.proofs.ballots.chosen_at.Goals as goal
 
 pub returns : goal.returns

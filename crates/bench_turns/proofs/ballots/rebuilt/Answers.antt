@@ -1,4 +1,3 @@
-use Rattle.std.proofs.Common.{rules}
 use Rattle.bench_turns.proofs.ballots.rebuilt.Goals as goal
 
 pub returns-in-Open : goal.returns-in-Open

@@ -1,5 +1,4 @@
 use borrow.Author.Tests.{eq-eqb, ne_eqb}
-use Rattle.std.proofs.Common.{rules}
 use Rattle.bench_turns.proofs.ballots.word_in.Goals as goal
 
 pub returns-then-last-eq0 : goal.returns-then-last-eq0

@@ -1,5 +1,4 @@
 use Rattle.protocol.specs.Steps.{answering}
-use Rattle.std.proofs.Common.{rules}
 use Rattle.bench_turns.proofs.effects.answering.Goals as goal
 
 pub returns : goal.returns

@@ -1,5 +1,4 @@
 use Rattle.protocol.specs.Steps.{station_after}
-use Rattle.std.proofs.Common.{rules}
 use Rattle.bench_turns.proofs.effects.station_after.Goals as goal
 
 pub returns : goal.returns

@@ -1,4 +1,3 @@
-use Rattle.std.proofs.Common.{rules}
 use Rattle.bench_turns.proofs.turns.outcome_saved.Goals as goal
 
 pub returns-in-Newest : goal.returns-in-Newest

@@ -1,5 +1,4 @@
 use Rattle.protocol.specs.Steps.{renewed}
-use Rattle.std.proofs.Common.{rules}
 use Rattle.bench_turns.proofs.turns.renewed.Goals as goal
 
 pub returns : goal.returns

@@ -1,5 +1,4 @@
 use Rattle.protocol.specs.Steps.{keeping}
-use Rattle.std.proofs.Common.{rules}
 use Rattle.bench_turns.proofs.turns.save_turn.Goals as goal
 
 pub returns : goal.returns

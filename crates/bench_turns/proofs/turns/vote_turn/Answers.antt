@@ -1,4 +1,3 @@
-use Rattle.std.proofs.Common.{rules}
 use Rattle.bench_turns.proofs.turns.vote_turn.Goals as goal
 
 pub returns : goal.returns

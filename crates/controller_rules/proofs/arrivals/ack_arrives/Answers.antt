@@ -1,5 +1,4 @@
 use Rattle.protocol.specs.Rules.{ack_arrives}
-use Rattle.std.proofs.Common.{rules}
 use Rattle.controller_rules.proofs.arrivals.ack_arrives.Goals as goal
 
 pub returns-then-takes_ack : goal.returns-then-takes_ack

@@ -1,4 +1,3 @@
-use Rattle.std.proofs.Common.{rules}
 use Rattle.controller_rules.proofs.arrivals.answer_to_call.Goals as goal
 
 pub returns-then-answers : goal.returns-then-answers

@@ -1,6 +1,5 @@
 -- Each kind by its own rule.
 use Rattle.protocol.specs.Calls.{arrives}
-use Rattle.std.proofs.Common.{rules}
 use Rattle.controller_rules.proofs.arrivals.arrives.Goals as goal
 
 pub returns-in-Vote : goal.returns-in-Vote

@@ -1,5 +1,4 @@
 use Rattle.protocol.specs.Rules.{helped_arrives}
-use Rattle.std.proofs.Common.{rules}
 use Rattle.controller_rules.proofs.arrivals.helped_arrives.Goals as goal
 
 pub returns-then-has : goal.returns-then-has

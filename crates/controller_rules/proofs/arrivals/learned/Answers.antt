@@ -1,4 +1,3 @@
-use Rattle.std.proofs.Common.{rules}
 use Rattle.controller_rules.proofs.arrivals.learned.Goals as goal
 
 pub returns-then-takes : goal.returns-then-takes

@@ -1,5 +1,4 @@
 use Rattle.controller_rules.proofs.Joined.{vote-joined}
-use Rattle.std.proofs.Common.{rules}
 use Rattle.controller_rules.proofs.arrivals.vote_arrives.Goals as goal
 
 pub returns : goal.returns

@@ -1,19 +1,13 @@
 -- The loop over 1 to f stops at the first acknowledgement that is not held and full; so far all were. No acknowledgement of a number above the limit is held.
-use Prim.Native.Nat.{ℕ, suc, ◌≤◌, ◌<◌, ◌-◌, ◌^◌}
+use Prim.Native.Nat.{ℕ, suc, ◌<◌, ◌^◌}
 use mathlib.Core.Path.{◌≡◌, refl, sym, ◌∙◌, ap}
-use mathlib.Core.Bool.{Bool, true, ◌&&◌}
-use mathlib.Core.List.{List}
 use native.Mathlib.Omega.{arith}
 use native.Mathlib.Numerals.{add-one}
-use borrow.Author.Tests.{not-true, not-false}
 use Rattle.ground.proofs.Inclusion.{has-past}
 use Rattle.ground.specs.Limit.{limit}
-use Rattle.ground.specs.Mask.{has}
 use Rattle.ground.specs.Lists.{nth}
 use Rattle.ground.specs.Quantify.{all_to}
 use Rattle.ground.specs.Tests.{and_i}
-use Rattle.votes.specs.VoteSets.{empty, complete}
-use Rattle.votes.specs.declared.VoteSet.{VoteSet}
 use Rattle.protocol.specs.Rules.{backups_complete}
 use Rattle.controller_rules.proofs.Quantified.{all_no}
 use Rattle.controller_rules.proofs.deciding.backups_complete.Invariants.{held}

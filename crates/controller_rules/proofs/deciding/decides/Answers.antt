@@ -1,6 +1,4 @@
-use borrow.Author.Tests.{not-false, not-true}
 use Rattle.protocol.specs.Rules.{decides}
-use Rattle.std.proofs.Common.{rules}
 use Rattle.controller_rules.proofs.deciding.decides.Goals as goal
 
 pub returns-then-not-backups_complete : goal.returns-then-not-backups_complete

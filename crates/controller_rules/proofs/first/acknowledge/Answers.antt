@@ -1,4 +1,3 @@
-use Rattle.std.proofs.Common.{rules}
 use Rattle.controller_rules.proofs.first.acknowledge.Goals as goal
 
 pub returns : goal.returns

@@ -1,5 +1,4 @@
 use Rattle.protocol.specs.Rules.{count_own}
-use Rattle.std.proofs.Common.{rules}
 use Rattle.controller_rules.proofs.first.count_own.Goals as goal
 
 pub returns-then-counts_own : goal.returns-then-counts_own

@@ -1,5 +1,3 @@
-use borrow.Author.Tests.{not-false, not-true}
-use Rattle.std.proofs.Common.{rules}
 use Rattle.controller_rules.proofs.first.counts_own.Goals as goal
 
 pub returns-then-not-is_backup : goal.returns-then-not-is_backup

@@ -1,5 +1,4 @@
 use Rattle.controller_rules.proofs.Joined.{first-joined}
-use Rattle.std.proofs.Common.{rules}
 use Rattle.controller_rules.proofs.first.first_timeout.Goals as goal
 
 pub returns : goal.returns

@@ -1,4 +1,3 @@
-use Rattle.std.proofs.Common.{rules}
 use Rattle.controller_rules.proofs.held.ack_contradicts.Goals as goal
 
 pub returns-then-has : goal.returns-then-has

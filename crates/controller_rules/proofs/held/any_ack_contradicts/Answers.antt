@@ -1,19 +1,11 @@
 -- The loop over 1 to n stops at the first acknowledgement that is held and contradicts; so far none did.
-use Prim.Native.Nat.{ℕ, suc, ◌≤◌, ◌-◌}
+use Prim.Native.Nat.{ℕ, suc}
 use mathlib.Core.Path.{◌≡◌, refl, sym, ◌∙◌, ap}
-use mathlib.Core.Bool.{Bool, false, ◌&&◌}
 use native.Mathlib.Omega.{arith}
 use native.Mathlib.Numerals.{add-one}
 use Rattle.ground.specs.Tests.{or_no}
-use Rattle.ground.specs.Mask.{has}
-use Rattle.ground.specs.Lists.{nth}
 use Rattle.ground.specs.Quantify.{any_to, any_of}
-use Rattle.votes.specs.VoteSets.{empty}
-use Rattle.votes.specs.Joining.{contradicts}
-use Rattle.votes.specs.declared.VoteSet.{VoteSet}
-use Rattle.protocol.specs.declared.Acks.{Acks}
 use Rattle.controller_rules.proofs.held.any_ack_contradicts.Invariants.{against}
-use Rattle.std.proofs.Common.{rules}
 use Rattle.controller_rules.proofs.held.any_ack_contradicts.Goals as goal
 
 pub loop-j-init : goal.loop-j-init

@@ -1,13 +1,10 @@
 -- The loop over 1 to n stops at the first acknowledgement that is held and contradicts; so far none did.
-use Prim.Native.Nat.{ℕ, suc, ◌≤◌, ◌-◌}
-use mathlib.Core.Path.{◌≡◌, refl, sym, ◌∙◌, ap}
+use Prim.Native.Nat.{ℕ, ◌≤◌, ◌-◌}
+use mathlib.Core.Path.{◌≡◌}
 use mathlib.Core.Bool.{Bool, false, ◌&&◌}
-use native.Mathlib.Omega.{arith}
-use native.Mathlib.Numerals.{add-one}
-use Rattle.ground.specs.Tests.{or_no}
 use Rattle.ground.specs.Mask.{has}
 use Rattle.ground.specs.Lists.{nth}
-use Rattle.ground.specs.Quantify.{any_to, any_of}
+use Rattle.ground.specs.Quantify.{any_to}
 use Rattle.votes.specs.VoteSets.{empty}
 use Rattle.votes.specs.Joining.{contradicts}
 use Rattle.votes.specs.declared.VoteSet.{VoteSet}

@@ -1,5 +1,4 @@
 use Rattle.protocol.specs.Calls.{contradicts_held}
-use Rattle.std.proofs.Common.{rules}
 use Rattle.controller_rules.proofs.held.contradicts_held.Goals as goal
 
 pub returns-then-contradicts : goal.returns-then-contradicts

@@ -1,4 +1,3 @@
-use Rattle.std.proofs.Common.{rules}
 use Rattle.controller_rules.proofs.second.calls_after.Goals as goal
 
 pub returns-in-Waits : goal.returns-in-Waits

@@ -1,5 +1,4 @@
 use borrow.Author.Tests.{lt-ltb, le-ltb}
-use Rattle.std.proofs.Common.{rules}
 use Rattle.controller_rules.proofs.second.concluded.Goals as goal
 
 pub returns-then-decides : goal.returns-then-decides

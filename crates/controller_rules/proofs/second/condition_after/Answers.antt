@@ -1,4 +1,3 @@
-use Rattle.std.proofs.Common.{rules}
 use Rattle.controller_rules.proofs.second.condition_after.Goals as goal
 
 pub returns-in-Decides : goal.returns-in-Decides

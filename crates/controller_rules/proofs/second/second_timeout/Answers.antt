@@ -2,7 +2,6 @@
 use Rattle.protocol.specs.Rules.{help_votes, verdict}
 use Rattle.votes.specs.Tallies.{tallied-word, tallied_with_lem}
 use Rattle.controller_rules.proofs.Joined.{second_from}
-use Rattle.std.proofs.Common.{rules}
 use Rattle.controller_rules.proofs.second.second_timeout.Goals as goal
 
 pub returns : goal.returns

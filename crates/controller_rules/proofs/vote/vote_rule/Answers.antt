@@ -1,5 +1,4 @@
 use Rattle.protocol.specs.Rules.{vote_rule}
-use Rattle.std.proofs.Common.{rules}
 use Rattle.controller_rules.proofs.vote.vote_rule.Goals as goal
 
 pub returns : goal.returns

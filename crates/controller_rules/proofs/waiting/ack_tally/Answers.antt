@@ -1,5 +1,4 @@
 use Rattle.protocol.specs.Rules.{ack_join}
-use Rattle.std.proofs.Common.{rules}
 use Rattle.controller_rules.proofs.waiting.ack_tally.Goals as goal
 
 pub returns : goal.returns

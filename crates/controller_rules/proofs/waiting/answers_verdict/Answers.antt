@@ -1,7 +1,6 @@
 use borrow.Author.Tests.{le-ltb, lt-ltb}
 use Rattle.votes.specs.Tallies.{tallied-word}
 use Rattle.protocol.specs.Rules.{answers_join, verdict}
-use Rattle.std.proofs.Common.{rules}
 use Rattle.controller_rules.proofs.waiting.answers_verdict.Goals as goal
 
 pub returns-then-c-gt0 : goal.returns-then-c-gt0

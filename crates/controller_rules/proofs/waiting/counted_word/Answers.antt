@@ -1,4 +1,3 @@
-use Rattle.std.proofs.Common.{rules}
 use Rattle.controller_rules.proofs.waiting.counted_word.Goals as goal
 
 pub returns-then-counts_suffice : goal.returns-then-counts_suffice

@@ -1,5 +1,4 @@
 use Rattle.protocol.specs.Rules.{propose_if_sufficient}
-use Rattle.std.proofs.Common.{rules}
 use Rattle.controller_rules.proofs.waiting.propose_if_sufficient.Goals as goal
 
 pub returns-then-sufficient : goal.returns-then-sufficient

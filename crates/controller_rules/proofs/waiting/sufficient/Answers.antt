@@ -1,5 +1,4 @@
 use Rattle.protocol.specs.Rules.{sufficient}
-use Rattle.std.proofs.Common.{rules}
 use Rattle.controller_rules.proofs.waiting.sufficient.Goals as goal
 
 pub returns-then-c : goal.returns-then-c

@@ -1,5 +1,4 @@
 use Rattle.protocol.specs.Rules.{verdict}
-use Rattle.std.proofs.Common.{rules}
 use Rattle.controller_rules.proofs.waiting.verdict.Goals as goal
 
 pub returns : goal.returns

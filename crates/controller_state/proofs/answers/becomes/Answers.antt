@@ -1,5 +1,4 @@
 use Rattle.protocol.specs.Rules.{becomes}
-use Rattle.std.proofs.Common.{rules}
 use Rattle.controller_state.proofs.answers.becomes.Goals as goal
 
 pub returns : goal.returns

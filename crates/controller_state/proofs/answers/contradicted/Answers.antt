@@ -1,5 +1,4 @@
 use Rattle.protocol.specs.Rules.{contradicted}
-use Rattle.std.proofs.Common.{rules}
 use Rattle.controller_state.proofs.answers.contradicted.Goals as goal
 
 pub returns : goal.returns

@@ -1,5 +1,4 @@
 use Rattle.protocol.specs.Rules.{passing_over}
-use Rattle.std.proofs.Common.{rules}
 use Rattle.controller_state.proofs.answers.passed_over.Goals as goal
 
 pub returns : goal.returns

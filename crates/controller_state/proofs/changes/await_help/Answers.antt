@@ -1,6 +1,5 @@
 use mathlib.Core.Path.{refl}
 use Rattle.protocol.specs.Controllers.{await}
-use Rattle.std.proofs.Common.{rules}
 use Rattle.controller_state.proofs.changes.await_help.Goals as goal
 
 pub returns : goal.returns

@@ -1,6 +1,5 @@
 use mathlib.Core.Path.{refl}
 use Rattle.protocol.specs.Controllers.{freeze}
-use Rattle.std.proofs.Common.{rules}
 use Rattle.controller_state.proofs.changes.freeze.Goals as goal
 
 pub returns : goal.returns

@@ -1,5 +1,4 @@
 use Rattle.protocol.specs.Benches.{fresh}
-use Rattle.std.proofs.Common.{rules}
 use Rattle.controller_state.proofs.changes.fresh.Goals as goal
 
 pub returns : goal.returns

@@ -1,4 +1,3 @@
-use Rattle.std.proofs.Common.{rules}
 use Rattle.controller_state.proofs.conditions.landing.Goals as goal
 
 pub returns-then-moves_in : goal.returns-then-moves_in

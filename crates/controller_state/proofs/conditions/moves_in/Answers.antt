@@ -1,5 +1,3 @@
-use borrow.Author.Tests.{not-true, not-false}
-use Rattle.std.proofs.Common.{rules}
 use Rattle.controller_state.proofs.conditions.moves_in.Goals as goal
 
 pub returns-then-not-is_running : goal.returns-then-not-is_running

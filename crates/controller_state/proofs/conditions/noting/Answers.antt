@@ -1,4 +1,3 @@
-use Rattle.std.proofs.Common.{rules}
 use Rattle.controller_state.proofs.conditions.noting.Goals as goal
 
 pub returns-in-Running : goal.returns-in-Running

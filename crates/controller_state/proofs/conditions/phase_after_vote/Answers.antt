@@ -1,7 +1,6 @@
 use Prim.Native.Nat.{suc}
 use native.Mathlib.Omega.{arith}
 use borrow.Author.Tests.{le-leb, lt-leb}
-use Rattle.std.proofs.Common.{rules}
 use Rattle.controller_state.proofs.conditions.phase_after_vote.Goals as goal
 
 pub returns-then-i-f : goal.returns-then-i-f

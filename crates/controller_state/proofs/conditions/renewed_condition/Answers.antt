@@ -1,4 +1,3 @@
-use Rattle.std.proofs.Common.{rules}
 use Rattle.controller_state.proofs.conditions.renewed_condition.Goals as goal
 
 pub returns : goal.returns

@@ -1,6 +1,5 @@
 use native.Mathlib.Numerals.{add-one}
 use borrow.Author.Tests.{lt-ltb, le-ltb}
-use Rattle.std.proofs.Common.{rules}
 use Rattle.controller_state.proofs.holdings.bump.Goals as goal
 
 pub returns-then-k-lt255 : goal.returns-then-k-lt255

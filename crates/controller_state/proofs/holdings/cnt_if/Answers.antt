@@ -1,4 +1,3 @@
-use Rattle.std.proofs.Common.{rules}
 use Rattle.controller_state.proofs.holdings.cnt_if.Goals as goal
 
 pub returns-then-takes : goal.returns-then-takes

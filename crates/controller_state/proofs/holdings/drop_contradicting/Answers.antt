@@ -1,5 +1,4 @@
 use Rattle.protocol.specs.Controllers.{drop_contradicting}
-use Rattle.std.proofs.Common.{rules}
 use Rattle.controller_state.proofs.holdings.drop_contradicting.Goals as goal
 
 pub returns : goal.returns

@@ -3,8 +3,6 @@ use mathlib.Core.Path.{sym, ◌∙◌, ap}
 use Rattle.votes.specs.Joining.{contradicts}
 use Rattle.votes.specs.declared.VoteSet.{VoteSet}
 use Rattle.protocol.specs.Controllers.{drop_if}
-use borrow.Author.Tests.{not-true, not-false}
-use Rattle.std.proofs.Common.{rules}
 use Rattle.controller_state.proofs.holdings.drop_if.Goals as goal
 
 pub returns-then-not-has : goal.returns-then-not-has

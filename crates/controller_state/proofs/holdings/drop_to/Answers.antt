@@ -1,10 +1,9 @@
 -- `drop_to` meets its contract. The invariant: after j senders those of 1..j that contradict the vote set are dropped.
-use Prim.Native.Nat.{ℕ, ◌-◌, ◌≤◌}
+use Prim.Native.Nat.{ℕ}
 use mathlib.Core.Path.{◌≡◌, refl, ◌∙◌, ap}
 use native.Mathlib.Omega.{arith}
 use native.Mathlib.Numerals.{add-one}
 use Rattle.protocol.specs.Controllers.{drop_to}
-use Rattle.std.proofs.Common.{rules}
 use Rattle.controller_state.proofs.holdings.drop_to.Goals as goal
 
 pub loop-j-init : goal.loop-j-init

@@ -1,5 +1,4 @@
 use Rattle.protocol.specs.Controllers.{keep_ack}
-use Rattle.std.proofs.Common.{rules}
 use Rattle.controller_state.proofs.holdings.keep_ack.Goals as goal
 
 pub returns : goal.returns

@@ -1,5 +1,4 @@
 use Rattle.protocol.specs.Controllers.{keep_helped}
-use Rattle.std.proofs.Common.{rules}
 use Rattle.controller_state.proofs.holdings.keep_helped.Goals as goal
 
 pub returns : goal.returns

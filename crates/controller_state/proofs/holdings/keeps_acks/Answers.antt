@@ -1,5 +1,4 @@
 use borrow.Author.Tests.{le-leb, lt-leb}
-use Rattle.std.proofs.Common.{rules}
 use Rattle.controller_state.proofs.holdings.keeps_acks.Goals as goal
 
 pub returns-then-phase_in-le2 : goal.returns-then-phase_in-le2

@@ -1,5 +1,4 @@
 use borrow.Author.Tests.{eq-eqb, ne_eqb}
-use Rattle.std.proofs.Common.{rules}
 use Rattle.controller_state.proofs.holdings.outcome_kept.Goals as goal
 
 pub returns-then-saved-order : goal.returns-then-saved-order

@@ -5,7 +5,6 @@ use lib.ListN.{length}
 use lib.Seq.{set_out}
 use Rattle.ground.specs.Limit.{limit}
 use Rattle.ground.specs.Lists.{put}
-use Rattle.std.proofs.Common.{rules}
 use Rattle.controller_state.proofs.holdings.placed.Goals as goal
 
 pub returns-then-at-ge-LIMIT : goal.returns-then-at-ge-LIMIT

@@ -4,7 +4,6 @@ use lib.ListN.{length}
 use Rattle.ground.specs.Limit.{limit}
 use Rattle.ground.specs.Lists.{nth, nth-at, nth_past}
 use Rattle.votes.specs.VoteSets.{empty}
-use Rattle.std.proofs.Common.{rules}
 use Rattle.controller_state.proofs.holdings.set_of.Goals as goal
 
 pub returns-then-j-lt1 : goal.returns-then-j-lt1

@@ -1,4 +1,3 @@
-use Rattle.std.proofs.Common.{rules}
 use Rattle.controller_state.proofs.sends.after_send.Goals as goal
 
 pub returns-in-To : goal.returns-in-To

@@ -1,5 +1,4 @@
 use Rattle.protocol.specs.Benches.{sent_after}
-use Rattle.std.proofs.Common.{rules}
 use Rattle.controller_state.proofs.sends.sent_after.Goals as goal
 
 pub returns : goal.returns

@@ -1,5 +1,4 @@
 use Rattle.protocol.specs.Benches.{unsent_all}
-use Rattle.std.proofs.Common.{rules}
 use Rattle.controller_state.proofs.sends.unsent_all.Goals as goal
 
 pub returns : goal.returns

@@ -2,7 +2,6 @@ use mathlib.Core.Path.{refl}
 use mathlib.Core.List.{[], ◌∷◌}
 use Rattle.records.specs.Promises.{AskedInSequence}
 use Rattle.event_record.specs.Events.{events}
-use Rattle.std.proofs.Common.{rules}
 use Rattle.event_record.proofs.event.asked_in_sequence.Goals as goal
 
 asked : AskedInSequence events (λ k. 1 ∷ 2 ∷ 3 ∷ []) (λ k. 1 ∷ [])

@@ -1,5 +1,4 @@
 use Rattle.event_record.specs.Events.{ballot_fields}
-use Rattle.std.proofs.Common.{rules}
 use Rattle.event_record.proofs.event.ballot_fields.Goals as goal
 
 pub returns-in-Open : goal.returns-in-Open

@@ -1,6 +1,5 @@
 use mathlib.Core.Path.{◌∙◌, ap}
 use Rattle.event_record.specs.Events.{record_bytes}
-use Rattle.std.proofs.Common.{rules}
 use Rattle.event_record.proofs.event.event_bytes.Goals as goal
 
 pub returns : goal.returns

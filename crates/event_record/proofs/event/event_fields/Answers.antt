@@ -1,6 +1,5 @@
 -- `event_fields` meets its contract: each arm of the match is the event's line of `event_fields`.
 use Rattle.event_record.specs.Events.{event_fields}
-use Rattle.std.proofs.Common.{rules}
 use Rattle.event_record.proofs.event.event_fields.Goals as goal
 
 pub returns-in-Lock : goal.returns-in-Lock

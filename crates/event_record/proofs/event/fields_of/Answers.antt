@@ -1,5 +1,4 @@
 use Rattle.event_record.specs.Events.{fields_of}
-use Rattle.std.proofs.Common.{rules}
 use Rattle.event_record.proofs.event.fields_of.Goals as goal
 
 pub returns-in-Play : goal.returns-in-Play

@@ -5,7 +5,6 @@ use Rattle.model.specs.Questions.{first_no}
 use Rattle.records.proofs.FrameLaws.{frame_refused, frame-length, unlisted, questions-passed}
 use Rattle.event_record.specs.declared.Fields.{Fields}
 use Rattle.event_record.specs.Events.{row_for, events}
-use Rattle.std.proofs.Common.{rules}
 use Rattle.event_record.proofs.event.read_event.Goals as goal
 
 pub returns-then-no-ne0 : goal.returns-then-no-ne0

@@ -1,4 +1,3 @@
-use Rattle.std.proofs.Common.{rules}
 use Rattle.event_record.proofs.event.record_bytes.Goals as goal
 
 pub returns : goal.returns

@@ -1,5 +1,4 @@
 use Rattle.event_record.proofs.RoundTrips.{promises}
-use Rattle.std.proofs.Common.{rules}
 use Rattle.event_record.proofs.event.round_trips.Goals as goal
 
 pub returns : goal.returns

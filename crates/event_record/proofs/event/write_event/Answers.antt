@@ -3,7 +3,6 @@ use mathlib.Core.Path.{refl}
 use Rattle.model.specs.Questions.{first_no}
 use Rattle.records.proofs.FrameLaws.{record-written}
 use Rattle.event_record.specs.Events.{events}
-use Rattle.std.proofs.Common.{rules}
 use Rattle.event_record.proofs.event.write_event.Goals as goal
 
 pub returns : goal.returns

@@ -1,4 +1,3 @@
-use Rattle.std.proofs.Common.{rules}
 use Rattle.event_record.proofs.kinds.decision_listed.Goals as goal
 
 pub returns-then-is_flag : goal.returns-then-is_flag

@@ -1,5 +1,4 @@
 use borrow.Author.Tests.{eq-eqb, ne_eqb}
-use Rattle.std.proofs.Common.{rules}
 use Rattle.event_record.proofs.kinds.opening_listed.Goals as goal
 
 pub returns-then-b-eq0 : goal.returns-then-b-eq0

@@ -1,5 +1,4 @@
 use borrow.Author.Tests.{eq-eqb, ne_eqb}
-use Rattle.std.proofs.Common.{rules}
 use Rattle.event_record.proofs.kinds.order_listed.Goals as goal
 
 pub returns-then-a-ne0 : goal.returns-then-a-ne0

@@ -3,7 +3,6 @@ use mathlib.Core.Path.{refl}
 use Rattle.records.specs.Rows.{row_of}
 use Rattle.event_record.specs.Events.{rows}
 use Rattle.event_record.proofs.Rows.{at_row, no_row, above}
-use Rattle.std.proofs.Common.{rules}
 use Rattle.event_record.proofs.kinds.row_for.Goals as goal
 
 pub returns-in-0 : goal.returns-in-0

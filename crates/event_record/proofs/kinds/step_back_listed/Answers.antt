@@ -1,4 +1,3 @@
-use Rattle.std.proofs.Common.{rules}
 use Rattle.event_record.proofs.kinds.step_back_listed.Goals as goal
 
 pub returns-then-order_listed : goal.returns-then-order_listed

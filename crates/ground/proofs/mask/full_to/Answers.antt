@@ -4,7 +4,6 @@ use mathlib.Core.Path.{sym}
 use native.Mathlib.Omega.{arith}
 use lib.Pow.{pow_pos}
 use Rattle.ground.proofs.Inclusion.{full-past}
-use Rattle.std.proofs.Common.{rules}
 use Rattle.ground.proofs.mask.full_to.Goals as goal
 
 pub returns-then-n-gt32 : goal.returns-then-n-gt32

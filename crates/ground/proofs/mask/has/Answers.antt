@@ -4,7 +4,6 @@ use native.Mathlib.Omega.{arith}
 use Rattle.ground.specs.Mask.{has}
 use Rattle.ground.proofs.MaskLaws.{has-at}
 use Rattle.ground.proofs.Inclusion.{has-past}
-use Rattle.std.proofs.Common.{rules}
 use Rattle.ground.proofs.mask.has.Goals as goal
 
 pub returns-then-k-lt1 : goal.returns-then-k-lt1

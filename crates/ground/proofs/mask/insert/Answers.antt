@@ -3,7 +3,6 @@ use Rattle.ground.proofs.MaskLaws.{insert-zero, insert-past}
 use Rattle.ground.proofs.Computed.{inserted}
 use mathlib.Core.Path.{◌≡◌, sym}
 use native.Mathlib.Omega.{arith}
-use Rattle.std.proofs.Common.{rules}
 use Rattle.ground.proofs.mask.insert.Goals as goal
 
 pub returns-then-k-lt1 : goal.returns-then-k-lt1

@@ -3,7 +3,6 @@ use mathlib.Core.Path.{sym}
 use native.Mathlib.Omega.{arith}
 use Rattle.ground.specs.Mask.{none_above}
 use Rattle.ground.proofs.Inclusion.{none-above-past}
-use Rattle.std.proofs.Common.{rules}
 use Rattle.ground.proofs.mask.none_above.Goals as goal
 
 pub returns-then-n-gt32 : goal.returns-then-n-gt32

@@ -1,7 +1,6 @@
 -- `ground::mask::power` meets its contract: the shift loses nothing, since 2 to the 32 fits 64 bits.
 use Rattle.ground.proofs.Computed.{shifted}
 use native.Mathlib.Omega.{arith}
-use Rattle.std.proofs.Common.{rules}
 use Rattle.ground.proofs.mask.power.Goals as goal
 
 pub returns : goal.returns

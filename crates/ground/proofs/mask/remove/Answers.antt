@@ -1,6 +1,5 @@
 -- `ground::remove` meets its contract, by what `insert` ensures.
 use Rattle.ground.specs.Mask.{remove}
-use Rattle.std.proofs.Common.{rules}
 use Rattle.ground.proofs.mask.remove.Goals as goal
 
 pub returns : goal.returns

@@ -4,7 +4,6 @@ use lib.Count.{ones-le}
 use Rattle.ground.proofs.Sizes.{size_le}
 use Rattle.ground.proofs.Computed.{counted, counted-all}
 use native.Mathlib.Omega.{arith}
-use Rattle.std.proofs.Common.{rules}
 use Rattle.ground.proofs.mask.size.Goals as goal
 
 pub overflow_cast-result : goal.overflow_cast-result

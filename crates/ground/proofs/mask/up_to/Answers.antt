@@ -5,7 +5,6 @@ use native.Mathlib.Omega.{arith}
 use lib.Pow.{pow_pos}
 use Rattle.ground.proofs.UpTo.{up-to_ones, up-to_wide}
 use Rattle.ground.proofs.Computed.{shifted}
-use Rattle.std.proofs.Common.{rules}
 use Rattle.ground.proofs.mask.up_to.Goals as goal
 
 pub returns-then-n-ge32 : goal.returns-then-n-ge32

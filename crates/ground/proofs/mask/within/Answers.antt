@@ -1,7 +1,6 @@
 -- `ground::within` meets its contract: the code is the definition.
 use mathlib.Core.Path.{refl}
 use Rattle.ground.specs.Mask.{within}
-use Rattle.std.proofs.Common.{rules}
 use Rattle.ground.proofs.mask.within.Goals as goal
 
 pub returns : goal.returns

@@ -1,5 +1,4 @@
 use Rattle.message_record.specs.Telegrams.{form_of}
-use Rattle.std.proofs.Common.{rules}
 use Rattle.message_bytes.proofs.forms.form_of.Goals as goal
 
 pub returns : goal.returns

@@ -1,6 +1,5 @@
 use Rattle.message_record.specs.Telegrams.{form_of_twenty}
 use borrow.Author.Tests.{eq-eqb, ne_eqb}
-use Rattle.std.proofs.Common.{rules}
 use Rattle.message_bytes.proofs.forms.form_of_twenty.Goals as goal
 
 pub returns-then-mark-eq-SHORT_MARK : goal.returns-then-mark-eq-SHORT_MARK

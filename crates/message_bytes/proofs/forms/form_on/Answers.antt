@@ -1,6 +1,5 @@
 use Rattle.message_record.specs.Telegrams.{form_for}
 use borrow.Author.Tests.{eq-eqb, ne_eqb}
-use Rattle.std.proofs.Common.{rules}
 use Rattle.message_bytes.proofs.forms.form_on.Goals as goal
 
 pub returns-then-length-eq-LONG_BALLOT_LENGTH : goal.returns-then-length-eq-LONG_BALLOT_LENGTH

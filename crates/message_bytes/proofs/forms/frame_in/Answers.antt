@@ -1,6 +1,5 @@
 -- `frame_in` meets its contract: the length and the mark that it hands on are those of the form.
 use Rattle.message_bytes.proofs.Framing.{framed}
-use Rattle.std.proofs.Common.{rules}
 use Rattle.message_bytes.proofs.forms.frame_in.Goals as goal
 
 pub returns : goal.returns

@@ -1,4 +1,3 @@
-use Rattle.std.proofs.Common.{rules}
 use Rattle.message_bytes.proofs.forms.length_of.Goals as goal
 
 pub returns-in-Votes : goal.returns-in-Votes

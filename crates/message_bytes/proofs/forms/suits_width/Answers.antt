@@ -1,5 +1,4 @@
 use Rattle.message_record.specs.Telegrams.{suits_width}
-use Rattle.std.proofs.Common.{rules}
 use Rattle.message_bytes.proofs.forms.suits_width.Goals as goal
 
 pub returns-in-Short : goal.returns-in-Short

@@ -8,7 +8,6 @@ use Rattle.message_record.specs.declared.MessageWidth.{MessageWidth}
 use Rattle.message_record.specs.declared.MessageWidth.TheVariants.{Short, Long}
 use Rattle.message_record.specs.declared.TelegramForm.{TelegramForm}
 use Rattle.message_record.specs.Telegrams.{formed, telegram_form}
-use Rattle.std.proofs.Common.{rules}
 use Rattle.message_bytes.proofs.forms.telegram_length.Goals as goal
 
 in-byte : (width : MessageWidth) (body : MessageBody) → form_length (telegram_form (formed width body)) < 256

@@ -1,6 +1,5 @@
 use Rattle.message_record.specs.Telegrams.{width_for}
 use borrow.Author.Tests.{le-leb, lt-leb}
-use Rattle.std.proofs.Common.{rules}
 use Rattle.message_bytes.proofs.forms.width_for.Goals as goal
 
 pub returns-then-n-le-SHORT_LIMIT : goal.returns-then-n-le-SHORT_LIMIT

@@ -1,6 +1,5 @@
 use Rattle.message_record.specs.Telegrams.{listed_in}
-use borrow.Author.Tests.{eq-eqb, ne_eqb, not-true, not-false}
-use Rattle.std.proofs.Common.{rules}
+use borrow.Author.Tests.{eq-eqb, ne_eqb}
 use Rattle.message_bytes.proofs.layout.ballot_listed.Goals as goal
 
 pub returns-then-not-is_ballot_kind : goal.returns-then-not-is_ballot_kind

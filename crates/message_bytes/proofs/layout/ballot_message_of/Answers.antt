@@ -1,4 +1,3 @@
-use Rattle.std.proofs.Common.{rules}
 use Rattle.message_bytes.proofs.layout.ballot_message_of.Goals as goal
 
 pub returns : goal.returns

@@ -1,5 +1,4 @@
 use Rattle.message_record.specs.Telegrams.{fields_in}
-use Rattle.std.proofs.Common.{rules}
 use Rattle.message_bytes.proofs.layout.fields_in.Goals as goal
 
 pub returns : goal.returns

@@ -1,5 +1,4 @@
 use Rattle.message_record.specs.Telegrams.{fields_of}
-use Rattle.std.proofs.Common.{rules}
 use Rattle.message_bytes.proofs.layout.fields_of.Goals as goal
 
 pub returns-in-Plain : goal.returns-in-Plain

@@ -1,5 +1,4 @@
 use Rattle.message_record.specs.Telegrams.{listed_in}
-use Rattle.std.proofs.Common.{rules}
 use Rattle.message_bytes.proofs.layout.listed.Goals as goal
 
 pub returns-then-is_kind : goal.returns-then-is_kind

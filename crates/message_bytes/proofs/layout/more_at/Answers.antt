@@ -1,5 +1,4 @@
 use Rattle.records.proofs.ByteLaws.{plus_none}
-use Rattle.std.proofs.Common.{rules}
 use Rattle.message_bytes.proofs.layout.more_at.Goals as goal
 
 pub returns : goal.returns

@@ -1,5 +1,4 @@
 use Rattle.message_bytes.proofs.Framing.{none-there, four-there}
-use Rattle.std.proofs.Common.{rules}
 use Rattle.message_bytes.proofs.layout.more_in.Goals as goal
 
 pub returns-in-Votes : goal.returns-in-Votes

@@ -1,5 +1,4 @@
 use Rattle.message_record.specs.Telegrams.{telegram_of}
-use Rattle.std.proofs.Common.{rules}
 use Rattle.message_bytes.proofs.layout.telegram_of.Goals as goal
 
 pub returns-in-Votes : goal.returns-in-Votes

@@ -1,4 +1,3 @@
-use Rattle.std.proofs.Common.{rules}
 use Rattle.message_bytes.proofs.layout.votes_in.Goals as goal
 
 pub returns-in-Short : goal.returns-in-Short

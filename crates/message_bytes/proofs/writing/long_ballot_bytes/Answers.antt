@@ -1,6 +1,5 @@
 -- `long_ballot_bytes` meets its contract, byte by byte: a field as it is, or a digit of it by what `low_byte` ensures.
 use mathlib.Core.List.{[], ◌∷◌}
-use Rattle.std.proofs.Common.{rules}
 use Rattle.message_bytes.proofs.writing.long_ballot_bytes.Goals as goal
 
 pub returns : goal.returns

@@ -1,6 +1,5 @@
 use Rattle.message_record.specs.declared.MessageBody.TheVariants.{Ballot}
 use Rattle.message_bytes.proofs.Framing.{in-width}
-use Rattle.std.proofs.Common.{rules}
 use Rattle.message_bytes.proofs.writing.write_ballot.Goals as goal
 
 pub returns-in-Short : goal.returns-in-Short

@@ -1,5 +1,4 @@
 use Rattle.message_bytes.proofs.Framing.{in_body}
-use Rattle.std.proofs.Common.{rules}
 use Rattle.message_bytes.proofs.writing.write_in.Goals as goal
 
 pub returns-in-Votes : goal.returns-in-Votes

@@ -1,5 +1,4 @@
 use Rattle.message_bytes.proofs.Framing.{content-is}
-use Rattle.std.proofs.Common.{rules}
 use Rattle.message_bytes.proofs.writing.write_short.Goals as goal
 
 pub returns : goal.returns

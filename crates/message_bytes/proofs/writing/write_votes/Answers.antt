@@ -1,6 +1,5 @@
 use Rattle.message_record.specs.declared.MessageBody.TheVariants.{Votes}
 use Rattle.message_bytes.proofs.Framing.{in-width}
-use Rattle.std.proofs.Common.{rules}
 use Rattle.message_bytes.proofs.writing.write_votes.Goals as goal
 
 pub returns-in-Short : goal.returns-in-Short

@@ -1,9 +1,7 @@
 -- `ballot_question` meets its contract: the head's questions first (`ballot-stopped`, `ballot-past` of Asked), then its own two.
 use Rattle.message_record.specs.BallotMessages.{about_ballot}
-use borrow.Author.Tests.{not-true, not-false}
 use Rattle.model.specs.Questions.{first_no, unless}
 use Rattle.message_record.proofs.Asked.{ballot-stopped, ballot-past}
-use Rattle.std.proofs.Common.{rules}
 use Rattle.message_record.proofs.ballots.ballot_question.Goals as goal
 
 pub returns-then-no-ne0 : goal.returns-then-no-ne0

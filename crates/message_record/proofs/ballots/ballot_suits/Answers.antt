@@ -1,6 +1,5 @@
 use Rattle.message_record.specs.BallotMessages.{ballot_suits}
 use borrow.Author.Tests.{eq-eqb, ne_eqb}
-use Rattle.std.proofs.Common.{rules}
 use Rattle.message_record.proofs.ballots.ballot_suits.Goals as goal
 
 pub returns-then-set-ne0 : goal.returns-then-set-ne0

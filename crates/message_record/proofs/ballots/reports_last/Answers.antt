@@ -1,6 +1,5 @@
 use Rattle.message_record.specs.BallotMessages.{reports_last}
-use borrow.Author.Tests.{eq-eqb, ne_eqb, not-true, not-false}
-use Rattle.std.proofs.Common.{rules}
+use borrow.Author.Tests.{eq-eqb, ne_eqb}
 use Rattle.message_record.proofs.ballots.reports_last.Goals as goal
 
 pub returns-then-last-eq0 : goal.returns-then-last-eq0

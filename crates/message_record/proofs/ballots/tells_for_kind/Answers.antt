@@ -1,5 +1,4 @@
 use Rattle.message_record.specs.BallotMessages.{tells_for_kind}
-use Rattle.std.proofs.Common.{rules}
 use Rattle.message_record.proofs.ballots.tells_for_kind.Goals as goal
 
 pub returns-in-Prepare : goal.returns-in-Prepare

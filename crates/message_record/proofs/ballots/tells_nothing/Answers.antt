@@ -1,6 +1,5 @@
 use Rattle.message_record.specs.BallotMessages.{tells_nothing}
 use borrow.Author.Tests.{eq-eqb, ne_eqb}
-use Rattle.std.proofs.Common.{rules}
 use Rattle.message_record.proofs.ballots.tells_nothing.Goals as goal
 
 pub returns-then-last-eq0 : goal.returns-then-last-eq0

@@ -1,5 +1,4 @@
 use Rattle.message_record.specs.Messages.{bits_in_range}
-use Rattle.std.proofs.Common.{rules}
 use Rattle.message_record.proofs.questions.bits_in_range.Goals as goal
 
 pub returns-then-none_above : goal.returns-then-none_above

@@ -1,6 +1,5 @@
 use Rattle.model.specs.Questions.{first_no, unless}
-use borrow.Author.Tests.{le-leb, lt-leb, not-true, not-false}
-use Rattle.std.proofs.Common.{rules}
+use borrow.Author.Tests.{le-leb, lt-leb}
 use Rattle.message_record.proofs.questions.head_question.Goals as goal
 
 pub returns-then-not-sizes_in_range : goal.returns-then-not-sizes_in_range

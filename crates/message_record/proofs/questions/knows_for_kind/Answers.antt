@@ -1,5 +1,4 @@
 use Rattle.message_record.specs.Messages.{knows_for_kind}
-use Rattle.std.proofs.Common.{rules}
 use Rattle.message_record.proofs.questions.knows_for_kind.Goals as goal
 
 pub returns-in-Vote : goal.returns-in-Vote

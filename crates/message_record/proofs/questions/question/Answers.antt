@@ -1,8 +1,6 @@
 use Rattle.message_record.specs.Messages.{about_message}
-use borrow.Author.Tests.{not-true, not-false}
 use Rattle.model.specs.Questions.{first_no, unless}
 use Rattle.message_record.proofs.Asked.{message-stopped, message-past}
-use Rattle.std.proofs.Common.{rules}
 use Rattle.message_record.proofs.questions.question.Goals as goal
 
 pub returns-then-no-ne0 : goal.returns-then-no-ne0

@@ -1,6 +1,4 @@
-use borrow.Author.Tests.{not-true, not-false}
 use Rattle.message_record.specs.Messages.{suits}
-use Rattle.std.proofs.Common.{rules}
 use Rattle.message_record.proofs.questions.suits.Goals as goal
 
 pub returns-then-not-bits_in_range : goal.returns-then-not-bits_in_range

@@ -1,4 +1,3 @@
-use Rattle.std.proofs.Common.{rules}
 use Rattle.message_record.proofs.questions.telegram_question.Goals as goal
 
 pub returns-in-Plain : goal.returns-in-Plain

@@ -1,5 +1,3 @@
-use borrow.Author.Tests.{not-true, not-false}
-use Rattle.std.proofs.Common.{rules}
 use Rattle.model.proofs.ranges.different_controllers.Goals as goal
 
 pub returns-then-not-is_controller : goal.returns-then-not-is_controller

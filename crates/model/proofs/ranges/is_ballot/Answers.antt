@@ -1,6 +1,5 @@
 use borrow.Author.Tests.{le-leb, lt-leb}
 use Rattle.model.specs.Ranges.{is_ballot}
-use Rattle.std.proofs.Common.{rules}
 use Rattle.model.proofs.ranges.is_ballot.Goals as goal
 
 pub returns-then-b-ge1 : goal.returns-then-b-ge1

@@ -1,6 +1,5 @@
 use borrow.Author.Tests.{le-leb, lt-leb}
 use Rattle.model.specs.Ranges.{is_controller}
-use Rattle.std.proofs.Common.{rules}
 use Rattle.model.proofs.ranges.is_controller.Goals as goal
 
 pub returns-then-k-ge1 : goal.returns-then-k-ge1

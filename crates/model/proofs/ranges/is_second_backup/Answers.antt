@@ -1,5 +1,4 @@
 use native.Mathlib.Numerals.{add-one}
-use Rattle.std.proofs.Common.{rules}
 use Rattle.model.proofs.ranges.is_second_backup.Goals as goal
 
 pub returns : goal.returns

@@ -1,6 +1,5 @@
 use borrow.Author.Tests.{le-leb, lt-leb}
 use Rattle.model.specs.Ranges.{position_in_range}
-use Rattle.std.proofs.Common.{rules}
 use Rattle.model.proofs.ranges.position_in_range.Goals as goal
 
 pub returns-then-p-le20000 : goal.returns-then-p-le20000

@@ -1,6 +1,5 @@
 use borrow.Author.Tests.{le-leb, lt-leb}
 use Rattle.model.specs.Ranges.{sizes_in_range}
-use Rattle.std.proofs.Common.{rules}
 use Rattle.model.proofs.ranges.sizes_in_range.Goals as goal
 
 pub returns-then-n-lt2 : goal.returns-then-n-lt2

@@ -1,7 +1,6 @@
 -- `model::routes::ack_recipients` meets its contract: each way leads to all others of one set, or to nobody.
 use mathlib.Core.Path.{sym, ◌∙◌}
 use Rattle.model.proofs.RouteSets.{backup-acks, second-acks, no-acks}
-use Rattle.std.proofs.Common.{rules}
 use Rattle.model.proofs.routes.ack_recipients.Goals as goal
 
 pub returns-then-is_backup : goal.returns-then-is_backup

@@ -2,7 +2,6 @@
 use mathlib.Core.Path.{◌∙◌}
 use borrow.Author.Tests.{lt-ltb, le-ltb}
 use Rattle.model.proofs.RouteSets.{helps, no-helps}
-use Rattle.std.proofs.Common.{rules}
 use Rattle.model.proofs.routes.help_recipients.Goals as goal
 
 pub returns-then-f-from : goal.returns-then-f-from

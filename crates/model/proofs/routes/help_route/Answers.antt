@@ -1,6 +1,5 @@
 use borrow.Author.Tests.{lt-ltb, le-ltb, eq-eqb, ne_eqb}
 use Rattle.model.specs.Routes.{help_route}
-use Rattle.std.proofs.Common.{rules}
 use Rattle.model.proofs.routes.help_route.Goals as goal
 
 pub returns-then-from-to : goal.returns-then-from-to

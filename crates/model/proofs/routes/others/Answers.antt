@@ -2,7 +2,6 @@
 use mathlib.Core.Path.{◌∙◌}
 use Rattle.ground.proofs.UpTo.{others_are}
 use Rattle.model.specs.Routes.{others_of}
-use Rattle.std.proofs.Common.{rules}
 use Rattle.model.proofs.routes.others.Goals as goal
 
 pub returns : goal.returns

@@ -1,6 +1,5 @@
 -- Each kind by its own set.
 use Rattle.model.specs.Routes.{route, recipients}
-use Rattle.std.proofs.Common.{rules}
 use Rattle.model.proofs.routes.recipients.Goals as goal
 
 pub returns-in-Vote : goal.returns-in-Vote

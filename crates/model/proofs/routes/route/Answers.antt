@@ -1,6 +1,5 @@
 -- Each kind by its own route.
 use Rattle.model.specs.Routes.{route}
-use Rattle.std.proofs.Common.{rules}
 use Rattle.model.proofs.routes.route.Goals as goal
 
 pub returns-in-Vote : goal.returns-in-Vote

@@ -3,7 +3,6 @@ use mathlib.Core.Path.{◌∙◌, ap}
 use native.Mathlib.Numerals.{add-one}
 use Rattle.ground.specs.Mask.{up_to}
 use Rattle.model.proofs.RouteSets.{past_bits}
-use Rattle.std.proofs.Common.{rules}
 use Rattle.model.proofs.routes.up_to_second_backup.Goals as goal
 
 pub returns-then-f-ge255 : goal.returns-then-f-ge255

@@ -1,7 +1,6 @@
 -- `model::routes::vote_recipients` meets its contract: both ways lead to all others of one set.
 use mathlib.Core.Path.{sym, ◌∙◌}
 use Rattle.model.proofs.RouteSets.{backup-votes, other-votes}
-use Rattle.std.proofs.Common.{rules}
 use Rattle.model.proofs.routes.vote_recipients.Goals as goal
 
 pub returns-then-is_backup : goal.returns-then-is_backup

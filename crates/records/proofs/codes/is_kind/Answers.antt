@@ -1,6 +1,5 @@
 use borrow.Author.Tests.{le-leb, lt-leb}
 use Rattle.records.specs.Codes.{is_kind}
-use Rattle.std.proofs.Common.{rules}
 use Rattle.records.proofs.codes.is_kind.Goals as goal
 
 pub returns-then-x-ge1 : goal.returns-then-x-ge1

@@ -1,6 +1,5 @@
 use borrow.Author.Tests.{eq-eqb, ne_eqb}
 use Rattle.records.specs.Codes.{kind_of}
-use Rattle.std.proofs.Common.{rules}
 use Rattle.records.proofs.codes.kind_of.Goals as goal
 
 pub returns-then-x-eq1 : goal.returns-then-x-eq1

@@ -1,7 +1,6 @@
 -- `frame_question` meets its contract.
 use borrow.Author.Tests.{eq-eqb, ne_eqb}
 use Rattle.model.specs.Questions.{first_no, unless}
-use Rattle.std.proofs.Common.{rules}
 use Rattle.records.proofs.frame.frame_question.Goals as goal
 
 pub returns-then-s-size : goal.returns-then-s-size

@@ -1,9 +1,7 @@
 -- `write_record` meets its contract.
 use mathlib.Core.Path.{refl, sym}
 use borrow.Author.Tests.{eq-eqb, ne_eqb}
-use Rattle.records.proofs.ByteLaws.{filled}
 use Rattle.records.specs.Frames.{write_number, buffer_after}
-use Rattle.std.proofs.Common.{rules}
 use Rattle.records.proofs.frame.write_record.Goals as goal
 
 pub returns-then-out-content : goal.returns-then-out-content

@@ -3,7 +3,6 @@ use Prim.Native.Nat.{◌+◌}
 use mathlib.Core.Path.{sym}
 use native.Mathlib.Omega.{arith}
 use Rattle.records.proofs.ByteLaws.{byte_past}
-use Rattle.std.proofs.Common.{rules}
 use Rattle.records.proofs.number.byte_after.Goals as goal
 
 pub returns-then-s-at : goal.returns-then-s-at

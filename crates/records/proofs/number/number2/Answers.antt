@@ -1,6 +1,5 @@
 -- `number2` meets its contract, byte by byte.
 use Rattle.records.proofs.ByteLaws.{plus_none}
-use Rattle.std.proofs.Common.{rules}
 use Rattle.records.proofs.number.number2.Goals as goal
 
 pub returns : goal.returns

@@ -1,6 +1,5 @@
 -- `number4` meets its contract, byte by byte.
 use Rattle.records.proofs.ByteLaws.{plus_none, plus-three}
-use Rattle.std.proofs.Common.{rules}
 use Rattle.records.proofs.number.number4.Goals as goal
 
 pub returns : goal.returns

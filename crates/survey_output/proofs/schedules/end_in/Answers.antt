@@ -5,7 +5,6 @@ use lib.ListN.{length-replicate}
 use Rattle.bench_report.specs.Limits.{most_answers}
 use Rattle.bench_run.specs.declared.RunResult.{RunResult}
 use Rattle.survey_output.proofs.Runs.{is_file, all-run}
-use Rattle.std.proofs.Common.{rules}
 use Rattle.survey_output.proofs.schedules.end_in.Goals as goal
 
 pub returns : goal.returns

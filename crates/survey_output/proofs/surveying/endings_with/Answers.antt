@@ -1,5 +1,4 @@
 -- `survey_output::surveying::endings_with` meets its contract.
-use Rattle.std.proofs.Common.{rules}
 use Rattle.survey_output.proofs.surveying.endings_with.Goals as goal
 
 pub returns-in-Moved : goal.returns-in-Moved

@@ -1,6 +1,5 @@
 -- `survey_output::surveying::most_with` meets its contract.
 use borrow.Author.Tests.{lt-ltb, le-ltb}
-use Rattle.std.proofs.Common.{rules}
 use Rattle.survey_output.proofs.surveying.most_with.Goals as goal
 
 pub returns-then-m-sent : goal.returns-then-m-sent

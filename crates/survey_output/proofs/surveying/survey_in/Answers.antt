@@ -1,16 +1,11 @@
 -- `survey_output::surveying::survey_in` meets its contract. The invariant: the figures are those of the schedules done, and the buffer is as long as a file.
-use Prim.Native.Nat.{◌*◌, ◌-◌, ◌≤◌}
 use mathlib.Core.Path.{◌≡◌, sym, ◌∙◌, ap}
 use native.Mathlib.Omega.{arith}
-use lib.ListN.{length}
-use Rattle.event_record.specs.Events.{event_length}
-use Rattle.generator.specs.Claim.{records_in}
 use Rattle.survey.specs.Surveys.{survey_of}
 use Rattle.survey.proofs.Record.{accepted_record}
 use Rattle.survey_output.specs.Schedules.{end_of}
 use Rattle.survey_output.proofs.Runs.{generates}
 use Rattle.survey_output.proofs.Rooms.{has_room, one_more}
-use Rattle.std.proofs.Common.{rules}
 use Rattle.survey_output.proofs.surveying.survey_in.Goals as goal
 
 pub loop-done-init : goal.loop-done-init

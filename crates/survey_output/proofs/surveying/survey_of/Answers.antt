@@ -7,7 +7,6 @@ use lib.Seq.{length-take-le}
 use Rattle.generator.specs.Output.{longest_output}
 use Rattle.survey.proofs.Record.{accepted_record}
 use Rattle.survey_output.proofs.Runs.{buffer-holds}
-use Rattle.std.proofs.Common.{rules}
 use Rattle.survey_output.proofs.surveying.survey_of.Goals as goal
 
 pub slice_bounds-file-end : goal.slice_bounds-file-end

@@ -1,6 +1,5 @@
 -- `survey_output::surveying::with_one` meets its contract.
 use Rattle.survey.specs.Surveys.{with_one}
-use Rattle.std.proofs.Common.{rules}
 use Rattle.survey_output.proofs.surveying.with_one.Goals as goal
 
 pub returns : goal.returns

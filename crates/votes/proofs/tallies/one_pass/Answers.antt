@@ -1,6 +1,5 @@
 -- `votes::one_pass` meets its contract.
 use Rattle.votes.proofs.Pass.{one_pass}
-use Rattle.std.proofs.Common.{rules}
 use Rattle.votes.proofs.tallies.one_pass.Goals as goal
 
 pub returns : goal.returns

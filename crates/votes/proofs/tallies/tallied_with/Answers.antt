@@ -1,4 +1,3 @@
-use Rattle.std.proofs.Common.{rules}
 use Rattle.votes.proofs.tallies.tallied_with.Goals as goal
 
 pub returns-in-Counted : goal.returns-in-Counted

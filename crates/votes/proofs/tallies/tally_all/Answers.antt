@@ -1,5 +1,4 @@
 -- `votes::tally_all` meets its contract, by what `join_all` and `tally_of` ensure.
-use Rattle.std.proofs.Common.{rules}
 use Rattle.votes.proofs.tallies.tally_all.Goals as goal
 
 pub returns-in_default : goal.returns-in_default

@@ -1,7 +1,6 @@
 -- `votes::tally_of` meets its contract, by what `full_to` ensures of each mask.
 use Rattle.votes.specs.VoteSets.{complete, unanimous}
 use Rattle.votes.specs.Tallies.{tally_of}
-use Rattle.std.proofs.Common.{rules}
 use Rattle.votes.proofs.tallies.tally_of.Goals as goal
 
 pub returns-then-full_to : goal.returns-then-full_to
