@@ -1,5 +1,5 @@
 -- What a "yes" to question 4 or to question 7 says of the numbers.
-use Rattle.std.specs.Prelude.{ℕ, ◌≤◌, ◌<◌, ◌≡◌, true, leb}
+use Rattle.std.specs.Prelude.{ℕ, suc, ◌≤◌, ◌<◌, ◌≡◌, true, ◌&&◌, leb, ltb}
 use Rattle.std.proofs.Common.{leb-true, le-leb}
 use Rattle.ground.specs.Limit.{limit}
 use Rattle.ground.specs.Tests.{and_i, and_l, and_r}
@@ -14,12 +14,15 @@ pub record Ranges (n f : ℕ) : Type 0 where
 
 pub ranges : (n f : ℕ) → sizes_in_range n f ≡ true → Ranges n f
 unfolding sizes_in_range
-ranges n f e = record {
-  some = leb-true _ _ (search (and_l, and_r));
-  small = leb-true _ _ (search (and_l, and_r));
-  low = leb-true _ _ (search (and_l, and_r));
-  high = leb-true _ _ (search (and_l, and_r));
-}
+ranges n f e =
+    let three = and_l (leb 2 n && leb n limit && leb 1 f) (ltb f n) e in
+    let two = and_l (leb 2 n && leb n limit) (leb 1 f) three in
+    record {
+      some = leb-true 2 n (and_l (leb 2 n) (leb n limit) two);
+      small = leb-true n limit (and_r (leb 2 n) (leb n limit) two);
+      low = leb-true 1 f (and_r (leb 2 n && leb n limit) (leb 1 f) three);
+      high = leb-true (suc f) n (and_r (leb 2 n && leb n limit && leb 1 f) (ltb f n) e);
+    }
 
 -- "n controllers, numbered 1 to n"
 pub record Member (n k : ℕ) : Type 0 where
