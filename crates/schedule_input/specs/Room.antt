@@ -9,7 +9,7 @@ use Rattle.text.specs.Text.{refusal}
 use Rattle.text.specs.Lengths.{refusal-length}
 use Rattle.bench_report.specs.Limits.{longest_schedule}
 use Rattle.schedule_text.specs.Texts.{Result, made, refused, write_records, count, write_text}
-use Rattle.schedule_text.specs.Lengths.{Within, records-within}
+use Rattle.schedule_text.proofs.Lengths.{Within, records-within}
 use Rattle.schedule_input.specs.Input.{longest_text, refused_line, records_in, either_or, either_form, records_output, text_or, text_output}
 use Rattle.schedule_input.specs.InputLaws.{refused-line-length, refused_record-length}
 

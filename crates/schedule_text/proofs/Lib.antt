@@ -1,3 +1,4 @@
+pub mod Lengths
 pub mod Tags
 pub mod Shows
 pub mod Held

@@ -5,7 +5,6 @@ pub mod Texts
 pub mod Turning
 pub mod FormLaws
 pub mod TextLaws
-pub mod Lengths
 -- what is promised
 pub mod BothWays
 pub mod LineForLine

@@ -15,7 +15,7 @@ use Rattle.survey.specs.declared.Endings.{Endings}
 use Rattle.survey.specs.declared.Survey.{Survey}
 use Rattle.survey.specs.Ended.{ending_of}
 use Rattle.survey.specs.Surveys.{endings_with, all_kinds, with_one, survey_of}
-use Rattle.survey.specs.Claim.{total as total_of, one_if_moved, one_if_stayed, Surveyed}
+use Rattle.survey.specs.Claim.{total as total_of, one_if_moved, one_if_stayed}
 
 abbrev three : Endings → ℕ
 three e = e.moved + e.stayed + e.rest
@@ -145,19 +145,3 @@ module _ (ends : ℕ → Summary) (s : ℕ) where
     | inl t ↦ rw t (above k (at k).most.sent (at k).most.number (best k) (ltb-true _ _ t))
     | inr t ↦ rw t (before k (at k).most.sent (at k).most.number (best k) (ltb-false _ _ t))
   ]
-
-pub all_surveyed : Surveyed
-all_surveyed = record {
-  moved = λ ends s k. all_moved ends s k;
-  stayed = λ ends s k. all-stayed ends s k;
-  votes = λ ends s k. all-vote ends s k;
-  acks = λ ends s k. all-ack ends s k;
-  helps = λ ends s k. all-help ends s k;
-  helpeds = λ ends s k. all-helped ends s k;
-  adds-up = λ ends s k. adds-up ends s k;
-  most = λ ends s k g l u. (best ends s k).most g l u;
-  reached = λ ends s k l. (best ends s k).reached l;
-  in-run = λ ends s k l. ((best ends s k).low, (best ends s k).high l);
-  smallest = λ ends s k g l u. (best ends s k).smallest g l u;
-  sum = λ ends s k. sum-of_kinds ends s k;
-}

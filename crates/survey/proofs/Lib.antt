@@ -1,3 +1,4 @@
+pub mod AllSurveyed
 pub mod Figures
 pub mod Record
 pub mod Widths

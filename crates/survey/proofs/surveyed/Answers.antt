@@ -1,5 +1,5 @@
 -- `survey::surveyed` meets its contract.
-use Rattle.survey.proofs.Figures.{all_surveyed}
+use Rattle.survey.proofs.AllSurveyed.{all_surveyed}
 use Rattle.survey.proofs.surveyed.Goals as goal
 
 pub returns : goal.returns
