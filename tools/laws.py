@@ -24,6 +24,7 @@ MOVED = {
     "tariff": ["TariffLaws", "ChargeLaws"],
     "dues": ["PiecesLaws"],
     "schedule_text": ["Lengths"],
+    "protocol": ["CallLaws"],
 }
 
 
