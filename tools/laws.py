@@ -23,6 +23,7 @@ MOVED = {
     "levels": ["PairLaws", "EndsLaws"],
     "tariff": ["TariffLaws", "ChargeLaws"],
     "dues": ["PiecesLaws"],
+    "protocol": ["CallLaws"],
 }
 
 

@@ -1,3 +1,4 @@
+pub mod CallLaws
 -- The trials, computed.
 pub mod Computed
 -- the ballots of an order (document 02, U14)

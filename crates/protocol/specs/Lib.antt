@@ -4,7 +4,6 @@ pub mod Rules
 pub mod Calls
 pub mod Sequence
 pub mod SequenceLaws
-pub mod CallLaws
 -- document 02, U14: the ballots of an order, and their rules
 pub mod Ballots
 pub mod BallotRules

@@ -1,5 +1,5 @@
 use Rattle.protocol.specs.Calls.{save}
-use Rattle.protocol.specs.CallLaws.{save-of}
+use Rattle.protocol.proofs.CallLaws.{save-of}
 use Rattle.controller.proofs.lifecycle.save.Goals as goal
 
 pub returns-then-is_present : goal.returns-then-is_present
