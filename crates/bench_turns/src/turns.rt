@@ -67,7 +67,7 @@ pub fn settled_turn(m: Shared, own: Station) -> Effect
     )
 }
 
-// The first timeout, but for the own acknowledgement, which the run lays in behind it.
+// The first timeout, once the own acknowledgement is counted.
 pub fn first_turn(m: Shared, own: Station, id: u8) -> Station
     ensures { result ≡ station_after own (sending (advance own.controller 2) (acks_to (recipients m.n m.f Ack id) own.controller.votes)) }
 {

@@ -17,7 +17,7 @@ use Rattle.levels.proofs.PairLaws.{every, none-low, none-high, not-every-low, no
 
 module _ (above below : Range) where
   module _ (oa : Below (low above) (high above)) (ob : Below (low below) (high below)) where
-    -- the two tests of `by_heads_lem`
+    -- the two tests of `by_heads`
     outside : (int_lt (greatest above below) (minus 150) || int_lt (mm 150) (least above below)) ≡ true → NoPair above below
     outside t = elim (or-e (int_lt (greatest above below) (minus 150)) (int_lt (mm 150) (least above below)) t) [
       | inl g ↦ none-low above below (lt-true (greatest above below) (minus 150) g)

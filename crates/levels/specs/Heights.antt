@@ -24,7 +24,7 @@ pub record Listed (h : Heights) : Type 0 where
   pub low : h.low ≤ 200000
   pub high : h.high ≤ 200000
 
--- `by_heads_lem` in heights: a head below −150, and one above 150
+-- `by_heads` in heights: a head below −150, and one above 150
 abbrev pub under : ℕ → ℕ → Bool
 under above below = nat_lt (above + 150) below
 

@@ -65,7 +65,7 @@ ballot_at b kind i j ballot = ballot_to (identity b.shared i) kind ballot (last_
 pub record WasSentInBallot (b : Bench) (kind : BallotKind) (i j ballot : ℕ) : Type 0 where
   pub order : 1 ≤ b.shared.order
   pub ends : different_controllers b.shared.n i j ≡ true
-  pub in_range_lem : is_ballot ballot ≡ true
+  pub in_range : is_ballot ballot ≡ true
   pub sent : was_sent_in kind b.shared.n ballot i j (row b.ballots ballot) ≡ true
 
 -- controller i's checkpoint

@@ -52,7 +52,7 @@ module _ (b : Bench) (a : Sound b) (i j ballot : ℕ) where
 
   passes : (kind : BallotKind) → WasSentInBallot b kind i j ballot → first_no (about_ballot (ballot_at b kind i j ballot)) ≡ accepted
   unfolding about_ballot ballot_suits is_ballot
-  passes kind s = yes-all (about_ballot (ballot_at b kind i j ballot)) (a.sized, (s.ends, (le-leb 1 _ s.order, (told kind s.sent, (s.in_range_lem, tt)))))
+  passes kind s = yes-all (about_ballot (ballot_at b kind i j ballot)) (a.sized, (s.ends, (le-leb 1 _ s.order, (told kind s.sent, (s.in_range, tt)))))
 
 pub ballot-passes : (b : Bench) (kind : BallotKind) (i j ballot : ℕ) → Reached b → WasSentInBallot b kind i j ballot → first_no (about_ballot (ballot_at b kind i j ballot)) ≡ accepted
 ballot-passes b kind i j ballot (inl z) s = absurd (let q : b.shared.order ≡ 0 = ap (λ (x : Bench). x.shared.order) z ∙ (unfold bench_of in refl) in let h : 1 ≤ b.shared.order = s.order in omega arith)
