@@ -39,7 +39,7 @@ def write(path, text):
 
 
 def laws(text):
-    """The statements of a file, with the parameters of the modules that they stand in; words in `where` and helpers that are local to a proof are none."""
+    """The statements of a file, and its definitions with their bodies, with the parameters of the modules that they stand in; words in `where` and helpers that are local to a proof are none."""
     found, modules, lines, i = [], [], text.split("\n"), 0
     while i < len(lines):
         l = lines[i]
@@ -48,6 +48,14 @@ def laws(text):
             modules = [m for m in modules if m[0] < depth]
             if re.match(r"\s*module _ ", l):
                 modules.append((depth, l.strip()))
+            elif re.match(r"\s*(?:abbrev |unfoldable |pub )*(?:record|data|abbrev|unfoldable|pub) ", l) and not re.match(r"\s*pub [^\s()]+ : ", l) and depth == (modules[-1][0] + 2 if modules else 0):
+                # a definition, with its body
+                k = i + 1
+                while k < len(lines) and lines[k].strip():
+                    k += 1
+                found.append(([m[1] for m in modules], "\n".join(x[depth:] for x in lines[i:k])))
+                i = k
+                continue
             elif (m := re.match(r"\s*(pub )?([^\s()]+) : ", l)) and m.group(2) not in ("abbrev", "unfoldable") and depth == (modules[-1][0] + 2 if modules else 0):
                 k = i + 1
                 while k < len(lines) and lines[k].strip() and len(lines[k]) - len(lines[k].lstrip()) > depth:
@@ -68,7 +76,10 @@ def listed():
                 if modules != last:
                     print("".join(f"    in {m}\n" for m in modules), end="")
                     last = modules
-                print("    " + statement)
+                print("    " + statement.replace("\n", "\n    "))
+    print("\nlevels: specs/Examples.antt is proofs/ExamplesRight.antt\n")
+    for _, statement in laws(read("crates/levels/proofs/ExamplesRight.antt")):
+        print("    " + statement.replace("\n", "\n    "))
     return 0
 
 
