@@ -30,15 +30,11 @@ pub fn chosen_in(word: Outcome, accepted_by: u32, n: u8, to_move: bool) -> bool
 pub fn is_chosen(n: u8, rows: [BallotRow; BALLOTS], to_move: bool) -> bool
     ensures { (acceptors : List Acceptor) → result ≡ is_chosen n (record { acceptors = acceptors; rows = rows }) to_move }
 {
-    let mut at: usize = 0;
-    while at < BALLOTS {
-        let row = rows[at];
+    for row in &rows {
         let tally = row.tally;
-        let word = tally.word;
-        if chosen_in(word, row.accepted_by, n, to_move) {
+        if chosen_in(tally.word, row.accepted_by, n, to_move) {
             return true;
         }
-        at += 1;
     }
     false
 }

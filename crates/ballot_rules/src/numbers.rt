@@ -2,14 +2,13 @@
 ghost use Rattle.std.specs.Prelude.{◌≡◌};
 ghost use Rattle.protocol.specs.Ballots.{owner, majority};
 
-use controller_state::lower;
 use ground::size;
 
 // Whose ballot b is. Of a lock without controllers, which there is not, the definition says the number itself.
 pub fn owner(n: u8, b: u8) -> u8
     ensures { result ≡ owner n b }
 {
-    let before = lower(b);
+    let before = b.saturating_sub(1);
     if n < 1 {
         return before + 1;
     }

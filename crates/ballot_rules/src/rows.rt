@@ -7,30 +7,17 @@ ghost use Rattle.protocol.specs.Ballots.{owner};
 ghost use Rattle.protocol.specs.BallotSteps.{row_after, was_sent_in, may_open_ballot};
 
 use crate::numbers::owner;
-use controller_state::{from_if, lower};
-use ground::{LIMIT, has};
+use controller_state::from_if;
+use ground::{LIMIT, has, put};
 use model::{BallotKind, is_ballot, is_none};
 use protocol::{Acceptor, BallotAnswer, BallotRow};
 
-// What the promises report, with that of controller i. Only as many as the limit have a place.
-fn placed(lasts: [u8; LIMIT], i: u8, last: u8) -> [u8; LIMIT]
-    ensures { result ≡ put lasts i last }
-{
-    let at = lower(i) as usize;
-    let mut next = lasts;
-    if LIMIT <= at {
-        return next;
-    }
-    next[at] = last;
-    next
-}
-
-// The same, if it gives one.
+// What the promises report, with that of controller i if it gives one. Only as many as the limit have a place.
 fn reports(given: bool, lasts: [u8; LIMIT], i: u8, last: u8) -> [u8; LIMIT]
     ensures { result ≡ cond given (put lasts i last) lasts }
 {
     if given {
-        return placed(lasts, i, last);
+        return put(lasts, i as usize, last);
     }
     lasts
 }

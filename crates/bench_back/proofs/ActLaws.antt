@@ -14,8 +14,7 @@ use Rattle.model.specs.declared.Event.{Event}
 use Rattle.protocol.specs.declared.Bench.{Bench}
 use Rattle.protocol.specs.Questions.{reply}
 use Rattle.bench_state.proofs.Replies.{zero-accepted}
-use Rattle.bench_step.specs.declared.Stepped.{Stepped}
-use Rattle.bench_step.specs.Steps.{stepped}
+use Rattle.bench_step.specs.Steps.{Stepped, stepped}
 use Rattle.steps_back.specs.Memory.{Remembering, can_be_undone, past_after, set_back, back_reply, answer, done, next}
 use Rattle.steps_back.proofs.Moments.{plain-one}
 use Rattle.bench_back.specs.declared.Recall.{Recall}
@@ -51,11 +50,8 @@ module _ (b : Bench) (e : Event) (past : List Bench) (d : Stepped) (given : d �
     unfolding recall_of answer
     taken = rw (zero-accepted b e (sym answered ∙ z))
 
-    pub remembered : can_be_undone e ≡ true → ◌≡◌ {A = Acted} (record { answer = d.answer; bench = d.bench; recall = More }) (acted s (Play e))
-    remembered u = played More (sym (taken ∙ ap (λ (t : Bool). cond t More Nothing) u))
-
-    pub not-remembered : can_be_undone e ≡ false → ◌≡◌ {A = Acted} (record { answer = d.answer; bench = d.bench; recall = Nothing }) (acted s (Play e))
-    not-remembered u = played Nothing (sym (taken ∙ ap (λ (t : Bool). cond t More Nothing) u))
+    pub accepted : (recall : Recall) → recall ≡ recall_by (Play e) → ◌≡◌ {A = Acted} (record { answer = d.answer; bench = d.bench; recall = recall }) (acted s (Play e))
+    accepted recall r = played recall (r ∙ sym taken)
 
 -- a step back: by the number that its questions gave
 module _ (b newest : Bench) (older : List Bench) (remembers : Bool) (q : ℕ) (e : q ≡ number (back_reply b.shared.locked remembers)) where

@@ -5,7 +5,7 @@
 ghost use Rattle.std.specs.Prelude.{◌≡◌, List};
 ghost use Rattle.model.specs.declared.Act.TheVariants.{Play, Back};
 ghost use Rattle.steps_back.specs.Memory.{can_be_undone};
-ghost use Rattle.bench_back.specs.Recalls.{remembering_of, acted, Recalls};
+ghost use Rattle.bench_back.specs.Recalls.{remembering_of, recall_by, acted, Recalls};
 
 use bench_step::step;
 use model::{Act, Event};
@@ -22,6 +22,7 @@ pub enum Recall {
 }
 
 // What an act returns: the answer, 0 or the first question answered "no"; the bench after it; what is remembered.
+// stays (no plainer): a refused act too leaves a bench and says what is remembered, and callers take both alike, whatever the answer.
 #[derive(Clone, Copy)]
 pub struct Acted {
     pub answer: u8,
@@ -32,62 +33,50 @@ pub struct Acted {
 fn can_be_undone(e: Event) -> bool
     ensures { result ≡ can_be_undone e }
 {
-    match e {
-        Event::Lock { .. } => false,
-        Event::Order { .. } => true,
-        Event::Cast { .. } => true,
-        Event::Deliver { .. } => true,
-        Event::Timeout { .. } => true,
-        Event::Decide { .. } => true,
-        Event::Stop { .. } => true,
-        Event::Save { .. } => true,
-        Event::Restore { .. } => true,
-        Event::OfBallots { .. } => true,
+    !matches!(e, Event::Lock { .. })
+}
+
+// What becomes of what is remembered at an accepted event.
+fn recall_by(e: Event) -> Recall
+    ensures { result ≡ recall_by (Play e) }
+{
+    if can_be_undone(e) {
+        return Recall::More;
     }
+    Recall::Nothing
 }
 
 fn play(b: Bench, e: Event) -> Acted
     ensures { (past : List Bench) → result ≡ acted (record { bench = b; past = past }) (Play e) }
 {
-    let done = step(b, e);
-    let bench = done.bench;
-    let answer = done.answer;
-    if answer != 0 {
-        return Acted {
-            answer,
+    match step(b, e) {
+        Ok(bench) => Acted {
+            answer: 0,
             bench,
+            recall: recall_by(e),
+        },
+        Err(q) => Acted {
+            answer: u8::from(q),
+            bench: b,
             recall: Recall::Same,
-        };
-    }
-    if can_be_undone(e) {
-        return Acted {
-            answer,
-            bench,
-            recall: Recall::More,
-        };
-    }
-    Acted {
-        answer,
-        bench,
-        recall: Recall::Nothing,
+        },
     }
 }
 
 fn back(b: Bench, remembers: bool, newest: Bench) -> Acted
     ensures { (older : List Bench) → result ≡ acted (remembering_of b remembers newest older) Back }
 {
-    let answer = back_question(b.shared.locked, remembers);
-    if answer != 0 {
-        return Acted {
-            answer,
+    match back_question(b.shared.locked, remembers) {
+        Ok(()) => Acted {
+            answer: 0,
+            bench: newest,
+            recall: Recall::Fewer,
+        },
+        Err(q) => Acted {
+            answer: u8::from(q),
             bench: b,
             recall: Recall::Same,
-        };
-    }
-    Acted {
-        answer,
-        bench: newest,
-        recall: Recall::Fewer,
+        },
     }
 }
 

@@ -9,7 +9,7 @@ use borrow.Author.Tests.{le-leb, lt-leb, lt-ltb, le-ltb}
 use lib.ListN.{length}
 use Rattle.text.specs.Text.{digits, decimal, refusal}
 use Rattle.records.specs.Bytes.{AllBytes}
-use Rattle.schedule_text.specs.Texts.{Result, made, refused, write_text}
+use Rattle.schedule_text.specs.Texts.{Turn, made, refused, write_text}
 use Rattle.schedule_input.specs.Input.{is_text, longest_text, records_in, either_or, either_form, text_or}
 use Rattle.schedule_input.specs.InputLaws.{of-text, of-records}
 use Rattle.schedule_input.specs.Room.{few-lines}
@@ -35,7 +35,7 @@ of-made s r = elim (dec_lt longest_schedule (length r)) [
   | no n ↦ rw (le-leb (length r) longest_schedule (omega arith))
 ]
 
-short : (s : List ℕ) (x : Result) → length s ≤ longest_text → x ≡ records_in s → printed_of s ≡ either_or output_of s x
+short : (s : List ℕ) (x : Turn) → length s ≤ longest_text → x ≡ records_in s → printed_of s ≡ either_or output_of s x
 unfolding either_form
 short s x h e = rw (le-ltb longest_text (length s) h, e)
 
@@ -52,7 +52,7 @@ too_many s t e h = elim (dec_lt longest_schedule (length s)) [
   | yes l ↦ l
   | no n ↦
       let f : length (text_or (write_text s)) ≤ 327680 = few-lines s (omega arith) in
-      let g : length (text_or (write_text s)) ≡ length t = ap (λ (x : Result). length (text_or x)) e in
+      let g : length (text_or (write_text s)) ≡ length t = ap (λ (x : Turn). length (text_or x)) e in
       absurd (omega arith)
 ]
 

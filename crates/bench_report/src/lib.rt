@@ -11,7 +11,7 @@ use ground::LIMIT;
 use lines::{put_answers, put_controllers, put_messages};
 pub use lines::{put_controller, row_at};
 use model::{Event, Outcome};
-use text::write_refusal;
+use text::{Writer, write_refusal};
 
 mod lines;
 
@@ -34,6 +34,7 @@ pub const LONGEST_OUTPUT: usize = MOST_ANSWERS * ANSWER_LINE
     + MESSAGE_LINE;
 
 // The last four digits of a number, as they are printed.
+// stays (speed): the digits of an index are counted up by tens, not divided out at each line.
 #[derive(Clone, Copy)]
 pub(crate) struct Digits {
     pub thousands: u8,
@@ -125,9 +126,9 @@ fn put_report(out: &mut [u8], answers: &[u8], s: Summary) -> usize
     requires { length answers.now ≤ most_answers }
     ensures { Put out.old out.new 0 result (report_of answers.now s) }
 {
-    let rows = s.rows;
-    let messages = s.messages;
-    let next = put_answers(&mut *out, answers);
-    let next = put_controllers(&mut *out, next, s.n, rows);
-    put_messages(&mut *out, next, messages)
+    let at = put_answers(&mut *out, answers);
+    let mut w = Writer { out, at };
+    put_controllers(&mut w, s.n, s.rows);
+    put_messages(&mut w, s.messages);
+    w.at
 }

@@ -1,6 +1,7 @@
 // The lines of the report.
 ghost use Rattle.std.specs.Prelude.{◌≡◌, ◌∷◌, [], ◌++◌, ℕ, ◌≤◌, ◌<◌, ◌+◌, ◌*◌, ◌-◌, min, length, get_or};
 ghost use Rattle.text.specs.Text.{ascii, decimal, line};
+ghost use Rattle.text.specs.Writers.{Wrote};
 ghost use Rattle.text.specs.Writing.{Put};
 ghost use Rattle.bench_report.specs.Digits.{digits_of};
 ghost use Rattle.bench_report.specs.Limits.{most_answers, answer_width};
@@ -9,7 +10,7 @@ ghost use Rattle.bench_report.specs.Lines.{letter, blank_row, controller_line, a
 use crate::{ANSWER_LINE, Digits, MessageCounts, Row};
 use ground::LIMIT;
 use model::Outcome;
-use text::{put_byte, put_field, put_number, put_signed_field};
+use text::Writer;
 
 // "outcome (M, S, -)"
 fn letter_of(outcome: Outcome) -> u8
@@ -23,14 +24,15 @@ fn letter_of(outcome: Outcome) -> u8
 }
 
 // A space and an outcome.
-fn put_outcome(out: &mut [u8], at: usize, outcome: Outcome) -> usize
-    ensures { Put out.old out.new at result (ascii " " ++ letter outcome) }
+fn put_outcome(w: &mut Writer, outcome: Outcome)
+    ensures { Wrote w.old w.new (ascii " " ++ letter outcome) }
 {
-    let next = put_byte(&mut *out, at, b' ');
-    put_byte(&mut *out, next, letter_of(outcome))
+    w.byte(b' ');
+    w.byte(letter_of(outcome))
 }
 
 // A byte where there is room for it.
+// stays (speed): the lines of the answers are put on a buffer and a place, with no test of the buffer's end (`put_in` to `put_answers_in`).
 fn put_in(out: &mut [u8], at: usize, b: u8) -> usize
     requires { at < length out.old }
     ensures { Put out.old out.new at result (b ∷ []) × (result ≡ at + 1) }
@@ -106,30 +108,31 @@ fn put_rest(out: &mut [u8], at: usize, answer: u8) -> usize
         let next = put_in(&mut *out, next, b'0' + answer);
         return put_in(&mut *out, next, b'\n');
     }
-    let next = put_number(&mut *out, next, answer as u32);
-    put_byte(&mut *out, next, b'\n')
+    let mut w = Writer { out, at: next };
+    w.number(answer as u32);
+    w.byte(b'\n');
+    w.at
 }
 
 // An index and an answer.
-fn put_answer(out: &mut [u8], at: usize, i: u32, answer: u8) -> usize
-    ensures { Put out.old out.new at result (line (decimal i ∷ decimal answer ∷ [])) }
+fn put_answer(w: &mut Writer, i: u32, answer: u8)
+    ensures { Wrote w.old w.new (line (decimal i ∷ decimal answer ∷ [])) }
 {
-    let next = put_number(&mut *out, at, i);
-    let next = put_field(&mut *out, next, answer as u32);
-    put_byte(&mut *out, next, b'\n')
+    w.number(i);
+    w.field(answer as u32);
+    w.byte(b'\n')
 }
 
 // The C line of controller k.
-pub fn put_controller(out: &mut [u8], at: usize, k: u32, row: Row) -> usize
-    ensures { Put out.old out.new at result (controller_line k row) }
+pub fn put_controller(w: &mut Writer, k: u32, row: Row)
+    ensures { Wrote w.old w.new (controller_line k row) }
 {
-    let next = put_byte(&mut *out, at, b'C');
-    let next = put_field(&mut *out, next, k);
-    let next = put_field(&mut *out, next, row.stage as u32);
-    let outcome = row.outcome;
-    let next = put_outcome(&mut *out, next, outcome);
-    let next = put_signed_field(&mut *out, next, row.position);
-    put_byte(&mut *out, next, b'\n')
+    w.byte(b'C');
+    w.field(k);
+    w.field(row.stage as u32);
+    put_outcome(w, row.outcome);
+    w.signed_field(row.position);
+    w.byte(b'\n')
 }
 
 // The row at an index; past the last, a blank one.
@@ -146,18 +149,6 @@ pub fn row_at(rows: [Row; LIMIT], i: usize) -> Row
     rows[i]
 }
 
-// How many of the numbers below a count have so many tens?
-fn decade_size(count: usize, tens: usize) -> usize
-    requires { tens * 10 ≤ count }
-    ensures { result ≡ min 10 (count - tens * 10) }
-{
-    let rest = count - tens * 10;
-    if rest < 10 {
-        return rest;
-    }
-    10
-}
-
 // The lines of the indices that have so many tens; the digits of the first are given. The buffer has room for all lines at their longest. How many digits
 // an index has is the same at each of these lines, so the loop need not test it.
 fn put_decade(out: &mut [u8], at: usize, answers: &[u8], tens: usize, d: Digits) -> usize
@@ -165,13 +156,11 @@ fn put_decade(out: &mut [u8], at: usize, answers: &[u8], tens: usize, d: Digits)
     requires tens_in_bounds { (tens * 10 ≤ length answers.now) × (at ≤ tens * 10 * answer_width) × (d ≡ digits_of (tens * 10)) }
     ensures { Put out.old out.new at result (decade_lines answers.now tens) }
 {
-    let size = decade_size(answers.len(), tens);
+    let size = (answers.len() - tens * 10).min(10);
     let mut next = at;
-    let mut ones: usize = 0;
-    while ones < size {
+    for ones in 0..size {
         next = put_index(&mut *out, next, tens, d, ones);
         next = put_rest(&mut *out, next, answers[tens * 10 + ones]);
-        ones += 1;
     }
     next
 }
@@ -189,6 +178,7 @@ fn put_answers_in(out: &mut [u8], answers: &[u8]) -> usize
         tens: b'0',
         ones: b'0',
     };
+    // stays (no plainer): a `for` would need the number of decades, rounded up, first
     while tens * 10 < answers.len() {
         next = put_decade(&mut *out, next, answers, tens, d);
         d = next_decade(d);
@@ -206,38 +196,31 @@ pub(crate) fn put_answers(out: &mut [u8], answers: &[u8]) -> usize
     if answers.len() * ANSWER_LINE <= out.len() {
         return put_answers_in(&mut *out, answers);
     }
-    let mut next: usize = 0;
-    let mut i: usize = 0;
-    while i < answers.len() {
-        next = put_answer(&mut *out, next, i as u32, answers[i]);
-        i += 1;
+    let mut w = Writer::new(out);
+    for i in 0..answers.len() {
+        put_answer(&mut w, i as u32, answers[i]);
     }
-    next
+    w.at
 }
 
 // A C line for each controller.
-pub(crate) fn put_controllers(out: &mut [u8], at: usize, n: u8, rows: [Row; LIMIT]) -> usize
-    ensures { Put out.old out.new at result (controller_lines n rows) }
+pub(crate) fn put_controllers(w: &mut Writer, n: u8, rows: [Row; LIMIT])
+    ensures { Wrote w.old w.new (controller_lines n rows) }
 {
-    let end = n as usize;
-    let mut next = at;
-    let mut i: usize = 0;
-    while i < end {
+    for i in 0..n as usize {
         let row = row_at(rows, i);
-        next = put_controller(&mut *out, next, i as u32 + 1, row);
-        i += 1;
+        put_controller(w, i as u32 + 1, row);
     }
-    next
 }
 
 // The T line.
-pub(crate) fn put_messages(out: &mut [u8], at: usize, sent: MessageCounts) -> usize
-    ensures { Put out.old out.new at result (message_line sent) }
+pub(crate) fn put_messages(w: &mut Writer, sent: MessageCounts)
+    ensures { Wrote w.old w.new (message_line sent) }
 {
-    let next = put_byte(&mut *out, at, b'T');
-    let next = put_field(&mut *out, next, sent.vote);
-    let next = put_field(&mut *out, next, sent.ack);
-    let next = put_field(&mut *out, next, sent.help);
-    let next = put_field(&mut *out, next, sent.helped);
-    put_byte(&mut *out, next, b'\n')
+    w.byte(b'T');
+    w.field(sent.vote);
+    w.field(sent.ack);
+    w.field(sent.help);
+    w.field(sent.helped);
+    w.byte(b'\n')
 }

@@ -40,19 +40,7 @@ fn place_after(at: usize) -> usize
 fn one_more(count: usize) -> usize
     ensures { result ≡ min most_remembered (count + 1) }
 {
-    if count < MOST_REMEMBERED {
-        return count + 1;
-    }
-    MOST_REMEMBERED
-}
-
-fn one_fewer(count: usize) -> usize
-    ensures { result ≡ count - 1 }
-{
-    if count == 0 {
-        return 0;
-    }
-    count - 1
+    count.saturating_add(1).min(MOST_REMEMBERED)
 }
 
 // The ring after an act.
@@ -67,7 +55,7 @@ pub fn ring_after(ring: Ring, recall: Recall) -> Ring
         },
         Recall::Fewer => Ring {
             at: place_before(ring.at),
-            count: one_fewer(ring.count),
+            count: ring.count.saturating_sub(1),
         },
         Recall::Nothing => Ring { count: 0, ..ring },
     }

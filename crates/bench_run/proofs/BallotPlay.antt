@@ -6,14 +6,16 @@ use mathlib.Core.List.{List, []}
 use mathlib.Core.Logic.{inl, inr}
 use native.Mathlib.Omega.{arith}
 use native.Mathlib.Numerals.{add-one}
-use lib.Dec.{eqb}
 use lib.ListN.{get_or, set}
-use borrow.Author.Tests.{eqb-true, eqb-false}
 use Rattle.ground.specs.Limit.{limit}
-use Rattle.ground.specs.Tests.{split, by_cond}
+use Rattle.ground.specs.Tests.{split}
 use Rattle.ground.specs.Lists.{nth, put, nth-at}
 use Rattle.ground.specs.Quantify.{any_to}
+use Rattle.std.specs.Prelude.{Result, Ok, Err}
 use Rattle.model.specs.QuestionLaws.{AllYes}
+use Rattle.model.specs.Refusals.{reply_of, numbered, replied as replied_with}
+use Rattle.model.specs.RefusalLaws.{never_zero}
+use Rattle.model.specs.declared.Refusal.{Refusal}
 use Rattle.model.specs.declared.Outcome.{Outcome}
 use Rattle.model.specs.declared.BallotEvent.{BallotEvent}
 use Rattle.model.specs.declared.Event.TheVariants.{OfBallots}
@@ -26,17 +28,28 @@ use Rattle.protocol.specs.declared.Station.{Station}
 use Rattle.protocol.specs.Ballots.{ballot_limit, is_ballot, majority, new_acceptor, new_row, acceptor, row, is_word_of, chosen_in, is_chosen}
 use Rattle.protocol.specs.BallotSteps.{ballot_subject, row_after, answered}
 use Rattle.protocol.specs.Benches.{controller}
-use Rattle.protocol.specs.Questions.{Facts, number, first_no, may_open, may_give, was_proposed, no_other_word, questions_of, facts_of}
+use Rattle.protocol.specs.Questions.{Reply, accepted, refused, Facts, number, first_no, may_open, may_give, was_proposed, no_other_word, questions_of, facts_of}
 use Rattle.protocol.specs.Steps.{perform}
 use Rattle.bench_state.specs.BallotQuestions.{ballot_number, ballot_asked}
 use Rattle.bench_state.proofs.BallotReplies.{has-row, in_row}
 use Rattle.bench_turns.specs.declared.BallotTurn.{BallotTurn}
-use Rattle.bench_turns.specs.BallotTurns.{reported_ballot, word_in, ballot_answer, ballot_turn}
-use Rattle.bench_turns.proofs.BallotLaws.{same_set, reported_of, word_read, ballots-answered}
+use Rattle.bench_turns.specs.BallotTurns.{reported_ballot, word_in, ballot_answer, turn_with, ballot_turn}
+use Rattle.bench_turns.proofs.BallotLaws.{reported_of, word_read, ballots-answered}
 use Rattle.bench_run.proofs.Asking.{same-ballot, ballot_seat}
 use Rattle.bench_run.proofs.Local.{bench_with, Asked, own_seat, replied, yes-to-all, steps, few}
 use Rattle.bench_run.proofs.Records.{Task, Notes, Upto, let_through}
-use Rattle.bench_run.proofs.PlayLaws.{PlaceOf, station_at, Reading, asked_of, refused}
+use Rattle.bench_run.proofs.PlayLaws.{PlaceOf, station_at, Reading, asked_of, refused as event-refused}
+
+-- a turn by its reply: what it answers, and what it leaves
+reply_is : (t : Result BallotTurn Refusal) (r : Reply) (x : BallotTurn) → numbered t ≡ replied_with r x → reply_of t ≡ r
+reply_is (Ok y) accepted x e = refl
+reply_is (Ok y) (refused j) x e = cc
+reply_is (Err n) accepted x e = cc
+reply_is (Err n) (refused j) x e = cc
+
+value_is : (y : BallotTurn) (r : Reply) (x : BallotTurn) → ◌≡◌ {A = Result BallotTurn ℕ} (Ok y) (replied_with r x) → y ≡ x
+value_is y accepted x e = cc
+value_is y (refused j) x e = cc
 
 -- question 18 looks at the first i rows
 pub none-chosen : (n : ℕ) (bs : Ballots) (v : Bool) → false ≡ any_to 0 (chosen_in n bs v)
@@ -110,7 +123,7 @@ module _ (task : Task) (notes : Notes) (k spot : ℕ) (m : Shared) (bs : Ballots
       (ap number (same-ballot facts has-few e (acceptor_at bs at) (row_at bs p) acceptor-read row_read))
 
   ballot-refused : (q ≡ 0 → ⊥) → Upto task notes (k + 1) (bench_with m bs l) (set out spot q)
-  ballot-refused = refused task notes k spot m bs l out (OfBallots e) g at at q ballot-asked
+  ballot-refused = event-refused task notes k spot m bs l out (OfBallots e) g at at q ballot-asked
 
   module _ (z : q ≡ 0) where
     yes : AllYes (questions_of facts (OfBallots e))
@@ -176,18 +189,29 @@ module _ (task : Task) (notes : Notes) (k spot : ℕ) (m : Shared) (bs : Ballots
         played : bench_with m (record { acceptors = set bs.acceptors at x.acceptor; rows = set bs.rows p r }) l ≡ perform (bench_with m bs l) (OfBallots e)
         played = unfold perform in ap (λ (y : Ballots). bench_with m y l) (placed ∙ ballots-answered m.n bs proposal e low (in_row n ranged).0)
 
-  -- asked and played by its turn: refused, acceptor and row are put back as they were read
-  pub ballot_played : (last : ℕ) → last ≡ reported_ballot e (row_at bs p) → (o : ℕ) → ((o < ballot_limit) × (1 ≤ last → o ≡ last - 1)) → (v : Outcome) → v ≡ word_in last (row_at bs o)
-      → (t : BallotTurn) → t ≡ ballot_turn m own (acceptor_at bs at) (row_at bs p) v e
-      → Upto task notes (k + 1) (bench_with m (record { acceptors = set bs.acceptors at t.acceptor; rows = set bs.rows p t.row }) l) (set out spot t.answer)
-  unfolding ballot_turn
-  ballot_played last e1 o e2 v e3 t w = subst Played (sym w) (by_cond Played (eqb q 0) _ _ (λ y. ballot-accepted (eqb-true q 0 y) last e1 o e2 v e3 _ refl _ (ap (λ (j : ℕ). row_after (row_at bs p) j answer) (sym subject))) (λ n. put_back (eqb-false q 0 n)))
-    where
-      answer : BallotAnswer
-      answer = ballot_answer m.n (ballot_number e % 256) e own.controller.proposal (acceptor_at bs at) (row_at bs p) v
+  -- asked and played by its turn, with the answer that it tells
+  module _ (last : ℕ) (e1 : last ≡ reported_ballot e (row_at bs p)) (o : ℕ) (e2 : (o < ballot_limit) × (1 ≤ last → o ≡ last - 1)) (v : Outcome) (e3 : v ≡ word_in last (row_at bs o))
+      (t : Result BallotTurn Refusal) (w : numbered t ≡ ballot_turn m own (acceptor_at bs at) (row_at bs p) v e) (told : ℕ) (tells : told ≡ number (reply_of t)) where
+    asked : told ≡ q
+    unfolding ballot_turn
+    asked = tells ∙ ap number (reply_is t _ _ w)
 
-      Played : BallotTurn → Type 0
-      Played y = Upto task notes (k + 1) (bench_with m (record { acceptors = set bs.acceptors at y.acceptor; rows = set bs.rows p y.row }) l) (set out spot y.answer)
+    pub turn-refused : (x : Refusal) → t ≡ Err x → Upto task notes (k + 1) (bench_with m bs l) (set out spot told)
+    turn-refused x is = subst (λ (j : ℕ). Upto task notes (k + 1) (bench_with m bs l) (set out spot j)) (sym asked) (ballot-refused (λ z. never_zero x (sym (rw is at tells) ∙ (asked ∙ z))))
 
-      put_back : (q ≡ 0 → ⊥) → Upto task notes (k + 1) (bench_with m (record { acceptors = set bs.acceptors at (acceptor_at bs at); rows = set bs.rows p (row_at bs p) }) l) (set out spot q)
-      put_back n = subst (λ (y : Ballots). Upto task notes (k + 1) (bench_with m y l) (set out spot q)) (λ i. record { acceptors = sym (same_set bs.acceptors at new_acceptor) i; rows = sym (same_set bs.rows p (new_row [])) i }) (ballot-refused n)
+    pub turn-accepted : (y : BallotTurn) → t ≡ Ok y → Upto task notes (k + 1) (bench_with m (record { acceptors = set bs.acceptors at y.acceptor; rows = set bs.rows p y.row }) l) (set out spot told)
+    unfolding ballot_turn
+    turn-accepted y is = subst Played (sym (value_is y _ _ (rw is at w))) (subst (λ (j : ℕ). Upto task notes (k + 1) (bench_with m (left turn) l) (set out spot j)) (sym asked)
+        (ballot-accepted (sym asked ∙ rw is at tells) last e1 o e2 v e3 _ refl _ (ap (λ (j : ℕ). row_after (row_at bs p) j answer) (sym subject))))
+      where
+        answer : BallotAnswer
+        answer = ballot_answer m.n (ballot_number e % 256) e own.controller.proposal (acceptor_at bs at) (row_at bs p) v
+
+        turn : BallotTurn
+        turn = turn_with (ballot_subject e) (row_at bs p) answer
+
+        left : BallotTurn → Ballots
+        left x = record { acceptors = set bs.acceptors at x.acceptor; rows = set bs.rows p x.row }
+
+        Played : BallotTurn → Type 0
+        Played x = Upto task notes (k + 1) (bench_with m (left x) l) (set out spot told)

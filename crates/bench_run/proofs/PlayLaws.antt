@@ -1,4 +1,5 @@
 -- One event of a run: its questions, asked of the station that is read; what is left where they are answered "no", and where they are answered "yes".
+use Rattle.std.specs.Prelude.{is_some}
 use Prim.Native.Nat.{ℕ, ◌+◌, ◌-◌, ◌*◌, ◌≤◌, ◌<◌, min}
 use mathlib.Core.Path.{◌≡◌, refl, sym, ap, subst, ◌∙◌}
 use mathlib.Core.Bool.{Bool, true, false, cond, not, ◌&&◌, ◌||◌}
@@ -23,7 +24,7 @@ use Rattle.model.specs.declared.Kind.TheVariants.{Vote, Ack, Help, Helped}
 use Rattle.model.specs.declared.Event.{Event}
 use Rattle.model.specs.declared.Event.TheVariants.{Lock, Order, Cast, Deliver, Timeout, Decide, Stop, Save, Restore}
 use Rattle.event_record.specs.Events.{read_event}
-use Rattle.event_record.specs.declared.ReadEvent.TheVariants.{Read}
+use Rattle.std.specs.Prelude.{Ok}
 use Rattle.protocol.specs.declared.Ballots.{Ballots}
 use Rattle.protocol.specs.declared.Condition.{Condition}
 use Rattle.protocol.specs.declared.Condition.TheVariants.{Stopped, Standby}
@@ -37,7 +38,7 @@ use Rattle.protocol.specs.Controllers.{phase_in, phase, advance, bump, cleared, 
 use Rattle.protocol.specs.Rules.{becomes, sending, acks_to, count_own, second_timeout, propose_if_sufficient, vote_arrives, help_arrives, helped_arrives, vote_rule}
 use Rattle.protocol.specs.Calls.{arrives, save}
 use Rattle.protocol.specs.Events.{subject, source}
-use Rattle.protocol.specs.Questions.{number, first_no, questions_of, facts_of, may_open, may_give, is_saved}
+use Rattle.protocol.specs.Questions.{number, first_no, questions_of, facts_of, may_open, may_give}
 use Rattle.protocol.specs.Steps.{station_after, renewed, order_opened, decided_as, answering, keeping, run}
 use Rattle.bench_state.specs.Parts.{facts_at, own_facts, decide_facts, open_facts}
 use Rattle.bench_turns.specs.Turns.{outcome_saved}
@@ -69,7 +70,7 @@ pub record Reading (task : Task) (notes : Notes) (k spot : ℕ) (m : Shared) (bs
   pub more : k < task.all
   pub place : spot ≡ place_of notes.ring notes.noted k notes.count
   pub ready : (notes.on && ltb notes.noted k) ≡ false
-  pub read : read_event (piece task.s spot) ≡ Read (Play e)
+  pub read : read_event (piece task.s spot) ≡ Ok (Play e)
 
 -- from what the code has read
 pub reading : (s : List ℕ) (from : ℕ) (out₀ : List ℕ) (all : ℕ) (notes : Notes) (k spot : ℕ) (m : Shared) (bs : Ballots) (l : List Station) (out : List ℕ) (e : Event)
@@ -253,7 +254,7 @@ module _ (task : Task) (notes : Notes) (k spot : ℕ) (m : Shared) (bs : Ballots
     unfolding untested_effect
     save-accepted z x e = accepted task notes k spot m bs l out (Save i) g at at q save-asked z refl (record { shared = m; station = x }) (ap (λ (v : Station). record { shared = m; station = v }) e)
 
-  module _ (v : Bool) (b : v ≡ is_saved own.saved) (g : Reading task notes k spot m bs l out (Restore i)) (a : q ≡ number (first_no (questions_of (facts_at m c v 0 true) (Restore i)))) where
+  module _ (v : Bool) (b : v ≡ is_some own.saved) (g : Reading task notes k spot m bs l out (Restore i)) (a : q ≡ number (first_no (questions_of (facts_at m c v 0 true) (Restore i)))) where
     restore-asked : Asked m bs l (Restore i) own own at q
     restore-asked = asked_of task notes k spot m bs l out (Restore i) g at at q p p
         (a ∙ ap (λ (x : Condition). number (first_no (questions_of (facts_at m x v 0 true) (Restore i)))) d ∙ ap (λ (x : Bool). number (first_no (questions_of (facts_at m own.controller.condition x 0 true) (Restore i)))) b)

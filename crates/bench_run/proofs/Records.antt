@@ -18,8 +18,8 @@ use Rattle.model.specs.declared.Act.{Act}
 use Rattle.model.specs.declared.Act.TheVariants.{Play, Back}
 use Rattle.model.specs.declared.Event.{Event}
 use Rattle.event_record.specs.Events.{read_event, events}
-use Rattle.event_record.specs.declared.ReadEvent.{ReadEvent}
-use Rattle.event_record.specs.declared.ReadEvent.TheVariants.{Read, Refused}
+use Rattle.event_record.specs.Events.{ReadEvent}
+use Rattle.std.specs.Prelude.{Ok, Err}
 use Rattle.schedule_reader.specs.Pieces.{record_at}
 use Rattle.protocol.specs.declared.Bench.{Bench}
 use Rattle.protocol.specs.Benches.{new_bench}
@@ -58,7 +58,7 @@ pub record Notes : Type 0 where
 -- the record before was an event: what it came to is still to be noted
 pub record AnEvent (s : List ℕ) (k : ℕ) : Type 0 where
   pub event : Event
-  pub read : read_event (piece s k) ≡ Read (Play event)
+  pub read : read_event (piece s k) ≡ Ok (Play event)
 
 -- it plays record k, for the first time
 pub record Playing (t : Task) (x : Notes) (k : ℕ) (b : Bench) (out : List ℕ) : Type 0 where
@@ -151,51 +151,51 @@ number_in (Other StepBack) = 0
 number_in (Other (Unread q)) = q
 number_in (Other Note) = 0
 
-plays-read : (r : ReadEvent) (e : Event) → next_of r ≡ Plays e → r ≡ Read (Play e)
+plays-read : (r : ReadEvent) (e : Event) → next_of r ≡ Plays e → r ≡ Ok (Play e)
 unfolding next_of event_in is_play
-plays-read (Read (Play x)) e p = ap (λ (n : Next). Read (Play (event_in x n))) p
-plays-read (Read Back) e p = absurd (false≢true (ap is_play p))
-plays-read (Refused q) e p = absurd (false≢true (ap is_play p))
+plays-read (Ok (Play x)) e p = ap (λ (n : Next). Ok (Play (event_in x n))) p
+plays-read (Ok Back) e p = absurd (false≢true (ap is_play p))
+plays-read (Err q) e p = absurd (false≢true (ap is_play p))
 
-back_read : (r : ReadEvent) → next_of r ≡ Other StepBack → r ≡ Read Back
+back_read : (r : ReadEvent) → next_of r ≡ Other StepBack → r ≡ Ok Back
 unfolding next_of is_back
-back_read (Read (Play x)) p = absurd (false≢true (ap is_back p))
-back_read (Read Back) p = refl
-back_read (Refused q) p = absurd (false≢true (ap is_back p))
+back_read (Ok (Play x)) p = absurd (false≢true (ap is_back p))
+back_read (Ok Back) p = refl
+back_read (Err q) p = absurd (false≢true (ap is_back p))
 
-unread : (r : ReadEvent) (q : ℕ) → next_of r ≡ Other (Unread q) → r ≡ Refused q
+unread : (r : ReadEvent) (q : ℕ) → next_of r ≡ Other (Unread q) → r ≡ Err q
 unfolding next_of is_unread number_in
-unread (Read (Play x)) q p = absurd (false≢true (ap is_unread p))
-unread (Read Back) q p = absurd (false≢true (ap is_unread p))
-unread (Refused y) q p = ap (λ (n : Next). Refused (number_in n)) p
+unread (Ok (Play x)) q p = absurd (false≢true (ap is_unread p))
+unread (Ok Back) q p = absurd (false≢true (ap is_unread p))
+unread (Err y) q p = ap (λ (n : Next). Err (number_in n)) p
 
 is_refused : ReadEvent → Bool
-is_refused (Read a) = false
-is_refused (Refused q) = true
+is_refused (Ok a) = false
+is_refused (Err q) = true
 
 event_of : Event → ReadEvent → Event
-event_of d (Read (Play e)) = e
-event_of d (Read Back) = d
-event_of d (Refused q) = d
+event_of d (Ok (Play e)) = e
+event_of d (Ok Back) = d
+event_of d (Err q) = d
 
 is_event : ReadEvent → Bool
-is_event (Read (Play e)) = true
-is_event (Read Back) = false
-is_event (Refused q) = false
+is_event (Ok (Play e)) = true
+is_event (Ok Back) = false
+is_event (Err q) = false
 
 -- reading refuses with a number that is not 0
 refusal-of : ReadEvent → ℕ
-refusal-of (Read a) = 0
-refusal-of (Refused q) = q
+refusal-of (Ok a) = 0
+refusal-of (Err q) = q
 
-refusal-numbered : (s : List ℕ) (q : ℕ) → read_event s ≡ Refused q → q ≡ 0 → ⊥
+refusal-numbered : (s : List ℕ) (q : ℕ) → read_event s ≡ Err q → q ≡ 0 → ⊥
 unfolding reads first_no unless refusal-of is_refused
 refusal-numbered s q e z = by (first_no (read_questions events s)) refl e
   where
     refused≢ : {n : ℕ} → refused n ≡ accepted → ⊥
     refused≢ w = false≢true (ap is_accepted w)
 
-    by : (r : Reply) → first_no (read_questions events s) ≡ r → returned events r (value_on events s) ≡ Refused q → ⊥
+    by : (r : Reply) → first_no (read_questions events s) ≡ r → returned events r (value_on events s) ≡ Err q → ⊥
     by accepted x y = false≢true (ap is_refused y)
     by (refused n) x y = refused≢ (sym x ∙ reply-accepted (read_questions events s) n refl (sym (ap number x)) (ap refusal-of y ∙ z))
 
@@ -203,15 +203,15 @@ refusal-numbered s q e z = by (first_no (read_questions events s)) refl e
 unchanged : (s : List ℕ) (k : ℕ) → (answer_at s k ≡ 0 → ⊥) → (at (acts_to s (k + 1)) ≡ at (acts_to s k)) × (left_to s (k + 1) ≡ left_to s k)
 unchanged s k n = by (read_event (piece s k)) refl
   where
-    not_taken : (a : Act) → read_event (piece s k) ≡ Read a → is_accepted (answer (at (acts_to s k)) a) ≡ false
+    not_taken : (a : Act) → read_event (piece s k) ≡ Ok a → is_accepted (answer (at (acts_to s k)) a) ≡ false
     not_taken a e = elim (split (is_accepted (answer (at (acts_to s k)) a))) [
       | inl y ↦ absurd (n (ap (λ (r : ReadEvent). answer_number r (at (acts_to s k))) e ∙ ap number (is-accepted (answer (at (acts_to s k)) a) y)))
       | inr y ↦ y
     ]
 
     by : (r : ReadEvent) → read_event (piece s k) ≡ r → (at (acts_to s (k + 1)) ≡ at (acts_to s k)) × (left_to s (k + 1) ≡ left_to s k)
-    by (Read a) e = (refused-at s k a e (not_taken a e), refused-left s k a e (not_taken a e))
-    by (Refused q) e = (unread-at s k q e, unread-left s k q e)
+    by (Ok a) e = (refused-at s k a e (not_taken a e), refused-left s k a e (not_taken a e))
+    by (Err q) e = (unread-at s k q e, unread-left s k q e)
 
 -- an event whose answer is 0 was accepted
 zero-taken : (b : Bench) (e : Event) → number (reply b e) ≡ 0 → reply b e ≡ accepted
@@ -264,11 +264,11 @@ module _ (t : Task) (x : Notes) (k : ℕ) (b : Bench) (out : List ℕ) (p : Upto
     ]
 
     -- an event is played
-    module _ (e : Event) (read : read_event (piece t.s w) ≡ Read (Play e)) (b' : Bench) (q : ℕ) (steps : b' ≡ step b e) (replies : q ≡ number (reply b e)) where
+    module _ (e : Event) (read : read_event (piece t.s w) ≡ Ok (Play e)) (b' : Bench) (q : ℕ) (steps : b' ≡ step b e) (replies : q ≡ number (reply b e)) where
       first_time : Playing t x k b out → Upto t x (k + 1) b' (set out w q)
       unfolding answer
       first_time a =
-          let at-k : read_event (piece t.s k) ≡ Read (Play e) = ap (λ (j : ℕ). read_event (piece t.s j)) (sym (placed_now a)) ∙ read in
+          let at-k : read_event (piece t.s k) ≡ Ok (Play e) = ap (λ (j : ℕ). read_event (piece t.s j)) (sym (placed_now a)) ∙ read in
           let asked : q ≡ answer_at t.s k = replies ∙ ap (λ (y : Bench). number (reply y e)) (a.bench ∙ sym (as-left (acts_to t.s k))) ∙ ap (λ (r : ReadEvent). answer_number r (at (acts_to t.s k))) (sym at-k) in
           let now : b' ≡ after (left_to t.s (k + 1)) = steps ∙ ap (λ (y : Bench). step y e) a.bench ∙ sym (played t.s k e at-k) in
           let put : take (k + 1) (set out w q) ≡ answers_to t.s (k + 1) = ap (λ (j : ℕ). take (k + 1) (set out j q)) (placed_now a) ∙ one-answered t.s out k q (omega (arith, h, p.room, p.long)) a.answers asked in
@@ -345,14 +345,14 @@ module _ (t : Task) (x : Notes) (k : ℕ) (b : Bench) (out : List ℕ) (p : Upto
       ]
 
     -- a record that is not read
-    module _ (q : ℕ) (read : read_event (piece t.s w) ≡ Refused q) where
+    module _ (q : ℕ) (read : read_event (piece t.s w) ≡ Err q) where
       not-again : Replaying t x k b out → ⊥
       unfolding is_event
       not-again a = false≢true (ap is_event (sym read ∙ (replayed a).read))
 
       not_played : Playing t x k b out → Upto t x (k + 1) b (set out w q)
       not_played a =
-          let at-k : read_event (piece t.s k) ≡ Refused q = ap (λ (j : ℕ). read_event (piece t.s j)) (sym (placed_now a)) ∙ read in
+          let at-k : read_event (piece t.s k) ≡ Err q = ap (λ (j : ℕ). read_event (piece t.s j)) (sym (placed_now a)) ∙ read in
           let same : left_to t.s (k + 1) ≡ left_to t.s k = unread-left t.s k q at-k in
           record {
             upto = omega (arith, h);
@@ -386,7 +386,7 @@ module _ (t : Task) (x : Notes) (k : ℕ) (b : Bench) (out : List ℕ) (p : Upto
       ]
 
     -- a step back
-    module _ (read : read_event (piece t.s w) ≡ Read Back) where
+    module _ (read : read_event (piece t.s w) ≡ Ok Back) where
       no-event : Replaying t x k b out → ⊥
       unfolding is_event
       no-event a = false≢true (ap is_event (sym read ∙ (replayed a).read))
@@ -397,7 +397,7 @@ module _ (t : Task) (x : Notes) (k : ℕ) (b : Bench) (out : List ℕ) (p : Upto
         | inr a ↦ absurd (no-event a)
       ]
 
-      here-read : read_event (piece t.s k) ≡ Read Back
+      here-read : read_event (piece t.s k) ≡ Ok Back
       here-read = ap (λ (j : ℕ). read_event (piece t.s j)) (sym (placed_now playing)) ∙ read
 
       module _ (o : x.on ≡ true) (q : ℕ) (asked : q ≡ back_number b.shared.locked x.undoable) where
@@ -680,9 +680,9 @@ is_note (Other Note) = true
 
 never_note : (r : ReadEvent) → next_of r ≡ Other Note → ⊥
 unfolding next_of is_note
-never_note (Read (Play e)) p = false≢true (ap is_note p)
-never_note (Read Back) p = false≢true (ap is_note p)
-never_note (Refused q) p = false≢true (ap is_note p)
+never_note (Ok (Play e)) p = false≢true (ap is_note p)
+never_note (Ok Back) p = false≢true (ap is_note p)
+never_note (Err q) p = false≢true (ap is_note p)
 
 due_then : (t : Bool) (r : ReadEvent) → next_at t r ≡ Other Note → t ≡ true
 unfolding next_at
@@ -706,19 +706,19 @@ module _ (s : List ℕ) (from w : ℕ) (t : Bool) (n : Next) (e : n ≡ next_at 
   pub event-ready : (x : Event) → n ≡ Plays x → t ≡ false
   event-ready x p = none-due (ap is_note p ∙ (unfold is_note in refl))
 
-  pub event-read : (x : Event) → n ≡ Plays x → read_event (piece (drop from s) w) ≡ Read (Play x)
+  pub event-read : (x : Event) → n ≡ Plays x → read_event (piece (drop from s) w) ≡ Ok (Play x)
   event-read x p = plays-read _ x (sym (read_here (ap is_note p ∙ (unfold is_note in refl))) ∙ p)
 
   pub refused-ready : (q : ℕ) → n ≡ Other (Unread q) → t ≡ false
   refused-ready q p = none-due (ap is_note p ∙ (unfold is_note in refl))
 
-  pub refused-read : (q : ℕ) → n ≡ Other (Unread q) → read_event (piece (drop from s) w) ≡ Refused q
+  pub refused-read : (q : ℕ) → n ≡ Other (Unread q) → read_event (piece (drop from s) w) ≡ Err q
   refused-read q p = unread _ q (sym (read_here (ap is_note p ∙ (unfold is_note in refl))) ∙ p)
 
   pub back-ready : n ≡ Other StepBack → t ≡ false
   back-ready p = none-due (ap is_note p ∙ (unfold is_note in refl))
 
-  pub step-back-read : n ≡ Other StepBack → read_event (piece (drop from s) w) ≡ Read Back
+  pub step-back-read : n ≡ Other StepBack → read_event (piece (drop from s) w) ≡ Ok Back
   step-back-read p = back_read _ (sym (read_here (ap is_note p ∙ (unfold is_note in refl))) ∙ p)
 
   pub due_note : (on : Bool) (noted k : ℕ) → t ≡ (on && ltb noted k) → n ≡ Other Note → (on ≡ true) × (noted < k)

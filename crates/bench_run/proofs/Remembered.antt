@@ -18,8 +18,8 @@ use Rattle.model.specs.declared.Act.TheVariants.{Play, Back}
 use Rattle.model.specs.declared.Event.{Event}
 use Rattle.model.specs.declared.Event.TheVariants.{Lock}
 use Rattle.event_record.specs.Events.{read_event}
-use Rattle.event_record.specs.declared.ReadEvent.{ReadEvent}
-use Rattle.event_record.specs.declared.ReadEvent.TheVariants.{Read, Refused}
+use Rattle.event_record.specs.Events.{ReadEvent}
+use Rattle.std.specs.Prelude.{Ok, Err}
 use Rattle.protocol.specs.declared.Bench.{Bench}
 use Rattle.protocol.specs.Benches.{new_bench, bench_of}
 use Rattle.protocol.specs.Questions.{reply}
@@ -52,7 +52,7 @@ pub record Placed (s : List ℕ) (noted : ℕ) (es : List Event) (i q : ℕ) : T
   pub before : q < noted
   pub event : Event
   pub there : take (suc i) es ≡ take i es ++ (event ∷ [])
-  pub read : read_event (piece s q) ≡ Read (Play event)
+  pub read : read_event (piece s q) ≡ Ok (Play event)
   pub taken : reply (after (take i es)) event ≡ accepted
   pub answered : answer_at s q ≡ 0
 
@@ -93,13 +93,13 @@ module _ (s : List ℕ) (k : ℕ) where
   acts-more r e = rw (add-one, e) refl
 
   -- it is not read, or refused: nothing changes
-  pub unread-left : (q : ℕ) → read_event (piece s k) ≡ Refused q → left_to s (k + 1) ≡ left_to s k
+  pub unread-left : (q : ℕ) → read_event (piece s k) ≡ Err q → left_to s (k + 1) ≡ left_to s k
   unread-left q e = ap left (acts-more _ refl ∙ ap (λ (r : ReadEvent). acts_to s k ++ let_through r) e ∙ append-nil (acts_to s k))
 
-  pub unread-at : (q : ℕ) → read_event (piece s k) ≡ Refused q → at (acts_to s (k + 1)) ≡ at (acts_to s k)
+  pub unread-at : (q : ℕ) → read_event (piece s k) ≡ Err q → at (acts_to s (k + 1)) ≡ at (acts_to s k)
   unread-at q e = ap at (acts-more _ refl ∙ ap (λ (r : ReadEvent). acts_to s k ++ let_through r) e ∙ append-nil (acts_to s k))
 
-  module _ (a : Act) (e : read_event (piece s k) ≡ Read a) where
+  module _ (a : Act) (e : read_event (piece s k) ≡ Ok a) where
     read-acts : acts_to s (k + 1) ≡ acts_to s k ++ (a ∷ [])
     read-acts = acts-more _ refl ∙ ap (λ (r : ReadEvent). acts_to s k ++ let_through r) e
 
@@ -116,7 +116,7 @@ module _ (s : List ℕ) (k : ℕ) where
     taken_at n = ap at read-acts ∙ at-taken (acts_to s k) a n
 
   -- an event: the bench after it
-  pub played : (e : Event) → read_event (piece s k) ≡ Read (Play e) → after (left_to s (k + 1)) ≡ step (after (left_to s k)) e
+  pub played : (e : Event) → read_event (piece s k) ≡ Ok (Play e) → after (left_to s (k + 1)) ≡ step (after (left_to s k)) e
   unfolding answer step
   played e r = elim (split (is_accepted (answer (at (acts_to s k)) (Play e)))) [
     | inl t ↦ ap after (taken-left (Play e) r (is-accepted _ t)) ∙ run_snoc (left_to s k) e new_bench
@@ -165,7 +165,7 @@ first-locked e u a = let l : IsLock e = new-lock e (ap is_accepted a) in subst (
     locks n f own q = unfold step perform bench_of in rw q
 
 module _ (s : List ℕ) (k count undoable : ℕ) (ring : List ℕ) (even odd : Bench) (m : Memory s k count undoable ring even odd)
-    (e : Event) (r : read_event (piece s k) ≡ Read (Play e)) (z : answer_at s k ≡ 0) (ok : reply (after (left_to s k)) e ≡ accepted) where
+    (e : Event) (r : read_event (piece s k) ≡ Ok (Play e)) (z : answer_at s k ≡ 0) (ok : reply (after (left_to s k)) e ≡ accepted) where
   abbrev es : List Event
   es = left_to s k
 
@@ -299,7 +299,7 @@ module _ (s : List ℕ) (k count undoable : ℕ) (ring : List ℕ) (even odd : B
 
 -- with no page full, and with one full: the bench is kept
 module _ (s : List ℕ) (k count undoable : ℕ) (ring : List ℕ) (even odd : Bench) (m : Memory s k count undoable ring even odd)
-    (e : Event) (r : read_event (piece s k) ≡ Read (Play e)) (z : answer_at s k ≡ 0) (ok : reply (after (left_to s k)) e ≡ accepted) where
+    (e : Event) (r : read_event (piece s k) ≡ Ok (Play e)) (z : answer_at s k ≡ 0) (ok : reply (after (left_to s k)) e ≡ accepted) where
   abbrev held_now : ℕ
   held_now = remembered undoable count
 
@@ -357,7 +357,7 @@ module _ (s : List ℕ) (k count undoable : ℕ) (ring : List ℕ) (even odd : B
       some-past [] = refl
       some-past (x ∷ past) = rw (ne_eqb (suc (length past)) 0 (λ h. omega (arith, h))) refl
 
-  module _ (r : read_event (piece s k) ≡ Read Back) (ok : answer (at (acts_to s k)) Back ≡ accepted) where
+  module _ (r : read_event (piece s k) ≡ Ok Back) (ok : answer (at (acts_to s k)) Back ≡ accepted) where
     found : Found (at (acts_to s k)) (left_to s k)
     found = find (at (acts_to s k)) (left_to s k) (inv (acts_to s k)) ok
 

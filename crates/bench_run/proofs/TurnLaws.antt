@@ -22,8 +22,6 @@ use Rattle.protocol.specs.declared.Condition.TheVariants.{Running, Stopped, Stan
 use Rattle.protocol.specs.declared.Controller.{Controller}
 use Rattle.protocol.specs.declared.Effect.{Effect}
 use Rattle.protocol.specs.declared.Identity.{Identity}
-use Rattle.protocol.specs.declared.Saved.{Saved}
-use Rattle.protocol.specs.declared.Saved.TheVariants.{Nothing, Newest}
 use Rattle.protocol.specs.declared.Shared.{Shared}
 use Rattle.protocol.specs.declared.Station.{Station}
 use Rattle.protocol.specs.Controllers.{is_running, is_standby, is_stopped, phase_in, outcome_in, in_phase, phase, has_ack, has_called, bump, learn, aim, advance, keep_ack, add_caller, cleared, conclude}
@@ -33,9 +31,10 @@ use Rattle.protocol.specs.Counts.{counts_after}
 use Rattle.protocol.specs.CountLaws.{counts-stay}
 use Rattle.protocol.specs.Benches.{sent_after}
 use Rattle.protocol.specs.Events.{restore_from}
-use Rattle.protocol.specs.Questions.{is_saved}
 use Rattle.protocol.specs.Steps.{proposed_to, with_counts, station_after, answering}
 use Rattle.bench_turns.specs.Turns.{outcome_saved}
+use Rattle.std.specs.Prelude.{Option, Some, None, is_some}
+use Rattle.model.specs.declared.Checkpoint.{Checkpoint}
 pub use Rattle.bench_turns.proofs.BallotLaws.{same_set}
 
 -- with no word put, and a condition that stays, or moves on with its outcome, what is shared stays
@@ -156,8 +155,8 @@ pub stop_rule : (c : Controller) → (is_running c.condition || is_standby c.con
 unfolding stop
 stop_rule c h = rw h
 
-pub restore_rule : (me : Identity) (saved : Saved) (c : Controller) → is_stopped c.condition ≡ true → is_saved saved ≡ true
+pub restore_rule : (me : Identity) (saved : Option Checkpoint) (c : Controller) → is_stopped c.condition ≡ true → is_some saved ≡ true
     → becomes (cleared (Standby (outcome_saved saved me.order)) c) ≡ restore_from me saved c
 unfolding restore_from restore
-restore_rule me Nothing c s y = absurd (false≢true y)
-restore_rule me (Newest p) c s y = rw s
+restore_rule me None c s y = absurd (false≢true y)
+restore_rule me (Some p) c s y = rw s

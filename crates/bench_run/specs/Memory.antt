@@ -1,8 +1,8 @@
 -- What a run remembers, so that steps can be taken back: which record it plays next, and how many steps can be taken back. Document 02, U11.
 use Rattle.std.specs.Prelude.{ℕ, ◌+◌, ◌-◌, ◌%◌, ◌≡◌, Bool, true, false, cond, not, List, eqb, ltb, get_or}
 use Rattle.model.specs.declared.Act.TheVariants.{Play, Back}
-use Rattle.event_record.specs.declared.ReadEvent.{ReadEvent}
-use Rattle.event_record.specs.declared.ReadEvent.TheVariants.{Read, Refused}
+use Rattle.event_record.specs.Events.{ReadEvent}
+use Rattle.std.specs.Prelude.{Ok, Err}
 use Rattle.model.specs.Questions.{number}
 use Rattle.protocol.specs.declared.Bench.{Bench}
 use Rattle.steps_back.specs.Memory.{most_remembered, back_reply}
@@ -23,9 +23,9 @@ place_of ring noted k left = cond (ltb k noted) (get_or ring ((left - (noted - k
 
 -- what comes next
 unfoldable pub next_of : ReadEvent → Next
-next_of (Refused q) = Other (Unread q)
-next_of (Read (Play e)) = Plays e
-next_of (Read Back) = Other StepBack
+next_of (Err q) = Other (Unread q)
+next_of (Ok (Play e)) = Plays e
+next_of (Ok Back) = Other StepBack
 
 unfoldable pub next_at : Bool → ReadEvent → Next
 next_at pending r = cond pending (Other Note) (next_of r)

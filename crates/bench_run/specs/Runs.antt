@@ -1,8 +1,8 @@
 -- A whole schedule on a new bench: what a report shows of the bench at its end, and an answer for each record.
 use Rattle.std.specs.Prelude.{ℕ, zero, suc, ◌≡◌, Bool, true, false, cond, List, [], ◌∷◌, ◌++◌, leb, length, drop}
 use Rattle.event_record.specs.Events.{read_event}
-use Rattle.event_record.specs.declared.ReadEvent.{ReadEvent}
-use Rattle.event_record.specs.declared.ReadEvent.TheVariants.{Read, Refused}
+use Rattle.event_record.specs.Events.{ReadEvent}
+use Rattle.std.specs.Prelude.{Ok, Err}
 use Rattle.protocol.specs.declared.Bench.{Bench}
 use Rattle.protocol.specs.Benches.{new_bench}
 use Rattle.protocol.specs.Counts.{open_gates_of}
@@ -14,8 +14,8 @@ use Rattle.bench_run.specs.declared.RunResult.{RunResult}
 
 -- a record's answer: the number with which reading refused it, or the bench's answer
 abbrev pub answer_number : ReadEvent → Remembering → ℕ
-answer_number (Read a) b = number (answer b a)
-answer_number (Refused q) b = q
+answer_number (Ok a) b = number (answer b a)
+answer_number (Err q) b = q
 
 -- the answer to record k, which finds the bench that the records before it have left
 abbrev pub answer_at : List ℕ → ℕ → ℕ

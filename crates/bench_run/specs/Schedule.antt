@@ -3,8 +3,8 @@ use Rattle.std.specs.Prelude.{ℕ, zero, suc, ◌+◌, ◌-◌, ◌*◌, ◌/◌
 use Rattle.model.specs.declared.Act.{Act}
 unfoldable pub use Rattle.schedule_reader.specs.Pieces.{piece_at}
 use Rattle.event_record.specs.Events.{event_length, read_event}
-use Rattle.event_record.specs.declared.ReadEvent.{ReadEvent}
-use Rattle.event_record.specs.declared.ReadEvent.TheVariants.{Read, Refused}
+use Rattle.event_record.specs.Events.{ReadEvent}
+use Rattle.std.specs.Prelude.{Ok, Err}
 
 -- record k, and how many there are
 abbrev pub piece : List ℕ → ℕ → List ℕ
@@ -15,8 +15,8 @@ count s = (length s + (event_length - 1)) / event_length
 
 -- what reading lets through
 abbrev pub let_through : ReadEvent → List Act
-let_through (Read a) = a ∷ []
-let_through (Refused q) = []
+let_through (Ok a) = a ∷ []
+let_through (Err q) = []
 
 -- the acts of the first k records, events and steps back; and of all: the list that the bytes stand for
 unfoldable pub acts_to : List ℕ → ℕ → List Act

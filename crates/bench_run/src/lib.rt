@@ -10,6 +10,7 @@ pub use runs::run;
 
 // What a run returns: whether there was room for all answers, so that it was run; how many there are; of the bench at the end, how many gates are still open
 // and what a report shows.
+// stays (promise): `RunAsDefined` says of a run that had no room too what a new bench shows.
 #[derive(Clone, Copy)]
 pub struct RunResult {
     pub complete: bool,
@@ -26,6 +27,7 @@ pub enum Next {
 }
 
 // A record is refused in reading; a step is taken back; or what the record before came to is noted.
+// stays (no plainer): three things that a run does between events; the refused record's number is stored as it is.
 #[derive(Clone, Copy)]
 pub enum Pause {
     Refused(u8),

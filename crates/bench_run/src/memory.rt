@@ -1,12 +1,12 @@
 // What a run remembers, so that steps can be taken back (document 02, U11): the places of the last events that are left, and two benches on the way.
 // A step back sets the bench to the kept one at the front of its page of events, and plays the page again up to the event that is undone.
 ghost use Rattle.std.specs.Prelude.{◌≡◌, ◌&&◌, true, ◌+◌, ◌-◌, ◌≤◌, ◌<◌, ltb, length};
+ghost use Rattle.model.specs.Refusals.{numbered};
 ghost use Rattle.schedule_reader.specs.Pieces.{record_at};
 ghost use Rattle.bench_run.specs.Memory.{place_of, next_of, next_at, remembered, BackTaken, kept_of, ring_size};
 
 use crate::{Next, Pause};
-use event_record::{ReadEvent, answer_of};
-use model::{Act, Event};
+use model::{Act, Event, Refusal, answer_number};
 use protocol::Bench;
 use schedule_reader::record_at;
 use steps_back::{MOST_REMEMBERED, back_question};
@@ -84,11 +84,11 @@ pub(crate) fn is_pending(remembers: bool, noted: usize, k: usize) -> bool
     remembers && noted < k
 }
 
-fn next_of(read: ReadEvent) -> Next
-    ensures { result ≡ next_of read }
+fn next_of(read: Result<Act, Refusal>) -> Next
+    ensures { result ≡ next_of (numbered read) }
 {
-    let ReadEvent::Read(act) = read else {
-        return Next::Other(Pause::Refused(answer_of(read)));
+    let Ok(act) = read else {
+        return Next::Other(Pause::Refused(answer_number(read)));
     };
     match act {
         Act::Play(e) => Next::Play(e),
@@ -120,6 +120,7 @@ pub(crate) fn remembered(undoable: usize, left: usize) -> usize
 }
 
 // What a step back leaves of what a run remembers.
+// stays (no plainer): the run stores the number, and goes on from what is left where a step is refused too.
 #[derive(Clone, Copy)]
 pub(crate) struct Taken {
     pub answer: u8,
@@ -150,7 +151,7 @@ pub(crate) fn step_back(
             undoable: 0,
         };
     }
-    let answer = back_question(locked, undoable != 0);
+    let answer = answer_number(back_question(locked, undoable != 0));
     if answer != 0 {
         return Taken {
             answer,

@@ -26,7 +26,7 @@ use bench_turns::{
 use controller_rules::{counts_own, takes_ack};
 use controller_state::{bump, cnt_if, from_if, phase_in, set_if};
 use ground::{LIMIT, insert, up_to_limit};
-use model::{Event, Kind};
+use model::{Event, Kind, answer_number};
 use protocol::{
     Acceptor, Acks, BALLOTS, BallotRow, Ballots, Bench, Cnt, Controller, Shared, Station,
 };
@@ -102,7 +102,7 @@ fn locked(m: Shared, n: u8, f: u8, own: bool) -> Shared
 }
 
 // Plays what stands from a place of the schedule on. The bench lies in this function's own variables: an event's questions are asked first, and one that
-// is accepted changes one station where it lies. Of an event of ballots the turn asks too, and leaves the acceptor and the row as they are where it is refused.
+// is accepted changes one station where it lies. Of an event of ballots the turn asks too.
 // At a lock with an arbiter the ballots stay new.
 fn run_from(s: &[u8], from: usize, answers: &mut [u8]) -> RunResult
     ensures { RunAsDefined (drop from s.now) answers.old result answers.new }
@@ -186,7 +186,7 @@ fn run_from(s: &[u8], from: usize, answers: &mut [u8]) -> RunResult
             },
             Next::Play(e) => match e {
                 Event::Lock { n, f, own } => {
-                    let answer = lock_question(m, n, f);
+                    let answer = answer_number(lock_question(m, n, f));
                     answers[here] = answer;
                     k += 1;
                     if answer != 0 {
@@ -195,7 +195,7 @@ fn run_from(s: &[u8], from: usize, answers: &mut [u8]) -> RunResult
                     m = locked(m, n, f, own);
                 }
                 Event::Order { number } => {
-                    let answer = order_question(m, may_open(m), number);
+                    let answer = answer_number(order_question(m, may_open(m), number));
                     answers[here] = answer;
                     k += 1;
                     if answer != 0 {
@@ -220,7 +220,12 @@ fn run_from(s: &[u8], from: usize, answers: &mut [u8]) -> RunResult
                     target,
                 } => {
                     let at = seat(id);
-                    let answer = cast_question(m, condition_of(stations[at]), id, target);
+                    let answer = answer_number(cast_question(
+                        m,
+                        condition_of(stations[at]),
+                        id,
+                        target,
+                    ));
                     answers[here] = answer;
                     k += 1;
                     if answer != 0 {
@@ -236,7 +241,7 @@ fn run_from(s: &[u8], from: usize, answers: &mut [u8]) -> RunResult
                     let at = seat(to);
                     let origin = seat(sender);
                     let out = outgoing(kind, stations[origin]);
-                    let answer = deliver_question(
+                    let answer = answer_number(deliver_question(
                         m,
                         condition_of(stations[at]),
                         out.to,
@@ -244,7 +249,7 @@ fn run_from(s: &[u8], from: usize, answers: &mut [u8]) -> RunResult
                         sender,
                         to,
                         kind,
-                    );
+                    ));
                     answers[here] = answer;
                     k += 1;
                     if answer != 0 {
@@ -303,7 +308,7 @@ fn run_from(s: &[u8], from: usize, answers: &mut [u8]) -> RunResult
                 Event::Timeout { id } => {
                     let at = seat(id);
                     let condition = condition_of(stations[at]);
-                    let answer = timeout_question(m, condition, id);
+                    let answer = answer_number(timeout_question(m, condition, id));
                     answers[here] = answer;
                     k += 1;
                     if answer != 0 {
@@ -342,7 +347,12 @@ fn run_from(s: &[u8], from: usize, answers: &mut [u8]) -> RunResult
                         i += 1;
                     }
                     let may = may_give(m, chosen, to_move);
-                    let answer = decide_question(m, condition_of(stations[at]), may, id);
+                    let answer = answer_number(decide_question(
+                        m,
+                        condition_of(stations[at]),
+                        may,
+                        id,
+                    ));
                     answers[here] = answer;
                     k += 1;
                     if answer != 0 {
@@ -355,7 +365,7 @@ fn run_from(s: &[u8], from: usize, answers: &mut [u8]) -> RunResult
                 }
                 Event::Stop { id } => {
                     let at = seat(id);
-                    let answer = present_question(m, condition_of(stations[at]), id);
+                    let answer = answer_number(present_question(m, condition_of(stations[at]), id));
                     answers[here] = answer;
                     k += 1;
                     if answer != 0 {
@@ -368,7 +378,7 @@ fn run_from(s: &[u8], from: usize, answers: &mut [u8]) -> RunResult
                 }
                 Event::Save { id } => {
                     let at = seat(id);
-                    let answer = present_question(m, condition_of(stations[at]), id);
+                    let answer = answer_number(present_question(m, condition_of(stations[at]), id));
                     answers[here] = answer;
                     k += 1;
                     if answer != 0 {
@@ -379,7 +389,12 @@ fn run_from(s: &[u8], from: usize, answers: &mut [u8]) -> RunResult
                 Event::Restore { id } => {
                     let at = seat(id);
                     let own = stations[at];
-                    let answer = restore_question(m, condition_of(own), is_saved(own), id);
+                    let answer = answer_number(restore_question(
+                        m,
+                        condition_of(own),
+                        is_saved(own),
+                        id,
+                    ));
                     answers[here] = answer;
                     k += 1;
                     if answer != 0 {
@@ -396,9 +411,19 @@ fn run_from(s: &[u8], from: usize, answers: &mut [u8]) -> RunResult
                     let place = slot(ballot_of(e));
                     let last = report_in(e, rows[place]);
                     let reported = word_in(last, rows[slot_reported(last)]);
-                    let t = ballot_turn(m, stations[at], acceptors[at], rows[place], reported, e);
-                    answers[here] = t.answer;
+                    let turn = ballot_turn(
+                        m,
+                        stations[at],
+                        acceptors[at],
+                        rows[place],
+                        reported,
+                        e,
+                    );
+                    answers[here] = answer_number(turn);
                     k += 1;
+                    let Ok(t) = turn else {
+                        continue;
+                    };
                     let acceptor = t.acceptor;
                     acceptors[at] = acceptor;
                     let row = t.row;

@@ -1,3 +1,2 @@
-mod Answers
 pub mod Replies
 pub mod BallotReplies

@@ -2,7 +2,7 @@
 ghost use Rattle.std.specs.Prelude.{◌≡◌};
 ghost use Rattle.protocol.specs.Counts.{lacks_outcome, recount, counts_after};
 
-use controller_state::{bump, is_present, is_running, lower, outcome_in};
+use controller_state::{bump, is_present, is_running, outcome_in};
 use model::is_none;
 use protocol::{Condition, Counts};
 
@@ -10,26 +10,18 @@ use protocol::{Condition, Counts};
 fn lacks_outcome(k: Condition) -> bool
     ensures { result ≡ lacks_outcome k }
 {
-    if is_running(k) {
-        return is_none(outcome_in(k));
-    }
-    false
+    is_running(k) && is_none(outcome_in(k))
 }
 
 // A count, after one controller has changed: was it counted before, and is it now?
 fn recount(before: bool, after: bool, k: u8) -> u8
     ensures { result ≡ recount before after k }
 {
-    if before {
-        if after {
-            return k;
-        }
-        return lower(k);
+    match (before, after) {
+        (true, false) => k.saturating_sub(1),
+        (false, true) => bump(k),
+        _ => k,
     }
-    if after {
-        return bump(k);
-    }
-    k
 }
 
 // 13 and the panel go by these counts, so that no event looks at every controller.

@@ -8,7 +8,7 @@ use ballot_rules::new_ballots;
 use controller_state::{fresh, unsent_all};
 use ground::LIMIT;
 use model::Outcome;
-use protocol::{Bench, Consensus, Counts, Saved, Shared, Station};
+use protocol::{Bench, Consensus, Counts, Shared, Station};
 use votes::empty_set;
 
 pub fn fresh_station() -> Station
@@ -17,7 +17,7 @@ pub fn fresh_station() -> Station
     Station {
         controller: fresh(),
         sent: unsent_all(),
-        saved: Saved::Nothing,
+        saved: None,
     }
 }
 

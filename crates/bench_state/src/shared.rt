@@ -19,10 +19,7 @@ pub fn open_gates(m: Shared) -> u8
 pub fn may_open(m: Shared) -> bool
     ensures { result ≡ may_open m }
 {
-    if m.order == 0 {
-        return true;
-    }
-    open_gates(m) == 0
+    m.order == 0 || open_gates(m) == 0
 }
 
 // What is shared, in a new order: words put and the arbiter's choice are gone too.
@@ -44,11 +41,10 @@ pub fn proposed_to(m: Shared, proposal: Outcome) -> Shared
     ensures { result ≡ proposed_to m proposal }
 {
     let old = m.consensus;
-    let decision = old.decision;
     let consensus = Consensus {
         move_proposed: old.move_proposed | is_move(proposal),
         stay_proposed: old.stay_proposed | is_stay(proposal),
-        decision,
+        ..old
     };
     Shared { consensus, ..m }
 }

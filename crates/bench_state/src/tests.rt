@@ -13,20 +13,14 @@ pub(crate) fn awaits_timeout(k: Condition) -> bool
     ensures { result ≡ (eqb (phase_in k) 1 || eqb (phase_in k) 2) }
 {
     let phase = phase_in(k);
-    if phase == 1 {
-        return true;
-    }
-    phase == 2
+    phase == 1 || phase == 2
 }
 
 // 16, of the arbiter's word.
 pub(crate) fn awaits_decision(k: Condition) -> bool
     ensures { result ≡ (is_standby k || eqb (phase_in k) 3) }
 {
-    if is_standby(k) {
-        return true;
-    }
-    phase_in(k) == 3
+    is_standby(k) || phase_in(k) == 3
 }
 
 // 18, its first half: "Was the word put in this order".
@@ -54,11 +48,7 @@ fn no_other(decision: Outcome, to_move: bool) -> bool
 fn may_decide(k: Consensus, to_move: bool) -> bool
     ensures { result ≡ (was_proposed k to_move && no_other_word k.decision to_move) }
 {
-    let decision = k.decision;
-    if was_proposed(k, to_move) {
-        return no_other(decision, to_move);
-    }
-    false
+    was_proposed(k, to_move) && no_other(k.decision, to_move)
 }
 
 // 18: at a lock that settles the word by ballots, was it chosen in one?
@@ -75,8 +65,5 @@ pub fn may_give(m: Shared, chosen: bool, to_move: bool) -> bool
 pub(crate) fn may_settle(own: bool, word: Outcome) -> bool
     ensures { result ≡ (own && not (is_none word)) }
 {
-    if own {
-        return !is_none(word);
-    }
-    false
+    own && !is_none(word)
 }

@@ -25,10 +25,9 @@ use Rattle.protocol.specs.declared.Condition.{Condition}
 use Rattle.protocol.specs.Ballots.{ballot_limit, is_ballot, new_row, acceptor, row}
 use Rattle.protocol.specs.BallotSteps.{ballot_subject, row_after, answered}
 use Rattle.protocol.specs.Benches.{station, controller, sent_by}
-use Rattle.protocol.specs.Questions.{Facts, number, first_no, may_open, may_give, agrees_at, questions, questions_of, facts_of, reply}
+use Rattle.protocol.specs.Questions.{Facts, first_no, may_open, may_give, agrees_at, questions, questions_of, facts_of, reply}
 use Rattle.protocol.specs.Steps.{perform}
 use Rattle.bench_state.specs.BallotQuestions.{ballot_number, ballot_asked, ballot-asked}
-use Rattle.bench_state.proofs.Replies.{zero-yes}
 use Rattle.bench_state.proofs.BallotReplies.{row_alike, has-row, in_row}
 use Rattle.bench_turns.specs.BallotTurns.{reported_ballot, word_in, ballot_answer}
 use Rattle.bench_turns.proofs.BallotLaws.{reported_of, word_read, ballots-answered}
@@ -71,13 +70,13 @@ module _ (b : Bench) (e : BallotEvent) (l : length b.ballots.rows ≡ ballot_lim
   abbrev facts : Facts
   facts = facts_of b.shared s (OfBallots e) (station b i) (sent_by b i) (may_open b.shared) (may_give b.shared s) (agrees_at b.shared (OfBallots e) (sent_by b i) (station b i))
 
-  pub asked-read : number (first_no (ballot_asked b.shared (station_read b i).controller.condition own (acceptor s i) (row_read s k) e)) ≡ number (reply b (OfBallots e))
+  pub asked-read : first_no (ballot_asked b.shared (station_read b i).controller.condition own (acceptor s i) (row_read s k) e) ≡ reply b (OfBallots e)
   unfolding reply
-  asked-read = ap number (
+  asked-read =
       ap (λ (c : Condition). first_no (ballot_asked b.shared c own (acceptor s i) (row_read s k) e)) (read-condition b i)
       ∙ ap (λ (w : Outcome). first_no (ballot_asked b.shared (station b i).controller.condition w (acceptor s i) (row_read s k) e)) (read-proposal b i)
       ∙ same_row
-      ∙ ap first_no (sym (ballot-asked facts e)))
+      ∙ ap first_no (sym (ballot-asked facts e))
     where
       same_row : first_no (ballot_asked b.shared (station b i).controller.condition (station b i).controller.proposal (acceptor s i) (row_read s k) e)
           ≡ first_no (ballot_asked b.shared (station b i).controller.condition (station b i).controller.proposal (acceptor s i) (row s k) e)
@@ -86,10 +85,7 @@ module _ (b : Bench) (e : BallotEvent) (l : length b.ballots.rows ≡ ballot_lim
         | inr n ↦ row_alike b.shared (station b i).controller.condition (station b i).controller.proposal (acceptor s i) (row_read s k) (row s k) e n
       ]
 
-  module _ (z : number (reply b (OfBallots e)) ≡ 0) where
-    yes : AllYes (questions b (OfBallots e))
-    yes = zero-yes b (OfBallots e) z
-
+  module _ (yes : AllYes (questions b (OfBallots e))) where
     ranged : is_ballot k ≡ true
     ranged = has-row facts e yes
 

@@ -1,4 +1,5 @@
 -- What the code reads of a station is what the definitions read: all of it within the limit, and past that what the questions look at.
+use Rattle.std.specs.Prelude.{is_some}
 use Prim.Native.Nat.{ℕ, ◌≤◌}
 use mathlib.Core.Path.{◌≡◌, refl}
 use mathlib.Core.Bool.{Bool}
@@ -13,7 +14,7 @@ use Rattle.protocol.specs.declared.Sent.{Sent}
 use Rattle.protocol.specs.declared.Bench.{Bench}
 use Rattle.protocol.specs.Benches.{fresh_station, fresh, station, sent_by}
 use Rattle.protocol.specs.Events.{subject, source, receivers_in}
-use Rattle.protocol.specs.Questions.{is_saved, facts_of}
+use Rattle.protocol.specs.Questions.{facts_of}
 use Rattle.bench_step.proofs.Defaults.{nth_alike, nth-within}
 
 abbrev pub station_read : Bench → ℕ → Station
@@ -48,7 +49,7 @@ pub read-facts : (b : Bench) (e : Event) (may : Bool) (give : Bool → Bool) (ag
 read-facts b e may give agrees = λ p. record {
   shared = b.shared;
   condition = read-condition b (subject e) p;
-  has-checkpoint = is_saved (read-saved b (subject e) p);
+  has-checkpoint = is_some (read-saved b (subject e) p);
   receivers = receivers_in e (read-sent b (source e) p);
   may_open = may;
   agrees = agrees;

@@ -6,8 +6,6 @@ use Rattle.model.specs.QuestionLaws.{AllYes}
 use Rattle.model.specs.Numbers.{word_of}
 use Rattle.model.specs.declared.Event.TheVariants.{Decide, Stop, Restore}
 use Rattle.protocol.specs.declared.Condition.TheVariants.{Stopped, Standby}
-use Rattle.protocol.specs.declared.Saved.{Saved}
-use Rattle.protocol.specs.declared.Saved.TheVariants.{Nothing, Newest}
 use Rattle.protocol.specs.declared.Identity.{Identity}
 use Rattle.protocol.specs.declared.Controller.{Controller}
 use Rattle.protocol.specs.declared.Sent.{Sent}
@@ -18,16 +16,18 @@ use Rattle.protocol.specs.Ballots.{new_ballots}
 use Rattle.protocol.specs.Rules.{becomes}
 use Rattle.protocol.specs.Calls.{restore}
 use Rattle.protocol.specs.Events.{restore_from, answer_to}
-use Rattle.protocol.specs.Questions.{is_saved, questions_of, facts_of}
+use Rattle.protocol.specs.Questions.{questions_of, facts_of}
 use Rattle.protocol.specs.Steps.{decided_as, answering, effect_of, effect}
 use Rattle.protocol.proofs.view.Performed.{decide-is, stop_is}
 use Rattle.bench_turns.specs.Turns.{outcome_saved}
+use Rattle.std.specs.Prelude.{Option, Some, None, is_some}
+use Rattle.model.specs.declared.Checkpoint.{Checkpoint}
 
-restore-is : (me : Identity) (saved : Saved) (c : Controller) → is_stopped c.condition ≡ true → is_saved saved ≡ true
+restore-is : (me : Identity) (saved : Option Checkpoint) (c : Controller) → is_stopped c.condition ≡ true → is_some saved ≡ true
     → restore_from me saved c ≡ becomes (cleared (Standby (outcome_saved saved me.order)) c)
 unfolding restore_from restore
-restore-is me Nothing c h k = absurd (false≢true k)
-restore-is me (Newest p) c h k = rw h
+restore-is me None c h k = absurd (false≢true k)
+restore-is me (Some p) c h k = rw h
 
 module _ (m : Shared) (sent : Sent) (s : Station) (i : ℕ) where
   pub turn-decides : (give : Bool → Bool) (w : Bool) → AllYes (questions_of (facts_of m new_ballots (Decide i w) s sent true give true) (Decide i w))

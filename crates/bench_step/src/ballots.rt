@@ -1,91 +1,40 @@
 // The events of ballots (document 02, U14): asked and played on the acceptor of their controller and on the row of their ballot.
-ghost use Rattle.std.specs.Prelude.{◌≤◌, ◌%◌, ◌≡◌, length, replicate};
+ghost use Rattle.std.specs.Prelude.{◌%◌, ◌≡◌, length, replicate};
 ghost use Rattle.ground.specs.Limit.{limit};
 ghost use Rattle.ground.specs.Lists.{nth, put};
 ghost use Rattle.model.specs.declared.Event.TheVariants.{OfBallots};
-ghost use Rattle.protocol.specs.Ballots.{ballot_limit, new_acceptor, new_row};
+ghost use Rattle.protocol.specs.Ballots.{ballot_limit, new_row};
 ghost use Rattle.protocol.specs.BallotSteps.{row_after};
 ghost use Rattle.bench_state.specs.BallotQuestions.{ballot_number};
 ghost use Rattle.bench_turns.specs.BallotTurns.{reported_ballot, word_in, ballot_answer};
-ghost use Rattle.bench_step.specs.Steps.{stepped};
+ghost use Rattle.bench_step.specs.Steps.{stepped, stepped_of};
 
-use crate::Stepped;
 use crate::stations::station_at;
 use ballot_rules::{new_acceptor, new_row, row_after};
 use bench_state::ballot_question;
 use bench_turns::{
     ballot_answer, ballot_of, condition_of, proposal_of, report_in, subject_of, word_in,
 };
-use ground::LIMIT;
-use model::{BallotEvent, Outcome};
+use ground::{nth, put};
+use model::{BallotEvent, Outcome, Refusal};
 use protocol::{Acceptor, BALLOTS, BallotAnswer, BallotRow, Ballots, Bench};
-
-// What controller i has promised and accepted; a number that no controller has reads as one that has done neither.
-fn acceptor_at(acceptors: [Acceptor; LIMIT], i: u8) -> Acceptor
-    ensures { result ≡ nth new_acceptor acceptors i }
-{
-    if i < 1 {
-        return new_acceptor();
-    }
-    if LIMIT < i as usize {
-        return new_acceptor();
-    }
-    let at = (i - 1) as usize;
-    acceptors[at]
-}
 
 // Ballot b; a number that no ballot has reads as one that is not opened. There are as many rows as there are ballots.
 fn row_at(rows: [BallotRow; BALLOTS], b: u32) -> BallotRow
     ensures value { result ≡ nth (new_row (replicate limit 0)) rows b }
     ensures rows_len { length rows ≡ ballot_limit }
 {
-    if b < 1 {
-        return new_row();
-    }
-    if BALLOTS < b as usize {
-        return new_row();
-    }
-    let at = (b - 1) as usize;
-    rows[at]
-}
-
-// With another element; past the last one nothing changes.
-fn with_acceptor(acceptors: [Acceptor; LIMIT], i: u8, a: Acceptor) -> [Acceptor; LIMIT]
-    requires { 1 ≤ i }
-    ensures { result ≡ put acceptors i a }
-{
-    let mut next = acceptors;
-    let at = (i - 1) as usize;
-    if LIMIT <= at {
-        return next;
-    }
-    next[at] = a;
-    next
-}
-
-fn with_row(rows: [BallotRow; BALLOTS], b: u32, row: BallotRow) -> [BallotRow; BALLOTS]
-    requires { 1 ≤ b }
-    ensures { result ≡ put rows b row }
-{
-    let mut next = rows;
-    let at = (b - 1) as usize;
-    if BALLOTS <= at {
-        return next;
-    }
-    next[at] = row;
-    next
+    nth(rows, b as usize, new_row())
 }
 
 // The ballots after controller i's answer in ballot b.
 fn answered(s: Ballots, i: u8, b: u32, row: BallotRow, x: BallotAnswer) -> Ballots
-    requires { (1 ≤ i) × (1 ≤ b) }
     ensures { result ≡ record { acceptors = put s.acceptors i x.acceptor; rows = put s.rows b (row_after row i x) } }
 {
-    let old = s.acceptors;
-    let acceptors = with_acceptor(old, i, x.acceptor);
-    let before = s.rows;
-    let rows = with_row(before, b, row_after(row, i, x));
-    Ballots { acceptors, rows }
+    Ballots {
+        acceptors: put(s.acceptors, i as usize, x.acceptor),
+        rows: put(s.rows, b as usize, row_after(row, i, x)),
+    }
 }
 
 // The answer of the controller, which has put `own`.
@@ -104,8 +53,8 @@ fn answer_to(
     ballot_answer(n, e, own, a, row, reported)
 }
 
-pub(crate) fn ballot(b: Bench, e: BallotEvent) -> Stepped
-    ensures { result ≡ stepped b (OfBallots e) }
+pub(crate) fn ballot(b: Bench, e: BallotEvent) -> Result<Bench, Refusal>
+    ensures { stepped_of b result ≡ stepped b (OfBallots e) }
 {
     let id = subject_of(e);
     let s = station_at(b, id);
@@ -114,19 +63,15 @@ pub(crate) fn ballot(b: Bench, e: BallotEvent) -> Stepped
     let ballots = b.ballots;
     let acceptors = ballots.acceptors;
     let rows = ballots.rows;
-    let a = acceptor_at(acceptors, id);
+    let a = nth(acceptors, id as usize, new_acceptor());
     let row = row_at(rows, number);
-    let answer = ballot_question(b.shared, condition_of(s), own, a, row, e);
-    if answer != 0 {
-        return Stepped { answer, bench: b };
-    }
+    ballot_question(b.shared, condition_of(s), own, a, row, e)?;
     let x = answer_to(b.shared.n, e, own, a, row, rows);
     let shared = b.shared;
     let stations = b.stations;
-    let bench = Bench {
+    Ok(Bench {
         shared,
         ballots: answered(ballots, id, number, row, x),
         stations,
-    };
-    Stepped { answer, bench }
+    })
 }

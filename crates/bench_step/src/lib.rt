@@ -1,4 +1,4 @@
-// The bench by value: one call takes a bench and an event, and returns the answer and the bench. Each kind of event has a function of its own, which asks
+// The bench by value: one call takes a bench and an event, and returns the bench, or the question that refuses the event. Each kind of event has a function of its own, which asks
 // the event's questions; that of an event of one controller puts back what its turn, or its answer to a call, leaves, if the event is accepted.
 #![tactic(auto)]
 
@@ -9,25 +9,18 @@ mod orders;
 mod stations;
 
 ghost use Rattle.std.specs.Prelude.{◌≡◌};
-ghost use Rattle.bench_step.specs.Steps.{stepped};
+ghost use Rattle.bench_step.specs.Steps.{stepped, stepped_of};
 
 use crate::ballots::ballot;
 use crate::calls::{cast, deliver, time_out};
 use crate::lifecycle::{decide, restore, save, stop};
 use crate::orders::{lock, open};
-use model::Event;
+use model::{Event, Refusal};
 use protocol::Bench;
 
-// What a step returns.
-#[derive(Clone, Copy)]
-pub struct Stepped {
-    pub answer: u8,
-    pub bench: Bench,
-}
-
-// The answer, the number of the first question answered "no" or 0, and the bench; a refused event leaves it untouched.
-pub fn step(b: Bench, e: Event) -> Stepped
-    ensures { result ≡ stepped b e }
+// The bench after the event, or the first question answered "no"; a refused event leaves the bench as it was.
+pub fn step(b: Bench, e: Event) -> Result<Bench, Refusal>
+    ensures { stepped_of b result ≡ stepped b e }
 {
     match e {
         Event::Lock { n, f, own } => lock(b, n, f, own),

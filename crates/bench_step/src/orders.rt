@@ -2,35 +2,28 @@
 ghost use Rattle.std.specs.Prelude.{◌≡◌, map};
 ghost use Rattle.model.specs.declared.Event.TheVariants.{Lock, Order};
 ghost use Rattle.protocol.specs.Steps.{renewed, perform};
-ghost use Rattle.bench_step.specs.Steps.{stepped};
+ghost use Rattle.bench_step.specs.Steps.{stepped, stepped_of};
 
-use crate::Stepped;
 use ballot_rules::new_ballots;
 use bench_state::{bench_of, lock_question, may_open, order_opened, order_question};
 use bench_turns::renewed;
 use ground::LIMIT;
+use model::Refusal;
 use protocol::{Bench, Station};
 
-pub(crate) fn lock(b: Bench, n: u8, f: u8, own: bool) -> Stepped
-    ensures { result ≡ stepped b (Lock n f own) }
+pub(crate) fn lock(b: Bench, n: u8, f: u8, own: bool) -> Result<Bench, Refusal>
+    ensures { stepped_of b result ≡ stepped b (Lock n f own) }
 {
-    let answer = lock_question(b.shared, n, f);
-    if answer != 0 {
-        return Stepped { answer, bench: b };
-    }
-    let bench = bench_of(true, n, f, own);
-    Stepped { answer, bench }
+    lock_question(b.shared, n, f)?;
+    Ok(bench_of(true, n, f, own))
 }
 
 fn renew_all(stations: [Station; LIMIT]) -> [Station; LIMIT]
     ensures { result ≡ map renewed stations }
 {
     let mut all = stations;
-    let mut at: usize = 0;
-    while at < LIMIT {
-        let s = all[at];
-        all[at] = renewed(s);
-        at += 1;
+    for at in 0..LIMIT {
+        all[at] = renewed(all[at]);
     }
     all
 }
@@ -49,13 +42,9 @@ fn opened(b: Bench, order: u32) -> Bench
     }
 }
 
-pub(crate) fn open(b: Bench, order: u32) -> Stepped
-    ensures { result ≡ stepped b (Order order) }
+pub(crate) fn open(b: Bench, order: u32) -> Result<Bench, Refusal>
+    ensures { stepped_of b result ≡ stepped b (Order order) }
 {
-    let answer = order_question(b.shared, may_open(b.shared), order);
-    if answer != 0 {
-        return Stepped { answer, bench: b };
-    }
-    let bench = opened(b, order);
-    Stepped { answer, bench }
+    order_question(b.shared, may_open(b.shared), order)?;
+    Ok(opened(b, order))
 }

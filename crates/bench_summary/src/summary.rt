@@ -33,25 +33,19 @@ pub fn summary_of(m: Shared, stations: [Station; LIMIT]) -> Summary
         position: 0,
     };
     let mut rows = [blank; LIMIT];
-    let mut i: usize = 0;
-    while i < LIMIT {
-        let s = stations[i];
-        rows[i] = row_of(s);
-        i += 1;
+    // stays (no plainer): an array's `map` asks that its iterator fits in memory, and says what each call gave, which a lemma has to join to a list
+    for i in 0..LIMIT {
+        rows[i] = row_of(stations[i]);
     }
-    let end = m.n as usize;
     let mut messages = MessageCounts {
         vote: 0,
         ack: 0,
         help: 0,
         helped: 0,
     };
-    let mut j: usize = 0;
-    while j < end {
+    for j in 0..m.n as usize {
         let at = place_of(j);
-        let s = stations[at];
-        messages = counted(messages, m.n, j, s);
-        j += 1;
+        messages = counted(messages, m.n, j, stations[at]);
     }
     Summary {
         n: m.n,

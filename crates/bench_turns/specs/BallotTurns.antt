@@ -1,5 +1,6 @@
 -- What an event of ballots makes of the acceptor of the controller that it concerns, and of the row of its ballot (document 02, U14).
-use Rattle.std.specs.Prelude.{ℕ, ◌%◌, cond, eqb}
+use Rattle.std.specs.Prelude.{ℕ, ◌%◌, cond, eqb, Result}
+use Rattle.model.specs.Refusals.{replied}
 use Rattle.model.specs.declared.Outcome.{Outcome}
 use Rattle.model.specs.declared.Outcome.TheVariants.{None}
 use Rattle.model.specs.declared.BallotKind.{BallotKind}
@@ -15,7 +16,7 @@ use Rattle.protocol.specs.declared.Station.{Station}
 use Rattle.protocol.specs.Ballots.{report}
 use Rattle.protocol.specs.BallotRules.{unanswered, prepare_arrives, accept_arrives, promise_arrives, open_ballot}
 use Rattle.protocol.specs.BallotSteps.{ballot_subject, row_after}
-use Rattle.protocol.specs.Questions.{number, first_no}
+use Rattle.protocol.specs.Questions.{first_no}
 use Rattle.bench_state.specs.BallotQuestions.{ballot_number, ballot_asked}
 use Rattle.bench_turns.specs.declared.BallotTurn.{BallotTurn}
 
@@ -39,11 +40,11 @@ unfoldable pub ballot_answer : ℕ → ℕ → BallotEvent → Outcome → Accep
 ballot_answer n b (Open i x) own a r w = open_ballot n b i own a r.tally
 ballot_answer n b (Carry i j kind x) own a r w = carried_answer kind n b i (report r i) w own a r.tally
 
--- what it leaves: a refused event, with another answer than 0, leaves all as it is
-abbrev pub turn_with : ℕ → Acceptor → BallotRow → ℕ → BallotAnswer → BallotTurn
-turn_with i a r q x = cond (eqb q 0) (record { answer = q; acceptor = x.acceptor; row = row_after r i x }) (record { answer = q; acceptor = a; row = r })
+-- what controller i's answer leaves
+abbrev pub turn_with : ℕ → BallotRow → BallotAnswer → BallotTurn
+turn_with i r x = record { acceptor = x.acceptor; row = row_after r i x }
 
--- the event asked and played on the station of its controller
-unfoldable pub ballot_turn : Shared → Station → Acceptor → BallotRow → Outcome → BallotEvent → BallotTurn
-ballot_turn m s a r w e = turn_with (ballot_subject e) a r (number (first_no (ballot_asked m s.controller.condition s.controller.proposal a r e)))
-    (ballot_answer m.n (ballot_number e % 256) e s.controller.proposal a r w)
+-- the event asked and played on the station of its controller; a refused one leaves all as it is
+unfoldable pub ballot_turn : Shared → Station → Acceptor → BallotRow → Outcome → BallotEvent → Result BallotTurn ℕ
+ballot_turn m s a r w e = replied (first_no (ballot_asked m s.controller.condition s.controller.proposal a r e))
+    (turn_with (ballot_subject e) r (ballot_answer m.n (ballot_number e % 256) e s.controller.proposal a r w))

@@ -1,6 +1,6 @@
 // What an event of ballots does, from the acceptor of the controller that it concerns and the row of its ballot (document 02, U14).
 ghost use Rattle.std.specs.Prelude.{◌%◌, ◌≡◌, ◌&&◌};
-ghost use Rattle.ground.specs.Lists.{nth};
+ghost use Rattle.model.specs.Refusals.{numbered};
 ghost use Rattle.protocol.specs.Ballots.{is_word_of, majority, report};
 ghost use Rattle.protocol.specs.BallotSteps.{ballot_subject};
 ghost use Rattle.bench_state.specs.BallotQuestions.{ballot_number};
@@ -12,8 +12,8 @@ use ballot_rules::{
     accept_arrives, chosen_in, open_ballot, prepare_arrives, promise_arrives, row_after, unanswered,
 };
 use bench_state::ballot_question;
-use ground::LIMIT;
-use model::{BallotEvent, BallotKind, Outcome};
+use ground::nth;
+use model::{BallotEvent, BallotKind, Outcome, Refusal};
 use protocol::{Acceptor, BallotAnswer, BallotRow, Shared, Station, Tally};
 
 // The controller that it concerns.
@@ -35,26 +35,11 @@ pub fn ballot_of(e: BallotEvent) -> u32
     }
 }
 
-// What controller j reports; one that has no place reports nothing.
-fn report_at(lasts: [u8; LIMIT], j: u8) -> u8
-    ensures { result ≡ nth 0 lasts j }
-{
-    if j < 1 {
-        return 0;
-    }
-    let at = (j - 1) as usize;
-    if LIMIT <= at {
-        return 0;
-    }
-    lasts[at]
-}
-
-// Which ballot j's promise reports.
+// Which ballot j's promise reports; one that has no place reports nothing.
 fn report_of(row: BallotRow, j: u8) -> u8
     ensures { result ≡ report row j }
 {
-    let lasts = row.lasts;
-    report_at(lasts, j)
+    nth(row.lasts, j as usize, 0)
 }
 
 // Which ballot the sender's promise reports.
@@ -150,7 +135,8 @@ pub fn ballot_answer(
     }
 }
 
-// An event of ballots, asked and played: its answer, and what it leaves of the acceptor and of the row. A refused one leaves them as they are.
+// An event of ballots, asked and played: what it leaves of the acceptor and of the row. A refused one leaves them as they are.
+#[tactic(auto, unfolding(crate::specs::BallotTurns::ballot_turn))]
 pub fn ballot_turn(
     m: Shared,
     own: Station,
@@ -158,25 +144,15 @@ pub fn ballot_turn(
     row: BallotRow,
     reported: Outcome,
     e: BallotEvent,
-) -> BallotTurn
-    ensures { result ≡ ballot_turn m own a row reported e }
+) -> Result<BallotTurn, Refusal>
+    ensures { numbered result ≡ ballot_turn m own a row reported e }
 {
     let word = proposal_of(own);
-    let answer = ballot_question(m, condition_of(own), word, a, row, e);
-    if answer != 0 {
-        return BallotTurn {
-            answer,
-            acceptor: a,
-            row,
-        };
-    }
+    ballot_question(m, condition_of(own), word, a, row, e)?;
     let x = ballot_answer(m.n, e, word, a, row, reported);
     let acceptor = x.acceptor;
-    BallotTurn {
-        answer,
-        acceptor,
-        row: row_after(row, subject_of(e), x),
-    }
+    let row = row_after(row, subject_of(e), x);
+    Ok(BallotTurn { acceptor, row })
 }
 
 // The same event, from its fields. What the run looks at of an event of ballots goes through this: the fields of a record then stay apart where the compiler

@@ -17,10 +17,9 @@ pub use turns::{
     second_turn, settled_turn, stop_turn, vote_turn,
 };
 
-// What an event of ballots leaves: its answer, the acceptor of the controller that it concerns, and the row of its ballot.
+// What an accepted event of ballots leaves: the acceptor of the controller that it concerns, and the row of its ballot.
 #[derive(Clone, Copy)]
 pub struct BallotTurn {
-    pub answer: u8,
     pub acceptor: Acceptor,
     pub row: BallotRow,
 }

@@ -1,37 +1,28 @@
 // What the questions and the turns look at in a station.
-ghost use Rattle.std.specs.Prelude.{◌≡◌};
-ghost use Rattle.protocol.specs.Questions.{is_saved};
+ghost use Rattle.std.specs.Prelude.{◌≡◌, is_some};
 ghost use Rattle.protocol.specs.Benches.{identity, of_kind};
 
 use model::{Kind, Outcome};
-use protocol::{Condition, Identity, Outgoing, Saved, Sent, Shared, Station};
+use protocol::{Condition, Identity, Outgoing, Sent, Shared, Station};
 
 pub fn condition_of(s: Station) -> Condition
     ensures { result ≡ s.controller.condition }
 {
-    let c = s.controller;
-    let condition = c.condition;
-    condition
+    s.controller.condition
 }
 
 // The word that it has put.
 pub fn proposal_of(s: Station) -> Outcome
     ensures { result ≡ s.controller.proposal }
 {
-    let c = s.controller;
-    let proposal = c.proposal;
-    proposal
+    s.controller.proposal
 }
 
 // Has it a checkpoint?
 pub fn is_saved(s: Station) -> bool
-    ensures { result ≡ is_saved s.saved }
+    ensures { result ≡ is_some s.saved }
 {
-    let saved = s.saved;
-    match saved {
-        Saved::Nothing => false,
-        Saved::Newest(_) => true,
-    }
+    s.saved.is_some()
 }
 
 pub fn identity(m: Shared, id: u8) -> Identity
@@ -49,22 +40,10 @@ fn of_kind(kind: Kind, s: Sent) -> Outgoing
     ensures { result ≡ of_kind kind s }
 {
     match kind {
-        Kind::Vote => {
-            let out = s.vote;
-            out
-        }
-        Kind::Ack => {
-            let out = s.ack;
-            out
-        }
-        Kind::Help => {
-            let out = s.help;
-            out
-        }
-        Kind::Helped => {
-            let out = s.helped;
-            out
-        }
+        Kind::Vote => s.vote,
+        Kind::Ack => s.ack,
+        Kind::Help => s.help,
+        Kind::Helped => s.helped,
     }
 }
 

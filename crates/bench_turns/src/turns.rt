@@ -21,8 +21,8 @@ use controller_rules::{
     vote_rule,
 };
 use controller_state::{becomes, cleared, conclude, outcome_kept, unsent_all};
-use model::{Outcome, word_of};
-use protocol::{Condition, Effect, Saved, Shared, Station};
+use model::{Checkpoint, Outcome, word_of};
+use protocol::{Condition, Effect, Shared, Station};
 use votes::VoteSet;
 
 // A vote.
@@ -109,15 +109,12 @@ pub fn save_turn(m: Shared, own: Station, id: u8) -> Station
 }
 
 // The outcome of the checkpoint, if it is of this order.
-fn outcome_saved(saved: Saved, order: u32) -> Outcome
+fn outcome_saved(saved: Option<Checkpoint>, order: u32) -> Outcome
     ensures { result ≡ outcome_saved saved order }
 {
     match saved {
-        Saved::Nothing => Outcome::None,
-        Saved::Newest(checkpoint) => {
-            let held = checkpoint.outcome;
-            outcome_kept(checkpoint.order, held, order)
-        }
+        None => Outcome::None,
+        Some(checkpoint) => outcome_kept(checkpoint.order, checkpoint.outcome, order),
     }
 }
 
@@ -125,8 +122,7 @@ fn outcome_saved(saved: Saved, order: u32) -> Outcome
 pub fn restore_turn(m: Shared, own: Station) -> Effect
     ensures { result ≡ answering m own (becomes (cleared (Standby (outcome_saved own.saved m.order)) own.controller)) }
 {
-    let saved = own.saved;
-    let outcome = outcome_saved(saved, m.order);
+    let outcome = outcome_saved(own.saved, m.order);
     let next = cleared(Condition::Standby(outcome), own.controller);
     answering(m, own, becomes(next))
 }
@@ -135,10 +131,9 @@ pub fn restore_turn(m: Shared, own: Station) -> Effect
 pub fn renewed(s: Station) -> Station
     ensures { result ≡ renewed s }
 {
-    let saved = s.saved;
     Station {
         controller: renew(s.controller),
         sent: unsent_all(),
-        saved,
+        saved: s.saved,
     }
 }

@@ -1,24 +1,22 @@
 -- A call on the words that C lends: what it answers, and what the words and each lent buffer hold after it. A call is refused for its state; or by the first of its
 -- questions that is answered "no"; or it leaves the next cabinet. What is refused changes nothing.
-use Rattle.std.specs.Prelude.{ℕ, cond, List, eqb, leb, length}
+use Rattle.std.specs.Prelude.{ℕ, cond, List, eqb, leb, length, slice_get, Option, Some, None}
 use Rattle.model.specs.Questions.{number, first_no}
 use Rattle.records.specs.Codec.{write_reply, writes, record_length}
 use Rattle.checkpoint_record.specs.Checkpoints.{checkpoints}
-use Rattle.checkpoint_record.specs.declared.ReadCheckpoint.{ReadCheckpoint}
-use Rattle.message_record.specs.declared.ReadTelegram.{ReadTelegram}
+use Rattle.checkpoint_record.specs.Checkpoints.{ReadCheckpoint}
+use Rattle.message_record.specs.Telegrams.{ReadTelegram}
 use Rattle.message_record.specs.Telegrams.{telegrams}
-use Rattle.protocol.specs.declared.Saved.{Saved}
-use Rattle.protocol.specs.declared.Saved.TheVariants.{Nothing, Newest}
 use Rattle.protocol.specs.Calls.{save}
 use Rattle.cabinet_state.specs.declared.Cabinet.{Cabinet}
 use Rattle.cabinet_state.specs.Words.{cabinet_of, words_of}
 use Rattle.cabinet_state.specs.States.{state_refusal}
-use Rattle.cabinet_turns.specs.declared.SentTelegram.{SentTelegram}
-use Rattle.cabinet_turns.specs.declared.SentTelegram.TheVariants.{Nothing as NoneSent, Sent}
 use Rattle.cabinet_turns.specs.Asked.{order_asked, vote_asked, timeout_asked, decide_asked, present_asked, wake_asked}
 use Rattle.cabinet_turns.specs.Ballots.{opening_asked, receive_asked}
-use Rattle.cabinet_turns.specs.Telegrams.{telegrams_sent, nth_sent}
+use Rattle.cabinet_turns.specs.Telegrams.{telegrams_sent}
 use Rattle.cabinet_turns.specs.Shown.{shown}
+use Rattle.model.specs.declared.Telegram.{Telegram}
+use Rattle.model.specs.declared.Checkpoint.{Checkpoint}
 
 -- the number: of the state, then of the questions
 unfoldable pub call_number : List ℕ → (Cabinet → ℕ) → ℕ
@@ -54,13 +52,13 @@ abbrev pub open_number : ℕ → Cabinet → ℕ
 open_number b s = number (first_no (opening_asked b s))
 
 -- **save**: the card into a buffer of its length; 14 before the first order, 15 where it is stopped
-unfoldable pub card_reply : List ℕ → Saved → ℕ
-card_reply out Nothing = 15
-card_reply out (Newest p) = number (write_reply checkpoints out p)
+unfoldable pub card_reply : List ℕ → Option Checkpoint → ℕ
+card_reply out None = 15
+card_reply out (Some p) = number (write_reply checkpoints out p)
 
-unfoldable pub card_after : List ℕ → Saved → List ℕ
-card_after out Nothing = out
-card_after out (Newest p) = writes checkpoints out p
+unfoldable pub card_after : List ℕ → Option Checkpoint → List ℕ
+card_after out None = out
+card_after out (Some p) = writes checkpoints out p
 
 unfoldable pub card_number : List ℕ → Cabinet → ℕ
 card_number out s = cond (leb 1 s.me.order) (card_reply out (save s.me s.controller)) 14
@@ -73,16 +71,16 @@ unfoldable pub call_buffer : List ℕ → List ℕ → (Cabinet → List ℕ) �
 call_buffer l out g = cond (eqb (state_refusal l) 0) (g (cabinet_of l)) out
 
 -- **telegram**: the one with k before it, into a buffer of its length; 17, "Was that telegram sent in this order?", where there are not so many
-abbrev pub nth_telegram : ℕ → Cabinet → SentTelegram
-nth_telegram k s = nth_sent (telegrams_sent s) k
+abbrev pub nth_telegram : ℕ → Cabinet → Option Telegram
+nth_telegram k s = slice_get (telegrams_sent s) k
 
-unfoldable pub sent_number : List ℕ → SentTelegram → ℕ
-sent_number out NoneSent = 17
-sent_number out (Sent t) = number (write_reply telegrams out t)
+unfoldable pub sent_number : List ℕ → Option Telegram → ℕ
+sent_number out None = 17
+sent_number out (Some t) = number (write_reply telegrams out t)
 
-unfoldable pub sent_bytes : List ℕ → SentTelegram → List ℕ
-sent_bytes out NoneSent = out
-sent_bytes out (Sent t) = writes telegrams out t
+unfoldable pub sent_bytes : List ℕ → Option Telegram → List ℕ
+sent_bytes out None = out
+sent_bytes out (Some t) = writes telegrams out t
 
 abbrev pub telegram_number : ℕ → List ℕ → Cabinet → ℕ
 telegram_number k out s = sent_number out (nth_telegram k s)
@@ -91,9 +89,9 @@ abbrev pub telegram_bytes : ℕ → List ℕ → Cabinet → List ℕ
 telegram_bytes k out s = sent_bytes out (nth_telegram k s)
 
 -- how long it is: 0 where there is none, or the state is refused
-unfoldable pub sent_length : SentTelegram → ℕ
-sent_length NoneSent = 0
-sent_length (Sent t) = record_length telegrams t
+unfoldable pub sent_length : Option Telegram → ℕ
+sent_length None = 0
+sent_length (Some t) = record_length telegrams t
 
 unfoldable pub length_number : ℕ → List ℕ → ℕ
 length_number k l = cond (eqb (state_refusal l) 0) (sent_length (nth_telegram k (cabinet_of l))) 0

@@ -1,6 +1,11 @@
 // The calls that change a cabinet.
-ghost use Rattle.std.specs.Prelude.{◌≡◌};
-ghost use Rattle.cabinet.specs.Calls.{order_number, vote_number, timeout_number, decide_number, present_number};
+ghost use Rattle.std.specs.Prelude.{◌≡◌, ℕ, Result};
+ghost use Rattle.model.specs.Questions.{number};
+ghost use Rattle.model.specs.Refusals.{reply_of};
+ghost use Rattle.model.specs.declared.Refusal.{Refusal};
+ghost use Rattle.cabinet_state.specs.declared.Cabinet.{Cabinet};
+ghost use Rattle.cabinet_state.specs.Words.{cabinet_of};
+ghost use Rattle.cabinet.specs.Calls.{call_number, call_words};
 ghost use Rattle.cabinet.specs.Acts.{begin_answer, begin_words, answer_to, words_after};
 ghost use Rattle.cabinet.specs.Acts.{Ordering, Voting, Receiving, TimingOut, Deciding, Stopping, Waking, Opening};
 
@@ -12,6 +17,8 @@ use cabinet_turns::{
 };
 use checkpoint_record::read_checkpoint;
 use message_bytes::read_telegram;
+use model::{Refusal, answer_number};
+use protocol::Condition;
 
 // A controller begins: `own` is 1 at a lock without arbiter, else 0; `position` is where its gate stands, in two's
 // complement of millimetres.
@@ -27,51 +34,36 @@ pub extern "C" fn cabinet_begin(
     ensures { (result ≡ begin_answer state.old n f id own position)
         × (state.new ≡ begin_words state.old n f id own position) }
 {
-    leave(
+    answer_number(leave(
         state,
         begin_question(n, f, id, own, position),
         begun(n, f, id, own, position),
-    )
+    ))
 }
 
-fn order_number(order: u32, s: Cabinet) -> u8
-    ensures { result ≡ order_number order s }
+// A call on the cabinet that the words hold: it is refused for its state, or by the first of its questions that is answered "no", and changes nothing; or it
+// leaves the cabinet after its turn.
+fn play<Q: FnOnce(Cabinet) -> Result<(), Refusal>, T: FnOnce(Cabinet) -> Cabinet>(
+    state: &mut [u32],
+    question: Q,
+    turn: T,
+) -> Result<(), Refusal>
+    requires asks { Q.IsAlwaysCallable question }
+    requires turns { T.IsAlwaysCallable turn }
+    ensures { (q : Cabinet → ℕ) (g : Cabinet → Cabinet)
+        → ((r : Result Unit Refusal) → Q.post question (cabinet_of state.old) r → number (reply_of r) ≡ q (cabinet_of state.old))
+        → ((next : Cabinet) → T.post turn (cabinet_of state.old) next → next ≡ g (cabinet_of state.old))
+        → (number (reply_of result) ≡ call_number state.old q) × (state.new ≡ call_words state.old q g) }
 {
-    let c = s.controller;
-    let k = c.condition;
-    order_question(order, s.me.order, k)
+    state_refusal(state)?;
+    let s = cabinet_of(state);
+    leave(state, question(s), turn(s))
 }
 
-fn vote_number(willing: u8, target: u32, s: Cabinet) -> u8
-    ensures { result ≡ vote_number willing target s }
+fn condition_of(s: Cabinet) -> Condition
+    ensures { result ≡ s.controller.condition }
 {
-    let c = s.controller;
-    let k = c.condition;
-    vote_question(willing, target, s.me.order, k)
-}
-
-fn timeout_number(s: Cabinet) -> u8
-    ensures { result ≡ timeout_number s }
-{
-    let c = s.controller;
-    let k = c.condition;
-    timeout_question(s.me.order, k)
-}
-
-fn decide_number(to_move: u8, s: Cabinet) -> u8
-    ensures { result ≡ decide_number to_move s }
-{
-    let c = s.controller;
-    let k = c.condition;
-    decide_question(to_move, s.me.order, k)
-}
-
-fn stop_number(s: Cabinet) -> u8
-    ensures { result ≡ present_number s }
-{
-    let c = s.controller;
-    let k = c.condition;
-    present_question(s.me.order, k)
+    s.controller.condition
 }
 
 // A new order.
@@ -80,12 +72,11 @@ pub extern "C" fn cabinet_order(state: &mut [u32], order: u32) -> u8
     ensures { (result ≡ answer_to (Ordering order) state.old)
         × (state.new ≡ words_after (Ordering order) state.old) }
 {
-    let refusal = state_refusal(state);
-    if refusal != 0 {
-        return refusal;
-    }
-    let s = cabinet_of(state);
-    leave(state, order_number(order, s), ordered(order, s))
+    answer_number(play(
+        state,
+        |s| order_question(order, s.me.order, condition_of(s)),
+        |s| ordered(order, s),
+    ))
 }
 
 // Its vote, 1 willing or 0, and its gate's target.
@@ -94,16 +85,11 @@ pub extern "C" fn cabinet_vote(state: &mut [u32], willing: u8, target: u32) -> u
     ensures { (result ≡ answer_to (Voting willing target) state.old)
         × (state.new ≡ words_after (Voting willing target) state.old) }
 {
-    let refusal = state_refusal(state);
-    if refusal != 0 {
-        return refusal;
-    }
-    let s = cabinet_of(state);
-    leave(
+    answer_number(play(
         state,
-        vote_number(willing, target, s),
-        voted(willing, target, s),
-    )
+        |s| vote_question(willing, target, s.me.order, condition_of(s)),
+        |s| voted(willing, target, s),
+    ))
 }
 
 // A wait is over.
@@ -112,12 +98,11 @@ pub extern "C" fn cabinet_timeout(state: &mut [u32]) -> u8
     ensures { (result ≡ answer_to TimingOut state.old)
         × (state.new ≡ words_after TimingOut state.old) }
 {
-    let refusal = state_refusal(state);
-    if refusal != 0 {
-        return refusal;
-    }
-    let s = cabinet_of(state);
-    leave(state, timeout_number(s), timed_out(s))
+    answer_number(play(
+        state,
+        |s| timeout_question(s.me.order, condition_of(s)),
+        |s| timed_out(s),
+    ))
 }
 
 // The arbiter's word, or the one that a ballot has settled: 1 Move or 0 Stay.
@@ -126,12 +111,11 @@ pub extern "C" fn cabinet_decide(state: &mut [u32], to_move: u8) -> u8
     ensures { (result ≡ answer_to (Deciding to_move) state.old)
         × (state.new ≡ words_after (Deciding to_move) state.old) }
 {
-    let refusal = state_refusal(state);
-    if refusal != 0 {
-        return refusal;
-    }
-    let s = cabinet_of(state);
-    leave(state, decide_number(to_move, s), decided(to_move, s))
+    answer_number(play(
+        state,
+        |s| decide_question(to_move, s.me.order, condition_of(s)),
+        |s| decided(to_move, s),
+    ))
 }
 
 // It ends everything but the position of its gate.
@@ -140,12 +124,11 @@ pub extern "C" fn cabinet_stop(state: &mut [u32]) -> u8
     ensures { (result ≡ answer_to Stopping state.old)
         × (state.new ≡ words_after Stopping state.old) }
 {
-    let refusal = state_refusal(state);
-    if refusal != 0 {
-        return refusal;
-    }
-    let s = cabinet_of(state);
-    leave(state, stop_number(s), halted(s))
+    answer_number(play(
+        state,
+        |s| present_question(s.me.order, condition_of(s)),
+        |s| halted(s),
+    ))
 }
 
 // A telegram's bytes arrive, of any form.
@@ -154,13 +137,8 @@ pub extern "C" fn cabinet_receive(state: &mut [u32], telegram: &[u8]) -> u8
     ensures { (result ≡ answer_to (Receiving telegram.now) state.old)
         × (state.new ≡ words_after (Receiving telegram.now) state.old) }
 {
-    let refusal = state_refusal(state);
-    if refusal != 0 {
-        return refusal;
-    }
-    let s = cabinet_of(state);
     let read = read_telegram(telegram);
-    leave(state, receive_question(read, s), received(read, s))
+    answer_number(play(state, |s| receive_question(read, s), |s| received(read, s)))
 }
 
 // It comes back from a card: stopped and restored in one, so that it stands by.
@@ -169,13 +147,8 @@ pub extern "C" fn cabinet_wake(state: &mut [u32], card: &[u8]) -> u8
     ensures { (result ≡ answer_to (Waking card.now) state.old)
         × (state.new ≡ words_after (Waking card.now) state.old) }
 {
-    let refusal = state_refusal(state);
-    if refusal != 0 {
-        return refusal;
-    }
-    let s = cabinet_of(state);
     let read = read_checkpoint(card);
-    leave(state, wake_question(read, s.me), woken(read, s))
+    answer_number(play(state, |s| wake_question(read, s.me), |s| woken(read, s)))
 }
 
 // It opens its ballot b.
@@ -184,10 +157,5 @@ pub extern "C" fn cabinet_open(state: &mut [u32], b: u8) -> u8
     ensures { (result ≡ answer_to (Opening b) state.old)
         × (state.new ≡ words_after (Opening b) state.old) }
 {
-    let refusal = state_refusal(state);
-    if refusal != 0 {
-        return refusal;
-    }
-    let s = cabinet_of(state);
-    leave(state, open_question(b, s), opened(b, s))
+    answer_number(play(state, |s| open_question(b, s), |s| opened(b, s)))
 }

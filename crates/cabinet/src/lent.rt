@@ -1,27 +1,25 @@
 // The calls that look at a cabinet and write into another buffer of the caller.
-ghost use Rattle.std.specs.Prelude.{◌≡◌, length};
-ghost use Rattle.cabinet_state.specs.Tables.{tabulate};
-ghost use Rattle.cabinet_state.specs.Words.{word};
+ghost use Rattle.std.specs.Prelude.{◌≡◌};
 ghost use Rattle.cabinet.specs.Calls.{call_number, call_buffer, card_reply, card_after, card_number};
 ghost use Rattle.cabinet.specs.Calls.{card_bytes, nth_telegram, sent_number, sent_bytes, sent_length};
 ghost use Rattle.cabinet.specs.Calls.{length_number, telegram_number, telegram_bytes, shown_number};
 ghost use Rattle.cabinet.specs.Calls.{shown_words};
 
 use cabinet_state::{Cabinet, cabinet_of, state_refusal};
-use cabinet_turns::{SentTelegram, nth_telegram, shown};
+use cabinet_turns::{nth_telegram, shown};
 use checkpoint_record::write_checkpoint;
 use controller::save;
 use message_bytes::{telegram_length, write_telegram};
-use protocol::Saved;
+use model::{Checkpoint, Telegram, answer_number};
 
 // A card into its buffer, or 15.
-fn write_saved(saved: Saved, out: &mut [u8]) -> u8
+fn write_saved(saved: Option<Checkpoint>, out: &mut [u8]) -> u8
     ensures { (result ≡ card_reply out.old saved)
         × (out.new ≡ card_after out.old saved) }
 {
     match saved {
-        Saved::Nothing => 15,
-        Saved::Newest(p) => write_checkpoint(out, p),
+        None => 15,
+        Some(p) => answer_number(write_checkpoint(out, p)),
     }
 }
 
@@ -40,19 +38,19 @@ pub extern "C" fn cabinet_save(state: &[u32], card: &mut [u8]) -> u8
     ensures { (result ≡ call_number state.now (card_number card.old))
         × (card.new ≡ call_buffer state.now card.old (card_bytes card.old)) }
 {
-    let refusal = state_refusal(state);
+    let refusal = answer_number(state_refusal(state));
     if refusal != 0 {
         return refusal;
     }
     write_card(cabinet_of(state), card)
 }
 
-fn write_sent(t: SentTelegram, out: &mut [u8]) -> u8
+fn write_sent(t: Option<Telegram>, out: &mut [u8]) -> u8
     ensures { (result ≡ sent_number out.old t) × (out.new ≡ sent_bytes out.old t) }
 {
     match t {
-        SentTelegram::Nothing => 17,
-        SentTelegram::Sent(t) => write_telegram(out, t),
+        None => 17,
+        Some(t) => answer_number(write_telegram(out, t)),
     }
 }
 
@@ -63,19 +61,19 @@ pub extern "C" fn cabinet_telegram(state: &[u32], k: u8, out: &mut [u8]) -> u8
         × (out.new ≡ call_buffer state.now out.old
         (telegram_bytes k out.old)) }
 {
-    let refusal = state_refusal(state);
+    let refusal = answer_number(state_refusal(state));
     if refusal != 0 {
         return refusal;
     }
     write_sent(nth_telegram(cabinet_of(state), k), out)
 }
 
-fn length_sent(t: SentTelegram) -> u8
+fn length_sent(t: Option<Telegram>) -> u8
     ensures { result ≡ sent_length t }
 {
     match t {
-        SentTelegram::Nothing => 0,
-        SentTelegram::Sent(t) => telegram_length(t) as u8,
+        None => 0,
+        Some(t) => telegram_length(t) as u8,
     }
 }
 
@@ -84,21 +82,10 @@ fn length_sent(t: SentTelegram) -> u8
 pub extern "C" fn cabinet_telegram_length(state: &[u32], k: u8) -> u8
     ensures { result ≡ length_number k state.now }
 {
-    if state_refusal(state) != 0 {
+    if answer_number(state_refusal(state)) != 0 {
         return 0;
     }
     length_sent(nth_telegram(cabinet_of(state), k))
-}
-
-fn copy_words(words: [u32; 7], out: &mut [u32])
-    requires { length out.old ≡ 7 }
-    ensures { out.new ≡ tabulate 7 (word words) }
-{
-    let mut k: usize = 0;
-    while k < 7 {
-        out[k] = words[k];
-        k += 1;
-    }
 }
 
 fn write_shown(s: Cabinet, out: &mut [u32]) -> u8
@@ -107,7 +94,7 @@ fn write_shown(s: Cabinet, out: &mut [u32]) -> u8
     if out.len() != 7 {
         return 1;
     }
-    copy_words(shown(s), out);
+    out.copy_from_slice(&shown(s));
     0
 }
 
@@ -117,7 +104,7 @@ pub extern "C" fn cabinet_show(state: &[u32], out: &mut [u32]) -> u8
     ensures { (result ≡ call_number state.now (shown_number out.old))
         × (out.new ≡ call_buffer state.now out.old (shown_words out.old)) }
 {
-    let refusal = state_refusal(state);
+    let refusal = answer_number(state_refusal(state));
     if refusal != 0 {
         return refusal;
     }

@@ -9,11 +9,10 @@ use Rattle.model.specs.declared.Telegram.TheVariants.{Plain, OfBallot}
 use Rattle.records.specs.Codes.{flag_of}
 use Rattle.records.specs.Codec.{reads}
 use Rattle.checkpoint_record.specs.Checkpoints.{checkpoints}
-use Rattle.checkpoint_record.specs.declared.ReadCheckpoint.{ReadCheckpoint}
-use Rattle.checkpoint_record.specs.declared.ReadCheckpoint.TheVariants.{Read as ReadCard, Refused as RefusedCard}
+use Rattle.checkpoint_record.specs.Checkpoints.{ReadCheckpoint}
+use Rattle.std.specs.Prelude.{Ok, Err}
 use Rattle.message_record.specs.Telegrams.{telegrams}
-use Rattle.message_record.specs.declared.ReadTelegram.{ReadTelegram}
-use Rattle.message_record.specs.declared.ReadTelegram.TheVariants.{Read, Refused}
+use Rattle.message_record.specs.Telegrams.{ReadTelegram}
 use Rattle.protocol.specs.declared.Identity.{Identity}
 use Rattle.protocol.specs.declared.Condition.{Condition}
 use Rattle.protocol.specs.declared.Condition.TheVariants.{Running, Stopped, Standby}
@@ -56,14 +55,14 @@ stopped-again me p (Standby o) c e = rw e
 module _ (me : Identity) where
   step-read : (read : ReadTelegram) (s : Cabinet) → Of me s → view (received read s) ≡ called_all me (view s) (read_calls read)
   unfolding received received_telegram answered received_ballot answered_in with_ballots called_all called
-  step-read (Refused q) s e = refl
-  step-read (Read (Plain m)) s e = ap (λ (i : Identity). record { order = s.me.order; controller = (receive i m s.controller).controller }) e
-  step-read (Read (OfBallot m)) s e = refl
+  step-read (Err q) s e = refl
+  step-read (Ok (Plain m)) s e = ap (λ (i : Identity). record { order = s.me.order; controller = (receive i m s.controller).controller }) e
+  step-read (Ok (OfBallot m)) s e = refl
 
   step-card : (card : ReadCheckpoint) (s : Cabinet) → Of me s → view (woken card s) ≡ called_all me (view s) (card_calls card s)
   unfolding woken woken_by called_all called becomes
-  step-card (RefusedCard q) s e = refl
-  step-card (ReadCard p) s e =
+  step-card (Err q) s e = refl
+  step-card (Ok p) s e =
       let o = later_order s.me.order p.order in
       ap (λ (i : Identity). record { order = o; controller = (restore (in_order i o) p (stop s.controller).controller).controller }) e
       ∙ ap (λ (c : Controller). record { order = o; controller = c }) (stopped-again (in_order me o) p s.controller.condition s.controller refl)
@@ -81,14 +80,14 @@ module _ (me : Identity) where
 
   kept_read : (read : ReadTelegram) (s : Cabinet) → Of me s → Of me (received read s)
   unfolding received received_telegram answered received_ballot answered_in with_ballots
-  kept_read (Refused q) s e = e
-  kept_read (Read (Plain m)) s e = e
-  kept_read (Read (OfBallot m)) s e = e
+  kept_read (Err q) s e = e
+  kept_read (Ok (Plain m)) s e = e
+  kept_read (Ok (OfBallot m)) s e = e
 
   kept-card : (card : ReadCheckpoint) (s : Cabinet) → Of me s → Of me (woken card s)
   unfolding woken woken_by
-  kept-card (RefusedCard q) s e = e
-  kept-card (ReadCard p) s e = ap (λ (i : Identity). in_order i (later_order s.me.order p.order)) e
+  kept-card (Err q) s e = e
+  kept-card (Ok p) s e = ap (λ (i : Identity). in_order i (later_order s.me.order p.order)) e
 
   kept : (a : Act) (s : Cabinet) → Of me s → Of me (next_of a s)
   unfolding ordered voted timed_out decided halted opened opened_by with_ballots answered

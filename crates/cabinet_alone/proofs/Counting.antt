@@ -19,12 +19,11 @@ use Rattle.model.specs.declared.BallotMessage.{BallotMessage}
 use Rattle.model.specs.declared.Telegram.TheVariants.{Plain, OfBallot}
 use Rattle.records.specs.Codec.{reads}
 use Rattle.checkpoint_record.specs.Checkpoints.{checkpoints}
-use Rattle.checkpoint_record.specs.declared.ReadCheckpoint.{ReadCheckpoint}
-use Rattle.checkpoint_record.specs.declared.ReadCheckpoint.TheVariants.{Read as ReadCard, Refused as RefusedCard}
+use Rattle.checkpoint_record.specs.Checkpoints.{ReadCheckpoint}
+use Rattle.std.specs.Prelude.{Ok, Err}
 use Rattle.message_record.specs.BallotMessages.{tells_word, tells_for_kind, ballot_suits}
 use Rattle.message_record.specs.Telegrams.{telegrams}
-use Rattle.message_record.specs.declared.ReadTelegram.{ReadTelegram}
-use Rattle.message_record.specs.declared.ReadTelegram.TheVariants.{Read, Refused}
+use Rattle.message_record.specs.Telegrams.{ReadTelegram}
 use Rattle.protocol.specs.declared.Identity.{Identity}
 use Rattle.protocol.specs.declared.Controller.{Controller}
 use Rattle.protocol.specs.declared.Acceptor.{Acceptor}
@@ -230,7 +229,7 @@ module _ (m : BallotMessage) (s : Cabinet) where
       (λ y h. elim (insert_only s.ballots.accepted_by s.me.id j h) [ inl q ↦ inr (inr (y, q)) | inr q ↦ inl (q, same) ])
       (λ y h. inl (h, same)))
 
-ballot-counts : (bytes : List ℕ) (m : BallotMessage) (s : Cabinet) (j : ℕ) → reads telegrams bytes ≡ Read (OfBallot m) → Explained (Receiving bytes) s j (received_ballot m s)
+ballot-counts : (bytes : List ℕ) (m : BallotMessage) (s : Cabinet) (j : ℕ) → reads telegrams bytes ≡ Ok (OfBallot m) → Explained (Receiving bytes) s j (received_ballot m s)
 unfolding received_ballot answered_in with_ballots
 ballot-counts bytes m s j r h = elim (joined m s j h) [
   | inl x ↦ inl x
@@ -272,25 +271,25 @@ open-word b s p o e =
 -- a telegram, a card, any call
 read-counts : (bytes : List ℕ) (read : ReadTelegram) (s : Cabinet) (j : ℕ) → reads telegrams bytes ≡ read → Explained (Receiving bytes) s j (received read s)
 unfolding received received_telegram answered
-read-counts bytes (Refused q) s j r = alike (Receiving bytes) s s j refl refl
-read-counts bytes (Read (Plain m)) s j r = alike (Receiving bytes) s _ j refl refl
-read-counts bytes (Read (OfBallot m)) s j r = ballot-counts bytes m s j r
+read-counts bytes (Err q) s j r = alike (Receiving bytes) s s j refl refl
+read-counts bytes (Ok (Plain m)) s j r = alike (Receiving bytes) s _ j refl refl
+read-counts bytes (Ok (OfBallot m)) s j r = ballot-counts bytes m s j r
 
 read_word : (read : ReadTelegram) (s : Cabinet) → Stays s (received read s)
 unfolding received received_telegram answered
-read_word (Refused q) s p o e = refl
-read_word (Read (Plain m)) s p o e = refl
-read_word (Read (OfBallot m)) s p o e = keeps-word m s e
+read_word (Err q) s p o e = refl
+read_word (Ok (Plain m)) s p o e = refl
+read_word (Ok (OfBallot m)) s p o e = keeps-word m s e
 
 card-counts : (a : Act) (card : ReadCheckpoint) (s : Cabinet) (j : ℕ) → Explained a s j (woken card s)
 unfolding woken woken_by
-card-counts a (RefusedCard q) s j = alike a s s j refl refl
-card-counts a (ReadCard p) s j = forgotten a s _ j refl
+card-counts a (Err q) s j = alike a s s j refl refl
+card-counts a (Ok p) s j = forgotten a s _ j refl
 
 card-word : (card : ReadCheckpoint) (s : Cabinet) → Stays s (woken card s)
 unfolding woken woken_by
-card-word (RefusedCard q) s p o e = refl
-card-word (ReadCard c) s p o e = forgotten-word s _ refl p o e
+card-word (Err q) s p o e = refl
+card-word (Ok c) s p o e = forgotten-word s _ refl p o e
 
 next-counts : (a : Act) (s : Cabinet) (j : ℕ) → Explained a s j (next_of a s)
 unfolding ordered voted timed_out decided halted answered

@@ -16,11 +16,10 @@ use Rattle.model.specs.declared.Telegram.TheVariants.{Plain, OfBallot}
 use Rattle.model.specs.declared.BallotMessage.{BallotMessage}
 use Rattle.records.specs.Codec.{reads}
 use Rattle.checkpoint_record.specs.Checkpoints.{checkpoints}
-use Rattle.checkpoint_record.specs.declared.ReadCheckpoint.{ReadCheckpoint}
-use Rattle.checkpoint_record.specs.declared.ReadCheckpoint.TheVariants.{Read as ReadCard, Refused as RefusedCard}
+use Rattle.checkpoint_record.specs.Checkpoints.{ReadCheckpoint}
+use Rattle.std.specs.Prelude.{Ok, Err}
 use Rattle.message_record.specs.Telegrams.{telegrams}
-use Rattle.message_record.specs.declared.ReadTelegram.{ReadTelegram}
-use Rattle.message_record.specs.declared.ReadTelegram.TheVariants.{Read, Refused}
+use Rattle.message_record.specs.Telegrams.{ReadTelegram}
 use Rattle.protocol.specs.declared.Tally.{Tally}
 use Rattle.protocol.specs.Calls.{stop}
 use Rattle.cabinet_state.specs.declared.BallotState.{BallotState}
@@ -114,13 +113,13 @@ received-telegram (OfBallot m) s x = received-ballot m s x
 
 received-bytes : (read : ReadTelegram) (s : Cabinet) → InBytes s → InBytes (received read s)
 unfolding received
-received-bytes (Refused q) s x = x
-received-bytes (Read t) s x = received-telegram t s x
+received-bytes (Err q) s x = x
+received-bytes (Ok t) s x = received-telegram t s x
 
 woken-bytes : (read : ReadCheckpoint) (s : Cabinet) → InBytes s → InBytes (woken read s)
 unfolding woken woken_by
-woken-bytes (RefusedCard q) s x = x
-woken-bytes (ReadCard p) s x = unballoted s _ x refl refl refl refl (fits-restored (stop s.controller).controller (fits-stopped s.controller (fits s x)) _ p)
+woken-bytes (Err q) s x = x
+woken-bytes (Ok p) s x = unballoted s _ x refl refl refl refl (fits-restored (stop s.controller).controller (fits-stopped s.controller (fits s x)) _ p)
 
 opened-bytes : (b : ℕ) (s : Cabinet) → InBytes s → may_open b s ≡ true → InBytes (opened b s)
 unfolding opened opened_by may_open

@@ -19,8 +19,6 @@ use Rattle.model.specs.declared.BallotKind.{BallotKind}
 use Rattle.model.specs.declared.BallotKind.TheVariants.{Prepare, Accept}
 use Rattle.model.specs.declared.BallotMessage.{BallotMessage}
 use Rattle.protocol.specs.declared.Identity.{Identity}
-use Rattle.protocol.specs.declared.Send.{Send}
-use Rattle.protocol.specs.declared.Send.TheVariants.{Nothing, To}
 use Rattle.protocol.specs.declared.Sends.{Sends}
 use Rattle.protocol.specs.Sequence.{members, messages_of_kind, messages_of}
 use Rattle.protocol.specs.BallotCalls.{ballot_to_others, is_owner}
@@ -32,6 +30,8 @@ use Rattle.cabinet_turns.specs.Telegrams.{sends_of, promise_message, promise_sen
 use Rattle.cabinet_alone.specs.Runs.{Run, cabinet}
 use Rattle.cabinet_alone.proofs.Carried.{made-me}
 use Rattle.cabinet_alone.proofs.Lent.{run-begun, run-reads}
+use Rattle.std.specs.Prelude.{Option, Some, None}
+use Rattle.protocol.specs.declared.Outgoing.{Outgoing}
 
 members-most : (m set : ℕ) → length (members m set) ≤ m
 unfolding members
@@ -41,10 +41,10 @@ members-most (suc m) set =
     let one = by_cond (λ (l : List ℕ). length l ≤ 1) (has set (suc m)) (suc m ∷ []) [] (λ e. omega arith) (λ e. omega arith) in
     simp length-append (omega (arith, h, one))
 
-kind-most : (me : Identity) (kind : Kind) (s : Send) → length (messages_of_kind me kind s) ≤ me.n
+kind-most : (me : Identity) (kind : Kind) (s : Option Outgoing) → length (messages_of_kind me kind s) ≤ me.n
 unfolding messages_of_kind
-kind-most me kind Nothing = omega arith
-kind-most me kind (To receivers s) = simp length-map (members-most me.n receivers)
+kind-most me kind None = omega arith
+kind-most me kind (Some o) = simp length-map (members-most me.n o.to)
 
 plain-most : (me : Identity) (s : Sends) → length (messages_of me s) ≤ 4 * me.n
 unfolding messages_of

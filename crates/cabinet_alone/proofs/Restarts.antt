@@ -20,12 +20,11 @@ use Rattle.model.specs.declared.Telegram.TheVariants.{Plain, OfBallot}
 use Rattle.records.specs.Codec.{reads}
 use Rattle.records.specs.Codes.{flag_of}
 use Rattle.checkpoint_record.specs.Checkpoints.{checkpoints}
-use Rattle.checkpoint_record.specs.declared.ReadCheckpoint.{ReadCheckpoint}
-use Rattle.checkpoint_record.specs.declared.ReadCheckpoint.TheVariants.{Read as ReadCard, Refused as RefusedCard}
+use Rattle.checkpoint_record.specs.Checkpoints.{ReadCheckpoint}
+use Rattle.std.specs.Prelude.{Ok, Err}
 use Rattle.message_record.specs.Messages.{suits}
 use Rattle.message_record.specs.Telegrams.{telegrams}
-use Rattle.message_record.specs.declared.ReadTelegram.{ReadTelegram}
-use Rattle.message_record.specs.declared.ReadTelegram.TheVariants.{Read, Refused}
+use Rattle.message_record.specs.Telegrams.{ReadTelegram}
 use Rattle.protocol.specs.declared.Answer.{Answer}
 use Rattle.protocol.specs.declared.Condition.{Condition}
 use Rattle.protocol.specs.declared.Condition.TheVariants.{Running, Stopped, Standby}
@@ -143,9 +142,9 @@ module _ (s : Cabinet) (x : Quiet s) where
 
 quiet-telegram : (read : ReadTelegram) (s : Cabinet) → Quiet s → Quiet (received read s)
 unfolding received received_telegram
-quiet-telegram (Refused q) s x = x
-quiet-telegram (Read (Plain m)) s x = quiet-answer s x _ (receives s.controller x.idle s.me m)
-quiet-telegram (Read (OfBallot m)) s x = quiet-ballot s x m
+quiet-telegram (Err q) s x = x
+quiet-telegram (Ok (Plain m)) s x = quiet-answer s x _ (receives s.controller x.idle s.me m)
+quiet-telegram (Ok (OfBallot m)) s x = quiet-ballot s x m
 
 -- WAKING
 standing_by : (p : Checkpoint) (s : Cabinet) → is_standby (condition (woken_by p s)) ≡ true
@@ -169,20 +168,20 @@ woken-later p s = later s.me.order p.order
 
 quiet-card : (read : ReadCheckpoint) (s : Cabinet) → Quiet s → Quiet (woken read s)
 unfolding woken
-quiet-card (RefusedCard q) s x = x
-quiet-card (ReadCard p) s x = quiet-woken p s
+quiet-card (Err q) s x = x
+quiet-card (Ok p) s x = quiet-woken p s
 
 -- ANY CALL. The order's number never falls, and it rises at a new order
 telegram-order : (read : ReadTelegram) (s : Cabinet) → s.me.order ≤ (received read s).me.order
 unfolding received received_telegram answered received_ballot answered_in with_ballots
-telegram-order (Refused q) s = omega arith
-telegram-order (Read (Plain m)) s = omega arith
-telegram-order (Read (OfBallot m)) s = omega arith
+telegram-order (Err q) s = omega arith
+telegram-order (Ok (Plain m)) s = omega arith
+telegram-order (Ok (OfBallot m)) s = omega arith
 
 card-order : (read : ReadCheckpoint) (s : Cabinet) → s.me.order ≤ (woken read s).me.order
 unfolding woken
-card-order (RefusedCard q) s = omega arith
-card-order (ReadCard p) s = (woken-later p s).1
+card-order (Err q) s = omega arith
+card-order (Ok p) s = (woken-later p s).1
 
 number_rises : (k : ℕ) (s : Cabinet) → number_of (Ordering k) s ≡ 0 → s.me.order < k
 unfolding order_asked
@@ -241,9 +240,9 @@ unfolding telegrams_sent messages_of messages_of_kind sends_of unsent_all ballot
 nothing-sent s x = rw (x.unsent, x.unballoted, no-members s.me.n)
 
 -- a waking that is accepted
-is-own : (p : Checkpoint) (me : Identity) → number (first_no (wake_asked (ReadCard p) me)) ≡ 0 → own_card me p ≡ true
+is-own : (p : Checkpoint) (me : Identity) → number (first_no (wake_asked (Ok p) me)) ≡ 0 → own_card me p ≡ true
 unfolding wake_asked
-is-own p me e = (all_yes _ (reply-accepted (wake_asked (ReadCard p) me) _ refl refl e)).0
+is-own p me e = (all_yes _ (reply-accepted (wake_asked (Ok p) me) _ refl refl e)).0
 
 own-card : (bytes : List ℕ) (p : Checkpoint) (s : Cabinet) → Wakes bytes p s → (p.id ≡ s.me.id) × ((p.n ≡ s.me.n) × (p.f ≡ s.me.f))
 unfolding own_card

@@ -22,12 +22,12 @@ use Rattle.protocol.specs.declared.Condition.TheVariants.{Running, Stopped, Stan
 use Rattle.protocol.specs.declared.Controller.{Controller}
 use Rattle.protocol.specs.declared.Identity.{Identity}
 use Rattle.protocol.specs.declared.Outgoing.{Outgoing}
-use Rattle.protocol.specs.declared.Send.TheVariants.{To}
 use Rattle.protocol.specs.declared.Sent.{Sent}
 use Rattle.protocol.specs.Controllers.{is_running, runs, does_stand_by, phase, phase_in, has_ack, has_helped, has_called, cleared, advance, learn, aim, keep_ack, keep_helped, freeze, add_caller, await, propose, conclude, noting}
 use Rattle.protocol.specs.Rules.{is_taken, nothing, passing_over, contradicted, becomes, proposing, phase_after_vote, vote_rule, vote_arrives, first_timeout, decides, sufficient, propose_if_sufficient, help_votes, frozen, ready, calls_help, second_timeout, ack_arrives, helped_arrives, keeps_call, answers_call, help_arrives}
 use Rattle.protocol.specs.Calls.{valid_identity, vote, addressed, arrives, contradicts_held, tested, receive, timeout, awaits_decision, decide, stop}
 use Rattle.protocol.specs.Benches.{of_kind, after_send, sent_after}
+use Rattle.protocol.specs.Rules.{send_to}
 
 -- what was sent stays, with its vote set
 pub record Stays (old new : Outgoing) : Type 0 where
@@ -41,10 +41,10 @@ pub onward : (a b c : Outgoing) → Stays a b → Stays b c → Stays a c
 onward a b c x y = record { sent = λ j e. y.sent j (x.sent j e); votes = λ j e. y.votes j (x.sent j e) ∙ x.votes j e }
 
 -- more is sent where nothing was, or with the same vote set
-first-sent : (o : Outgoing) (to : ℕ) (s : VoteSet) → o.to ≡ 0 → Stays o (after_send o (To to s))
+first-sent : (o : Outgoing) (to : ℕ) (s : VoteSet) → o.to ≡ 0 → Stays o (after_send o (send_to to s))
 first-sent o to s e = record { sent = λ j h. none_has j (rw e at h); votes = λ j h. none_has j (rw e at h) }
 
-more-sent : (o : Outgoing) (to : ℕ) (s : VoteSet) → o.votes ≡ s → Stays o (after_send o (To to s))
+more-sent : (o : Outgoing) (to : ℕ) (s : VoteSet) → o.votes ≡ s → Stays o (after_send o (send_to to s))
 more-sent o to s e = record { sent = λ j h. has_or o.to to j ∙ or_l (has o.to j) (has to j) h; votes = λ j h. sym e }
 
 -- what a running controller has not sent yet, by its stage; its help answers have its help vote set

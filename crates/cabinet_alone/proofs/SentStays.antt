@@ -10,11 +10,10 @@ use Rattle.model.specs.declared.Telegram.TheVariants.{Plain, OfBallot}
 use Rattle.records.specs.Codec.{reads}
 use Rattle.records.specs.Codes.{flag_of}
 use Rattle.checkpoint_record.specs.Checkpoints.{checkpoints}
-use Rattle.checkpoint_record.specs.declared.ReadCheckpoint.{ReadCheckpoint}
-use Rattle.checkpoint_record.specs.declared.ReadCheckpoint.TheVariants.{Read as ReadCard, Refused as RefusedCard}
+use Rattle.checkpoint_record.specs.Checkpoints.{ReadCheckpoint}
+use Rattle.std.specs.Prelude.{Ok, Err}
 use Rattle.message_record.specs.Telegrams.{telegrams}
-use Rattle.message_record.specs.declared.ReadTelegram.{ReadTelegram}
-use Rattle.message_record.specs.declared.ReadTelegram.TheVariants.{Read, Refused}
+use Rattle.message_record.specs.Telegrams.{ReadTelegram}
 use Rattle.protocol.specs.declared.Answer.{Answer}
 use Rattle.protocol.specs.declared.Controller.{Controller}
 use Rattle.protocol.specs.Benches.{unsent_all}
@@ -54,20 +53,20 @@ answer-kept s a x = x.next
 -- one call
 read_stays : (read : ReadTelegram) (s : Cabinet) → Kept s → StaysIn s (received read s)
 unfolding received received_telegram received_ballot answered_in with_ballots
-read_stays (Refused q) s x = same s
-read_stays (Read (Plain m)) s x = answer-stays s _ (receive_good s.controller s.sent x s.me m)
-read_stays (Read (OfBallot m)) s x = same s
+read_stays (Err q) s x = same s
+read_stays (Ok (Plain m)) s x = answer-stays s _ (receive_good s.controller s.sent x s.me m)
+read_stays (Ok (OfBallot m)) s x = same s
 
 read_kept : (read : ReadTelegram) (s : Cabinet) → Kept s → Kept (received read s)
 unfolding received received_telegram received_ballot answered_in with_ballots
-read_kept (Refused q) s x = x
-read_kept (Read (Plain m)) s x = answer-kept s _ (receive_good s.controller s.sent x s.me m)
-read_kept (Read (OfBallot m)) s x = x
+read_kept (Err q) s x = x
+read_kept (Ok (Plain m)) s x = answer-kept s _ (receive_good s.controller s.sent x s.me m)
+read_kept (Ok (OfBallot m)) s x = x
 
 card-kept : (read : ReadCheckpoint) (s : Cabinet) → Kept s → Kept (woken read s)
 unfolding woken woken_by
-card-kept (RefusedCard q) s x = x
-card-kept (ReadCard p) s x = unsent-kept _
+card-kept (Err q) s x = x
+card-kept (Ok p) s x = unsent-kept _
 
 next-stays : (a : Act) (s : Cabinet) → not (forgets a) ≡ true → Kept s → StaysIn s (next_of a s)
 unfolding voted timed_out decided halted opened opened_by with_ballots

@@ -8,15 +8,15 @@ use borrow.Author.Tests.{eq-eqb}
 use Rattle.ground.specs.Quantify.{count_to}
 use Rattle.ground.specs.Tests.{and_i, and_l, and_r, by_cond}
 use Rattle.votes.specs.VoteSets.{knows, wills, single, union}
-use Rattle.votes.specs.declared.Joined.TheVariants.{Agreed}
+use Rattle.std.specs.Prelude.{Ok}
 use Rattle.model.specs.QuestionLaws.{all_yes, reply-accepted}
 use Rattle.model.specs.declared.Message.{Message}
 use Rattle.model.specs.declared.Telegram.TheVariants.{Plain, OfBallot}
 use Rattle.records.specs.Codes.{flag_of}
 use Rattle.records.specs.Codec.{reads}
 use Rattle.message_record.specs.Telegrams.{telegrams}
-use Rattle.message_record.specs.declared.ReadTelegram.{ReadTelegram}
-use Rattle.message_record.specs.declared.ReadTelegram.TheVariants.{Read, Refused}
+use Rattle.message_record.specs.Telegrams.{ReadTelegram}
+use Rattle.std.specs.Prelude.{Ok, Err}
 use Rattle.protocol.specs.declared.Identity.{Identity}
 use Rattle.protocol.specs.declared.Controller.{Controller}
 use Rattle.protocol.specs.Controllers.{runs, phase, has_ack, has_helped}
@@ -69,9 +69,9 @@ none_both (k ∷ ks) js p q = and_i (not (clears k)) (none_clears (ks ++ js)) (a
 
 read-clears : (read : ReadTelegram) → none_clears (read_calls read) ≡ true
 unfolding none_clears
-read-clears (Refused q) = refl
-read-clears (Read (Plain m)) = refl
-read-clears (Read (OfBallot m)) = refl
+read-clears (Err q) = refl
+read-clears (Ok (Plain m)) = refl
+read-clears (Ok (OfBallot m)) = refl
 
 act-clears : (a : Act) (s : Cabinet) → not (ends a) ≡ true → none_clears (calls_of a s) ≡ true
 unfolding none_clears
@@ -159,7 +159,7 @@ module _ (enc : Encoding) (x : ControllerAlone) where
     read_back = run-reads enc;
     as-alone = as-alone;
     held = λ r. of_bare (inside r) (over Agreeing r (to-bare (aside r) (x.held (who r) (calls r))));
-    acks-joined = λ r. over (λ (c : Controller). ack_join r.n c ≡ Agreed (acks_union r.n c)) r (x.acks-joined (who r) (calls r));
+    acks-joined = λ r. over (λ (c : Controller). ack_join r.n c ≡ Ok (acks_union r.n c)) r (x.acks-joined (who r) (calls r));
     help-votes = λ r. over (λ (c : Controller). help_votes r.n c ≡ union (acks_union r.n c) c.votes) r (x.help-votes (who r) (calls r));
     own-answer = λ r. over (λ (c : Controller). JoinIsUnion c.helped.votes (help_votes r.n c)) r (x.own-answer (who r) (calls r));
     own-vote = λ r w t e. over (λ (c : Controller). JoinIsUnion c.votes (single r.id (flag_of w))) r (x.own-vote (who r) (calls r) (flag_of w) t (voted r w t e));

@@ -5,11 +5,10 @@ use Rattle.model.specs.declared.Telegram.TheVariants.{Plain, OfBallot}
 use Rattle.records.specs.Codes.{flag_of}
 use Rattle.records.specs.Codec.{reads}
 use Rattle.checkpoint_record.specs.Checkpoints.{checkpoints}
-use Rattle.checkpoint_record.specs.declared.ReadCheckpoint.{ReadCheckpoint}
-use Rattle.checkpoint_record.specs.declared.ReadCheckpoint.TheVariants.{Read as ReadCard, Refused as RefusedCard}
+use Rattle.checkpoint_record.specs.Checkpoints.{ReadCheckpoint}
+use Rattle.std.specs.Prelude.{Ok, Err}
 use Rattle.message_record.specs.Telegrams.{telegrams}
-use Rattle.message_record.specs.declared.ReadTelegram.{ReadTelegram}
-use Rattle.message_record.specs.declared.ReadTelegram.TheVariants.{Read, Refused}
+use Rattle.message_record.specs.Telegrams.{ReadTelegram}
 use Rattle.protocol.specs.Alone.{Call, voting, receiving, timing-out, deciding, stopping, restoring, renewing}
 use Rattle.cabinet_state.specs.declared.Cabinet.{Cabinet}
 use Rattle.cabinet_turns.specs.Turns.{later_order}
@@ -29,12 +28,12 @@ telegram_calls (Plain m) = receiving m ∷ []
 telegram_calls (OfBallot m) = []
 
 abbrev pub read_calls : ReadTelegram → List Call
-read_calls (Refused q) = []
-read_calls (Read t) = telegram_calls t
+read_calls (Err q) = []
+read_calls (Ok t) = telegram_calls t
 
 abbrev pub card_calls : ReadCheckpoint → Cabinet → List Call
-card_calls (RefusedCard q) s = []
-card_calls (ReadCard p) s = stopping ∷ renewing (later_order s.me.order p.order) ∷ restoring p ∷ []
+card_calls (Err q) s = []
+card_calls (Ok p) s = stopping ∷ renewing (later_order s.me.order p.order) ∷ restoring p ∷ []
 
 abbrev pub calls_of : Act → Cabinet → List Call
 calls_of (Ordering k) s = renewing k ∷ []

@@ -3,7 +3,7 @@
 use Rattle.std.specs.Prelude.{ℕ, ◌<◌, ◌≤◌, ◌≡◌, true, false, List, ◌∷◌, length}
 use Rattle.ground.specs.Quantify.{count_to}
 use Rattle.votes.specs.VoteSets.{knows, wills, single, union}
-use Rattle.votes.specs.declared.Joined.TheVariants.{Agreed}
+use Rattle.std.specs.Prelude.{Ok}
 use Rattle.model.specs.declared.Message.{Message}
 use Rattle.records.specs.Codes.{flag_of}
 use Rattle.protocol.specs.declared.Controller.{Controller}
@@ -29,7 +29,7 @@ pub record CabinetAlone : Type 0 where
   -- so what holds of a controller alone holds of it. It never holds two vote sets that contradict each other,
   pub held : (r : Run) → Agreeing (inside r)
   -- and each join that its rules make is there, and is the union of the vote sets: the acknowledgements'; the help vote set, and its join with the help answers;
-  pub acks-joined : (r : Run) → ack_join r.n (inside r) ≡ Agreed (acks_union r.n (inside r))
+  pub acks-joined : (r : Run) → ack_join r.n (inside r) ≡ Ok (acks_union r.n (inside r))
   pub help-votes : (r : Run) → help_votes r.n (inside r) ≡ union (acks_union r.n (inside r)) (inside r).votes
   pub own-answer : (r : Run) → JoinIsUnion (inside r).helped.votes (help_votes r.n (inside r))
   -- the own vote, where it is answered 0, with the own vote set; a vote set that is taken with the own vote set, and with the help answers

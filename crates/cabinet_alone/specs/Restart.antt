@@ -5,7 +5,7 @@ use Rattle.model.specs.declared.Checkpoint.{Checkpoint}
 use Rattle.model.specs.declared.Outcome.TheVariants.{None}
 use Rattle.records.specs.Codec.{reads}
 use Rattle.checkpoint_record.specs.Checkpoints.{checkpoints}
-use Rattle.checkpoint_record.specs.declared.ReadCheckpoint.TheVariants.{Read}
+use Rattle.std.specs.Prelude.{Ok}
 use Rattle.protocol.specs.declared.Condition.{Condition}
 use Rattle.protocol.specs.Controllers.{is_running, is_standby, in_phase}
 use Rattle.cabinet_state.specs.declared.Cabinet.{Cabinet}
@@ -18,7 +18,7 @@ condition s = s.controller.condition
 
 -- it wakes from bytes that read as card p, and the call is answered 0
 pub record Wakes (bytes : List ℕ) (p : Checkpoint) (s : Cabinet) : Type 0 where
-  pub card : reads checkpoints bytes ≡ Read p
+  pub card : reads checkpoints bytes ≡ Ok p
   pub answer : number_of (Waking bytes) s ≡ 0
 
 -- the cabinet then; and after any calls

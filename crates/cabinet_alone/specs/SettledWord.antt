@@ -9,7 +9,7 @@ use Rattle.model.specs.declared.Telegram.TheVariants.{OfBallot}
 use Rattle.records.specs.Codec.{reads}
 use Rattle.records.specs.Codes.{flag_number}
 use Rattle.message_record.specs.Telegrams.{telegrams}
-use Rattle.message_record.specs.declared.ReadTelegram.TheVariants.{Read}
+use Rattle.std.specs.Prelude.{Ok}
 use Rattle.protocol.specs.declared.Bench.{Bench}
 use Rattle.protocol.specs.Controllers.{outcome, or_else}
 use Rattle.protocol.specs.Ballots.{majority, row}
@@ -33,7 +33,7 @@ pub record Told (a : Act) (next : Cabinet) (j : ℕ) : Type 0 where
   pub bytes : List ℕ
   pub came : a ≡ Receiving bytes
   pub telegram : BallotMessage
-  pub read : reads telegrams bytes ≡ Read (OfBallot telegram)
+  pub read : reads telegrams bytes ≡ Ok (OfBallot telegram)
   pub taken : telegram.kind ≡ Accepted
   pub from : telegram.from ≡ j
   pub order : telegram.order ≡ next.me.order

@@ -84,13 +84,11 @@ fn sets_in(s: &[u32]) -> [VoteSet; LIMIT]
     ensures { result ≡ sets_in s.now }
 {
     let mut sets = [empty_set(); LIMIT];
-    let mut j: usize = 0;
-    while j < LIMIT {
+    for j in 0..LIMIT {
         sets[j] = VoteSet {
             known: word(s, KNOWN + j),
             willing: word(s, WILLING + j),
         };
-        j += 1;
     }
     sets
 }

@@ -1,5 +1,7 @@
 // The words of a cabinet, and whether words are those of one.
 ghost use Rattle.std.specs.Prelude.{◌≡◌, ◌<◌, length};
+ghost use Rattle.model.specs.Questions.{number};
+ghost use Rattle.model.specs.Refusals.{reply_of};
 ghost use Rattle.cabinet_state.specs.Tables.{tabulate};
 ghost use Rattle.cabinet_state.specs.Words.{check_place, state_words, tag_of, head_from, head_of, ballots_from};
 ghost use Rattle.cabinet_state.specs.Words.{ballots_of, column_in, check_of, column_of, with_check, words_of};
@@ -10,9 +12,8 @@ use crate::reading::{cabinet_of, word};
 use crate::{BALLOTS, BallotState, CHECK, Cabinet, HEAD, KNOWN, MARK, WILLING, WORDS};
 use controller_state::{outcome_in, phase_in};
 use ground::LIMIT;
-use model::outcome_number;
+use model::{Refusal, ask};
 use protocol::Condition;
-use records::flag_number;
 use votes::VoteSet;
 
 fn tag_of(k: Condition) -> u8
@@ -29,10 +30,11 @@ fn tag_of(k: Condition) -> u8
 pub fn wide(x: u8) -> u32
     ensures { (result ≡ x) × (result < 256) }
 {
-    x as u32
+    u32::from(x)
 }
 
 // The head, with its small numbers widened.
+// stays (proof): each number comes widened, so that the array is one equation and each widening one of its own (Heads.antt); so too `ballots_from`.
 fn head_from(
     n: u32,
     f: u32,
@@ -102,14 +104,14 @@ fn head_of(s: Cabinet) -> [u32; HEAD]
         wide(s.me.n),
         wide(s.me.f),
         wide(s.me.id),
-        wide(flag_number(s.own)),
+        wide(u8::from(s.own)),
         wide(tag_of(now)),
         wide(phase_in(now)),
-        wide(outcome_number(outcome_in(now))),
+        wide(u8::from(outcome_in(now))),
         wide(cnt.0),
         wide(cnt_help.0),
-        wide(flag_number(c.help.waiting)),
-        wide(outcome_number(proposal)),
+        wide(u8::from(c.help.waiting)),
+        wide(u8::from(proposal)),
         s,
     )
 }
@@ -150,15 +152,15 @@ fn ballots_of(b: BallotState) -> [u32; BALLOTS]
         wide(acceptor.highest),
         wide(acceptor.promised),
         wide(acceptor.last),
-        wide(outcome_number(taken)),
-        wide(flag_number(report.given)),
+        wide(u8::from(taken)),
+        wide(u8::from(report.given)),
         wide(report.last),
-        wide(outcome_number(rword)),
+        wide(u8::from(rword)),
         wide(b.opened),
         tally.from,
         wide(tally.top),
-        wide(outcome_number(top_word)),
-        wide(outcome_number(put)),
+        wide(u8::from(top_word)),
+        wide(u8::from(put)),
         b.accepted_by,
     )
 }
@@ -211,10 +213,8 @@ fn fill(
     requires { length out.old ≡ state_words }
     ensures { out.new ≡ tabulate state_words (with_check check (column_in head ballots sets)) }
 {
-    let mut k: usize = 0;
-    while k < WORDS {
+    for k in 0..WORDS {
         out[k] = with_check(check, head, ballots, sets, k);
-        k += 1;
     }
 }
 
@@ -238,12 +238,10 @@ fn same_words(
 ) -> bool
     ensures { result ≡ same_words check (column_in head ballots sets) s.now }
 {
-    let mut k: usize = 0;
-    while k < WORDS {
+    for k in 0..WORDS {
         if with_check(check, head, ballots, sets, k) != word(s, k) {
             return false;
         }
-        k += 1;
     }
     true
 }
@@ -265,33 +263,23 @@ fn written_form(s: &[u32]) -> bool
     written_as(s, cabinet_of(s))
 }
 
-// 0, or what is wrong with words that should be a cabinet's.
-pub fn state_refusal(s: &[u32]) -> u8
-    ensures { result ≡ state_refusal s.now }
+// What is wrong with words that should be a cabinet's.
+#[tactic(auto, unfolding(crate::specs::States::state_refusal))]
+pub fn state_refusal(s: &[u32]) -> Result<(), Refusal>
+    ensures { number (reply_of result) ≡ state_refusal s.now }
 {
-    if s.len() != WORDS {
-        return 1;
-    }
-    if word(s, 0) != MARK {
-        return 2;
-    }
-    if !written_form(s) {
-        return 3;
-    }
-    0
+    ask(s.len() == WORDS, Refusal::Length)?;
+    ask(word(s, 0) == MARK, Refusal::Mark)?;
+    ask(written_form(s), Refusal::Listed)
 }
 
-// Leaves a cabinet in the words, unless there is a refusal or they are too few or too many; then they are untouched.
-pub fn leave(state: &mut [u32], refusal: u8, s: Cabinet) -> u8
-    ensures { (result ≡ leave_number state.old refusal)
-        × (state.new ≡ leave_words state.old refusal s) }
+// Leaves a cabinet in the words, unless what was asked is refused or they are too few or too many; then they are untouched.
+pub fn leave(state: &mut [u32], asked: Result<(), Refusal>, s: Cabinet) -> Result<(), Refusal>
+    ensures { (number (reply_of result) ≡ leave_number state.old (number (reply_of asked)))
+        × (state.new ≡ leave_words state.old (number (reply_of asked)) s) }
 {
-    if state.len() != WORDS {
-        return 1;
-    }
-    if refusal != 0 {
-        return refusal;
-    }
+    ask(state.len() == WORDS, Refusal::Length)?;
+    asked?;
     write(s, state);
-    0
+    Ok(())
 }

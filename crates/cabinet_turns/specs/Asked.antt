@@ -6,8 +6,8 @@ use Rattle.model.specs.Ranges.{sizes_in_range, is_controller, position_in_range}
 use Rattle.model.specs.Numbers.{is_none}
 use Rattle.model.specs.declared.Checkpoint.{Checkpoint}
 use Rattle.records.specs.Codes.{is_flag}
-use Rattle.checkpoint_record.specs.declared.ReadCheckpoint.{ReadCheckpoint}
-use Rattle.checkpoint_record.specs.declared.ReadCheckpoint.TheVariants.{Read, Refused}
+use Rattle.checkpoint_record.specs.Checkpoints.{ReadCheckpoint}
+use Rattle.std.specs.Prelude.{Ok, Err}
 use Rattle.protocol.specs.declared.Condition.{Condition}
 use Rattle.protocol.specs.declared.Identity.{Identity}
 use Rattle.protocol.specs.Controllers.{is_running, is_standby, is_present, phase_in, outcome_in}
@@ -48,8 +48,8 @@ unfoldable pub own_card : Identity → Checkpoint → Bool
 own_card me p = eqb p.id me.id && eqb p.n me.n && eqb p.f me.f
 
 unfoldable pub wake_asked : ReadCheckpoint → Identity → List Question
-wake_asked (Refused q) me = ask q false ∷ []
-wake_asked (Read p) me = ask 30 (own_card me p) ∷ []
+wake_asked (Err q) me = ask q false ∷ []
+wake_asked (Ok p) me = ask 30 (own_card me p) ∷ []
 
 -- **open**: `may`: is the ballot its own, not opened before and not below its highest promise; `put`: has it put a word at a lock without arbiter
 unfoldable pub open_asked : ℕ → Condition → Bool → Bool → List Question

@@ -10,8 +10,8 @@ use Rattle.model.specs.declared.BallotKind.TheVariants.{Prepare, Promise, Accept
 use Rattle.model.specs.declared.BallotMessage.{BallotMessage}
 use Rattle.model.specs.declared.Telegram.{Telegram}
 use Rattle.model.specs.declared.Telegram.TheVariants.{Plain, OfBallot}
-use Rattle.message_record.specs.declared.ReadTelegram.{ReadTelegram}
-use Rattle.message_record.specs.declared.ReadTelegram.TheVariants.{Read, Refused}
+use Rattle.message_record.specs.Telegrams.{ReadTelegram}
+use Rattle.std.specs.Prelude.{Ok, Err}
 use Rattle.protocol.specs.declared.Report.{Report}
 use Rattle.protocol.specs.declared.Tally.{Tally}
 use Rattle.protocol.specs.declared.BallotAnswer.{BallotAnswer}
@@ -100,16 +100,16 @@ telegram_asked (Plain m) s = ask 24 (not (is_contradicted (receive s.me m s.cont
 telegram_asked (OfBallot m) s = []
 
 unfoldable pub receive_asked : ReadTelegram → Cabinet → List Question
-receive_asked (Refused q) s = ask q false ∷ []
-receive_asked (Read t) s = telegram_asked t s
+receive_asked (Err q) s = ask q false ∷ []
+receive_asked (Ok t) s = telegram_asked t s
 
 unfoldable pub received_telegram : Telegram → Cabinet → Cabinet
 received_telegram (Plain m) s = answered s (receive s.me m s.controller)
 received_telegram (OfBallot m) s = received_ballot m s
 
 unfoldable pub received : ReadTelegram → Cabinet → Cabinet
-received (Refused q) s = s
-received (Read t) s = received_telegram t s
+received (Err q) s = s
+received (Ok t) s = received_telegram t s
 
 -- the word that its own ballot has settled, as far as it knows: more than n/2 have accepted it there
 unfoldable pub settled : Cabinet → Outcome

@@ -5,8 +5,8 @@ use Rattle.votes.specs.VoteSets.{empty}
 use Rattle.model.specs.declared.Outcome.TheVariants.{None}
 use Rattle.model.specs.declared.Checkpoint.{Checkpoint}
 use Rattle.records.specs.Codes.{flag_of}
-use Rattle.checkpoint_record.specs.declared.ReadCheckpoint.{ReadCheckpoint}
-use Rattle.checkpoint_record.specs.declared.ReadCheckpoint.TheVariants.{Read, Refused}
+use Rattle.checkpoint_record.specs.Checkpoints.{ReadCheckpoint}
+use Rattle.std.specs.Prelude.{Ok, Err}
 use Rattle.protocol.specs.declared.Answer.{Answer}
 use Rattle.protocol.specs.Alone.{in_order}
 use Rattle.protocol.specs.Controllers.{in_phase, blank}
@@ -66,5 +66,5 @@ woken_by p s = record {
 }
 
 unfoldable pub woken : ReadCheckpoint → Cabinet → Cabinet
-woken (Refused q) s = s
-woken (Read p) s = woken_by p s
+woken (Err q) s = s
+woken (Ok p) s = woken_by p s

@@ -1,9 +1,11 @@
 // Telegrams that arrive, and ballots.
 ghost use Rattle.std.specs.Prelude.{◌≡◌, not, ◌&&◌, [], ◌∷◌};
-ghost use Rattle.model.specs.Questions.{ask, number, first_no};
+ghost use Rattle.model.specs.Questions.{ask, first_no};
+ghost use Rattle.model.specs.Refusals.{reply_of};
 ghost use Rattle.model.specs.declared.Telegram.TheVariants.{Plain};
 ghost use Rattle.protocol.specs.BallotCalls.{is_owner};
 ghost use Rattle.protocol.specs.Rules.{is_contradicted};
+ghost use Rattle.model.specs.Refusals.{numbered};
 ghost use Rattle.cabinet_turns.specs.Asked.{open_asked};
 ghost use Rattle.cabinet_turns.specs.Ballots.{tally_for, report_after, with_ballots, may_open, has_put, opening_asked};
 ghost use Rattle.cabinet_turns.specs.Ballots.{by_itself, opened_by, opened, says_accepted, same_word, accepts};
@@ -16,8 +18,7 @@ use cabinet_state::{BallotState, Cabinet};
 use controller::{may_open, open, receive, receive_ballot, takes_ballot};
 use controller_state::{is_contradicted, is_running};
 use ground::insert;
-use message_record::ReadTelegram;
-use model::{BallotKind, BallotMessage, Message, Outcome, Telegram, is_none, outcome_number};
+use model::{BallotKind, BallotMessage, Message, Outcome, Refusal, Telegram, ask, is_none};
 use protocol::{Answer, BallotAnswer, Condition, Identity, Report, Tally};
 
 // What it has counted for a ballot.
@@ -64,39 +65,27 @@ fn may_open_in(b: u8, s: Cabinet) -> bool
 }
 
 // Has it put a word, at a lock without arbiter?
+#[tactic(auto, unfolding(crate::specs::Ballots::has_put))]
 fn has_put(s: Cabinet) -> bool
     ensures { result ≡ has_put s }
 {
-    if s.own {
-        let c = s.controller;
-        let word = c.proposal;
-        return !is_none(word);
-    }
-    false
+    s.own && !is_none(s.controller.proposal)
 }
 
 // 28 comes before 29, as in the documents.
-fn asked_to_open(order: u32, k: Condition, may: bool, put: bool) -> u8
-    ensures { result ≡ number (first_no (open_asked order k may put)) }
+#[tactic(auto, unfolding(model::specs::Questions::first_no, model::specs::Questions::unless, crate::specs::Asked::open_asked))]
+fn asked_to_open(order: u32, k: Condition, may: bool, put: bool) -> Result<(), Refusal>
+    ensures { reply_of result ≡ first_no (open_asked order k may put) }
 {
-    if order < 1 {
-        return 14;
-    }
-    if !is_running(k) {
-        return 15;
-    }
-    if may {
-        if put {
-            return 0;
-        }
-        return 29;
-    }
-    28
+    ask(1 <= order, Refusal::OrderOpen)?;
+    ask(is_running(k), Refusal::Condition)?;
+    ask(may, Refusal::Ballot)?;
+    ask(put, Refusal::BallotWord)
 }
 
 // To open a ballot.
-pub fn open_question(b: u8, s: Cabinet) -> u8
-    ensures { result ≡ number (first_no (opening_asked b s)) }
+pub fn open_question(b: u8, s: Cabinet) -> Result<(), Refusal>
+    ensures { reply_of result ≡ first_no (opening_asked b s) }
 {
     let c = s.controller;
     let k = c.condition;
@@ -145,35 +134,24 @@ pub fn opened(b: u8, s: Cabinet) -> Cabinet
 fn says_accepted(kind: BallotKind) -> bool
     ensures { result ≡ says_accepted kind }
 {
-    match kind {
-        BallotKind::Prepare => false,
-        BallotKind::Promise => false,
-        BallotKind::Accept => false,
-        BallotKind::Accepted => true,
-    }
+    kind == BallotKind::Accepted
 }
 
 fn same_word(a: Outcome, b: Outcome) -> bool
     ensures { result ≡ same_word a b }
 {
-    outcome_number(a) == outcome_number(b)
+    a == b
 }
 
 // Does the telegram say that its sender has accepted the word of this cabinet's own ballot?
+#[tactic(auto, unfolding(crate::specs::Ballots::accepts))]
 fn accepts(m: BallotMessage, s: Cabinet) -> bool
     ensures { result ≡ accepts m s }
 {
-    let kind = m.kind;
-    if !says_accepted(kind) {
-        return false;
-    }
     let t = tally_for(m.ballot, s.ballots);
-    let told = m.word;
-    let put = t.word;
-    if !same_word(told, put) {
-        return false;
-    }
-    takes_ballot(s.me, s.own, m, s.controller, t)
+    says_accepted(m.kind)
+        && same_word(m.word, t.word)
+        && takes_ballot(s.me, s.own, m, s.controller, t)
 }
 
 fn is_owner(me: Identity, b: u8) -> bool
@@ -185,10 +163,7 @@ fn is_owner(me: Identity, b: u8) -> bool
 fn accepts_own(me: Identity, b: u8, accepts: bool) -> bool
     ensures { result ≡ (accepts && is_owner me b) }
 {
-    if accepts {
-        return is_owner(me, b);
-    }
-    false
+    accepts && is_owner(me, b)
 }
 
 // Who has accepted the word of its own ballot: more than n/2 settle it.
@@ -246,41 +221,36 @@ fn received_ballot(m: BallotMessage, s: Cabinet) -> Cabinet
 }
 
 // 24, where the controller refuses what came.
-fn contradiction(a: Answer) -> u8
-    ensures { result ≡ number (first_no (ask 24 (not (is_contradicted a.reception)) ∷ [])) }
+#[tactic(auto, unfolding(model::specs::Questions::first_no, model::specs::Questions::unless))]
+fn contradiction(a: Answer) -> Result<(), Refusal>
+    ensures { reply_of result ≡ first_no (ask 24 (not (is_contradicted a.reception)) ∷ []) }
 {
     let reception = a.reception;
-    if is_contradicted(reception) {
-        return 24;
-    }
-    0
+    ask(!is_contradicted(reception), Refusal::Contradiction)
 }
 
 // Of kinds 1 to 4 the controller is asked: 24 is its own refusal.
-fn message_question(m: Message, s: Cabinet) -> u8
-    ensures { result ≡ number (first_no (telegram_asked (Plain m) s)) }
+fn message_question(m: Message, s: Cabinet) -> Result<(), Refusal>
+    ensures { reply_of result ≡ first_no (telegram_asked (Plain m) s) }
 {
     contradiction(receive(s.me, m, s.controller))
 }
 
 // Kinds 5 to 8 have no vote set that could contradict one held.
-fn telegram_question(t: Telegram, s: Cabinet) -> u8
-    ensures { result ≡ number (first_no (telegram_asked t s)) }
+fn telegram_question(t: Telegram, s: Cabinet) -> Result<(), Refusal>
+    ensures { reply_of result ≡ first_no (telegram_asked t s) }
 {
     match t {
         Telegram::Plain(m) => message_question(m, s),
-        Telegram::OfBallot(_) => 0,
+        Telegram::OfBallot(_) => Ok(()),
     }
 }
 
 // To receive: what reading the telegram asks comes first.
-pub fn receive_question(read: ReadTelegram, s: Cabinet) -> u8
-    ensures { result ≡ number (first_no (receive_asked read s)) }
+pub fn receive_question(read: Result<Telegram, Refusal>, s: Cabinet) -> Result<(), Refusal>
+    ensures { reply_of result ≡ first_no (receive_asked (numbered read) s) }
 {
-    match read {
-        ReadTelegram::Refused(q) => q,
-        ReadTelegram::Read(t) => telegram_question(t, s),
-    }
+    telegram_question(read?, s)
 }
 
 // A message: one that the controller passes over changes nothing.
@@ -300,12 +270,12 @@ fn received_telegram(t: Telegram, s: Cabinet) -> Cabinet
 }
 
 // What is refused changes nothing.
-pub fn received(read: ReadTelegram, s: Cabinet) -> Cabinet
-    ensures { result ≡ received read s }
+pub fn received(read: Result<Telegram, Refusal>, s: Cabinet) -> Cabinet
+    ensures { result ≡ received (numbered read) s }
 {
     match read {
-        ReadTelegram::Refused(_) => s,
-        ReadTelegram::Read(t) => received_telegram(t, s),
+        Ok(t) => received_telegram(t, s),
+        Err(_) => s,
     }
 }
 

@@ -6,7 +6,6 @@ ghost use Rattle.cabinet_turns.specs.Shown.{shown};
 use crate::ballots::settled;
 use cabinet_state::{Cabinet, wide};
 use controller_state::outcome_in;
-use model::outcome_number;
 use protocol::Condition;
 
 fn stage_shown(k: Condition) -> u8
@@ -26,9 +25,9 @@ pub fn shown(s: Cabinet) -> [u32; 7]
     let k = c.condition;
     let proposal = c.proposal;
     let stage = wide(stage_shown(k));
-    let outcome = wide(outcome_number(outcome_in(k)));
-    let put = wide(outcome_number(proposal));
-    let settled_word = wide(outcome_number(settled(s)));
+    let outcome = wide(u8::from(outcome_in(k)));
+    let put = wide(u8::from(proposal));
+    let settled_word = wide(u8::from(settled(s)));
     let highest = wide(s.ballots.acceptor.highest);
     [
         s.me.order,

@@ -14,13 +14,5 @@ pub use asked::{
 };
 pub use ballots::{open_question, opened, receive_question, received};
 pub use display::shown;
-use model::Telegram;
 pub use telegrams::nth_telegram;
 pub use turns::{begun, decided, halted, ordered, timed_out, voted, woken};
-
-// One of the telegrams that a cabinet has sent in its order, or there are no more.
-#[derive(Clone, Copy)]
-pub enum SentTelegram {
-    Nothing,
-    Sent(Telegram),
-}

@@ -7,16 +7,16 @@ ghost use Rattle.protocol.specs.Alone.{in_order};
 ghost use Rattle.protocol.specs.Controllers.{in_phase, blank};
 ghost use Rattle.protocol.specs.Benches.{unsent_all};
 ghost use Rattle.protocol.specs.Calls.{stop, restore};
+ghost use Rattle.model.specs.Refusals.{numbered};
 ghost use Rattle.cabinet_turns.specs.Turns.{answered, no_ballots, begun, ordered, voted, timed_out, decided};
 ghost use Rattle.cabinet_turns.specs.Turns.{halted, later_order, woken_by, woken};
 
 use ballot_rules::{new_acceptor, new_tally, no_promise};
 use cabinet_state::{BallotState, Cabinet};
-use checkpoint_record::ReadCheckpoint;
 use controller::{decide, renew, restore, stop, timeout, vote};
 use controller_state::{blank, in_phase, sent_after, unsent_all};
 use ground::LIMIT;
-use model::{Checkpoint, Outcome};
+use model::{Checkpoint, Outcome, Refusal};
 use protocol::{Answer, Controller, Identity};
 use records::flag_of;
 use votes::empty_set;
@@ -146,13 +146,11 @@ pub fn halted(s: Cabinet) -> Cabinet
 }
 
 // A card may be older than the state: it leads back to no earlier order.
+#[tactic(auto, unfolding(crate::specs::Turns::later_order))]
 fn later_order(order: u32, saved: u32) -> u32
     ensures { result ≡ later_order order saved }
 {
-    if order <= saved {
-        return saved;
-    }
-    order
+    order.max(saved)
 }
 
 // Stopped, and restored from a card.
@@ -177,11 +175,11 @@ fn woken_by(p: Checkpoint, s: Cabinet) -> Cabinet
 }
 
 // What is refused changes nothing.
-pub fn woken(card: ReadCheckpoint, s: Cabinet) -> Cabinet
-    ensures { result ≡ woken card s }
+pub fn woken(card: Result<Checkpoint, Refusal>, s: Cabinet) -> Cabinet
+    ensures { result ≡ woken (numbered card) s }
 {
     match card {
-        ReadCheckpoint::Refused(_) => s,
-        ReadCheckpoint::Read(p) => woken_by(p, s),
+        Ok(p) => woken_by(p, s),
+        Err(_) => s,
     }
 }

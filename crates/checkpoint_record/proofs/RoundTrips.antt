@@ -29,8 +29,6 @@ lawful = record {
   fit = λ p h yes. (tt, (tt, (tt, (tt, (h.0, (h.1.0, tt))))));
   told-apart = λ k p. refl;
   own = λ k v l all. refl;
-  answer-read = λ p. refl;
-  answer-refusal = λ q. refl;
 }
 
 pub promises : Promises checkpoints

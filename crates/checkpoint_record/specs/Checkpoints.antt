@@ -1,19 +1,12 @@
 -- Checkpoint records (document 01: cards).
-use Rattle.std.specs.Prelude.{ℕ, List, [], ◌∷◌, leb, get_or}
+use Rattle.std.specs.Prelude.{ℕ, List, [], ◌∷◌, leb, get_or, Result}
 use Rattle.model.specs.Numbers.{outcome_number}
 use Rattle.model.specs.Questions.{Question, ask}
 use Rattle.model.specs.Ranges.{sizes_in_range, is_controller, position_in_range}
 use Rattle.model.specs.declared.Checkpoint.{Checkpoint}
 use Rattle.records.specs.Bytes.{one, four}
 use Rattle.records.specs.Codes.{is_outcome, outcome_of}
-use Rattle.records.specs.Codec.{marked, Reading, is_record, is_refusal, Form, Codec, one_form}
-use Rattle.checkpoint_record.specs.declared.ReadCheckpoint.{ReadCheckpoint}
-use Rattle.checkpoint_record.specs.declared.ReadCheckpoint.TheVariants.{Read, Refused}
-
--- what the reader's answer says
-abbrev pub answer_of : ReadCheckpoint → Reading Checkpoint
-answer_of (Read p) = is_record p
-answer_of (Refused q) = is_refusal q
+use Rattle.records.specs.Codec.{marked, Form, Codec, one_form}
 
 -- the checkpoint of the fields
 abbrev pub checkpoint_of : List ℕ → Checkpoint
@@ -36,5 +29,9 @@ checkpoint_form = record {
   asked = about_checkpoint;
 }
 
-abbrev pub checkpoints : Codec (Unit {0}) Checkpoint ReadCheckpoint
-checkpoints = one_form checkpoint_form Read Refused answer_of
+abbrev pub checkpoints : Codec (Unit {0}) Checkpoint
+checkpoints = one_form checkpoint_form
+
+-- what its reader returns
+abbrev pub ReadCheckpoint : Type 0
+ReadCheckpoint = Result Checkpoint ℕ

@@ -1,1 +1,2 @@
 mod BallotSequence
+mod OneByOne

@@ -1,15 +1,15 @@
 // The messages of an answer in a ballot, one by one in the sequence in which they go out: a prepare to all others or a promise to the owner, an accept to
 // all others, an accepted to the owner.
-ghost use Rattle.std.specs.Prelude.{◌≡◌, [], ◌∷◌, length, take, drop};
+ghost use Rattle.std.specs.Prelude.{◌≡◌, [], ◌∷◌, length, slice_get};
 ghost use Rattle.protocol.specs.Sequence.{members};
-ghost use Rattle.protocol.specs.BallotCalls.{others, ballot_to, ballot_to_others, ballot_messages, nth_ballot_of, to_send_ballot_values};
+ghost use Rattle.protocol.specs.BallotCalls.{others, ballot_to, ballot_to_others, NthBallotMessageOf};
 ghost use Rattle.controller.specs.BallotParts.{promised, proposed, accepted_by};
 
 use crate::sequence::nth_member;
 use ballot_rules::owner;
 use ground::{remove, size, up_to};
 use model::{BallotKind, BallotMessage, Outcome};
-use protocol::{BallotAnswer, Identity, ToSendBallot};
+use protocol::{BallotAnswer, Identity};
 use votes::empty_set;
 
 // All of 1 to n but i.
@@ -52,24 +52,30 @@ pub fn count_others(me: Identity) -> u8
 }
 
 // The message to all others that has k before it.
-pub fn nth_to_others(me: Identity, kind: BallotKind, b: u8, word: Outcome, k: u8) -> ToSendBallot
-    ensures { result ≡ nth_ballot_of (ballot_to_others me kind b word) k }
+pub fn nth_to_others(
+    me: Identity,
+    kind: BallotKind,
+    b: u8,
+    word: Outcome,
+    k: u8,
+) -> Option<BallotMessage>
+    ensures { result ≡ slice_get (ballot_to_others me kind b word) k }
 {
     if count_others(me) <= k {
-        return ToSendBallot::AllSent;
+        return None;
     }
     let to = nth_member(me.n, others(me.n, me.id), k);
-    ToSendBallot::Next(ballot_to(me, kind, b, 0, word, to))
+    Some(ballot_to(me, kind, b, 0, word, to))
 }
 
 // One message alone.
-fn nth_of_one(m: BallotMessage, k: u8) -> ToSendBallot
-    ensures { result ≡ nth_ballot_of (m ∷ []) k }
+pub fn nth_of_one(m: BallotMessage, k: u8) -> Option<BallotMessage>
+    ensures { result ≡ slice_get (m ∷ []) k }
 {
     if k == 0 {
-        return ToSendBallot::Next(m);
+        return Some(m);
     }
-    ToSendBallot::AllSent
+    None
 }
 
 // Where a promise is given: prepares, if the ballot is its own, or the promise.
@@ -85,20 +91,25 @@ fn count_promised(me: Identity, b: u8, x: BallotAnswer) -> u8
     0
 }
 
-fn nth_promised(me: Identity, b: u8, x: BallotAnswer, k: u8) -> ToSendBallot
-    ensures { result ≡ nth_ballot_of (promised me b x) k }
+fn nth_promised(me: Identity, b: u8, x: BallotAnswer, k: u8) -> Option<BallotMessage>
+    ensures { result ≡ slice_get (promised me b x) k }
 {
     if x.promise.given {
         let to = owner(me.n, b);
         if to == me.id {
             return nth_to_others(me, BallotKind::Prepare, b, Outcome::None, k);
         }
-        let promise = x.promise;
-        let word = promise.word;
-        let m = ballot_to(me, BallotKind::Promise, b, promise.last, word, to);
+        let m = ballot_to(
+            me,
+            BallotKind::Promise,
+            b,
+            x.promise.last,
+            x.promise.word,
+            to,
+        );
         return nth_of_one(m, k);
     }
-    ToSendBallot::AllSent
+    None
 }
 
 // Where a word is put: accepts.
@@ -111,36 +122,33 @@ fn count_proposed(me: Identity, b: u8, x: BallotAnswer) -> u8
     0
 }
 
-fn nth_proposed(me: Identity, b: u8, x: BallotAnswer, k: u8) -> ToSendBallot
-    ensures { result ≡ nth_ballot_of (proposed me b x) k }
+fn nth_proposed(me: Identity, b: u8, x: BallotAnswer, k: u8) -> Option<BallotMessage>
+    ensures { result ≡ slice_get (proposed me b x) k }
 {
     if x.proposes {
-        let tally = x.tally;
-        let word = tally.word;
-        return nth_to_others(me, BallotKind::Accept, b, word, k);
+        return nth_to_others(me, BallotKind::Accept, b, x.tally.word, k);
     }
-    ToSendBallot::AllSent
+    None
 }
 
 // Where another's word is accepted: the owner is told.
-fn nth_accepted(me: Identity, b: u8, x: BallotAnswer, k: u8) -> ToSendBallot
-    ensures { result ≡ nth_ballot_of (accepted_by me b x) k }
+fn nth_accepted(me: Identity, b: u8, x: BallotAnswer, k: u8) -> Option<BallotMessage>
+    ensures { result ≡ slice_get (accepted_by me b x) k }
 {
     if x.accepts {
         let to = owner(me.n, b);
         if to == me.id {
-            return ToSendBallot::AllSent;
+            return None;
         }
-        let acceptor = x.acceptor;
-        let word = acceptor.word;
-        return nth_of_one(ballot_to(me, BallotKind::Accepted, b, 0, word, to), k);
+        let m = ballot_to(me, BallotKind::Accepted, b, 0, x.acceptor.word, to);
+        return nth_of_one(m, k);
     }
-    ToSendBallot::AllSent
+    None
 }
 
 // The message of an answer in ballot b that has k before it, so that a cabinet can send them one by one: k = 0, 1, 2 and so on, until all are sent.
-pub fn nth_ballot_message(me: Identity, b: u8, x: BallotAnswer, k: u8) -> ToSendBallot
-    ensures { (result ≡ nth_ballot_of (ballot_messages me b x) k) × (to_send_ballot_values result ≡ take 1 (drop k (ballot_messages me b x))) }
+pub fn nth_ballot_message(me: Identity, b: u8, x: BallotAnswer, k: u8) -> Option<BallotMessage>
+    ensures { NthBallotMessageOf me b x k result }
 {
     let promised = count_promised(me, b, x);
     if k < promised {

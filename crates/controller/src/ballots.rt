@@ -21,8 +21,7 @@ fn takes_part(me: Identity, own: bool, c: Controller) -> bool
         return false;
     }
     if own {
-        let now = c.condition;
-        return is_running(now);
+        return is_running(c.condition);
     }
     false
 }
@@ -53,11 +52,10 @@ pub fn open(me: Identity, own: bool, b: u8, c: Controller, a: Acceptor, t: Tally
     if !may_open(me, b, a, t) {
         return unanswered(a, t);
     }
-    let word = c.proposal;
-    if is_none(word) {
+    if is_none(c.proposal) {
         return unanswered(a, t);
     }
-    open_ballot(me.n, b, me.id, word, a, t)
+    open_ballot(me.n, b, me.id, c.proposal, a, t)
 }
 
 // Is a message of this order, n and f, meant for this controller, and from another?
@@ -126,8 +124,7 @@ fn comes(me: Identity, m: BallotMessage, t: Tally) -> bool
     if !ballot_suits(m) {
         return false;
     }
-    let kind = m.kind;
-    of_owner(kind, me.n, m.ballot, m.from, me.id, t)
+    of_owner(m.kind, me.n, m.ballot, m.from, me.id, t)
 }
 
 // Is a message of a ballot meant for one that takes part, and may it come so?
@@ -154,8 +151,7 @@ pub fn receive_ballot(
     if !takes_ballot(me, own, m, c, t) {
         return unanswered(a, t);
     }
-    let kind = m.kind;
-    let word = m.word;
-    let proposal = c.proposal;
-    arrives(kind, me.n, m.ballot, m.from, m.last, word, proposal, a, t)
+    arrives(
+        m.kind, me.n, m.ballot, m.from, m.last, m.word, c.proposal, a, t,
+    )
 }

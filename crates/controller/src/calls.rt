@@ -32,8 +32,7 @@ fn takes_part(me: Identity, c: Controller) -> bool
     if !valid_identity(me) {
         return false;
     }
-    let now = c.condition;
-    is_running(now)
+    is_running(c.condition)
 }
 
 // Its vote, willing or not, and the target of its gate: taken at stage 0. An acknowledgement held that it contradicts counts as not received.
@@ -43,8 +42,7 @@ pub fn vote(me: Identity, willing: bool, target: u32, c: Controller) -> Answer
     if !takes_part(me, c) {
         return passed_over(c);
     }
-    let now = c.condition;
-    if phase_in(now) != 0 {
+    if phase_in(c.condition) != 0 {
         return passed_over(c);
     }
     let held = drop_contradicting(me.n, single(me.id, willing), c);
@@ -70,16 +68,14 @@ fn addressed(me: Identity, m: Message) -> bool
     if !is_controller(me.n, m.from) {
         return false;
     }
-    let kind = m.kind;
-    route(me.f, kind, m.from, me.id)
+    route(me.f, m.kind, m.from, me.id)
 }
 
 // The answer a to a vote set, unless it was taken and the vote set contradicts one that is held.
 fn tested(n: u8, s: VoteSet, c: Controller, a: Answer) -> Answer
     ensures { result ≡ tested n s c a }
 {
-    let reception = a.reception;
-    if !is_taken(reception) {
+    if !is_taken(a.reception) {
         return a;
     }
     if contradicts_held(n, c, s) {
@@ -101,9 +97,8 @@ pub fn receive(me: Identity, m: Message, c: Controller) -> Answer
     if !suits(m) {
         return passed_over(c);
     }
-    let kind = m.kind;
     let s = m.votes;
-    tested(me.n, s, c, arrives(kind, me.n, me.f, m.from, s, c))
+    tested(me.n, s, c, arrives(m.kind, me.n, me.f, m.from, s, c))
 }
 
 // The first timeout is at stage 1, the second at stage 2.
@@ -113,8 +108,7 @@ pub fn timeout(me: Identity, c: Controller) -> Answer
     if !takes_part(me, c) {
         return passed_over(c);
     }
-    let now = c.condition;
-    let phase = phase_in(now);
+    let phase = phase_in(c.condition);
     if phase == 1 {
         return first_timeout(me.n, me.f, me.id, c);
     }

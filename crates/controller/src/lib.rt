@@ -8,7 +8,7 @@ mod calls;
 mod lifecycle;
 mod sequence;
 
-pub use ballot_sequence::{ballot_to, count_others, nth_ballot_message, nth_to_others};
+pub use ballot_sequence::{ballot_to, count_others, nth_ballot_message, nth_of_one, nth_to_others};
 pub use ballots::{may_open, open, receive_ballot, takes_ballot};
 pub use calls::{receive, timeout, vote};
 pub use lifecycle::{decide, renew, restore, save, stop};

@@ -7,18 +7,17 @@ use controller_state::{
     outcome_kept, passed_over, phase_in, renewed_condition,
 };
 use model::{Checkpoint, word_of};
-use protocol::{Answer, Condition, Controller, Identity, Saved};
+use protocol::{Answer, Condition, Controller, Identity};
 
 // It stands by, or runs at stage 3.
 fn awaits_decision(c: Controller) -> bool
     ensures { result ≡ awaits_decision c }
 {
-    let now = c.condition;
-    if is_standby(now) {
+    if is_standby(c.condition) {
         return true;
     }
-    if is_running(now) {
-        return phase_in(now) == 3;
+    if is_running(c.condition) {
+        return phase_in(c.condition) == 3;
     }
     false
 }
@@ -37,8 +36,7 @@ pub fn decide(to_move: bool, c: Controller) -> Answer
 pub fn stop(c: Controller) -> Answer
     ensures { result ≡ stop c }
 {
-    let now = c.condition;
-    if is_present(now) {
+    if is_present(c.condition) {
         return becomes(cleared(Condition::Stopped, c));
     }
     passed_over(c)
@@ -48,36 +46,32 @@ pub fn stop(c: Controller) -> Answer
 fn checkpoint_of(me: Identity, c: Controller) -> Checkpoint
     ensures { result ≡ checkpoint_of me c }
 {
-    let now = c.condition;
     Checkpoint {
         id: me.id,
         n: me.n,
         f: me.f,
-        outcome: outcome_in(now),
+        outcome: outcome_in(c.condition),
         order: me.order,
         position: c.gate.position,
     }
 }
 
 // The checkpoint (number 0), unless it is stopped (15).
-pub fn save(me: Identity, c: Controller) -> Saved
+pub fn save(me: Identity, c: Controller) -> Option<Checkpoint>
     ensures { SaveOf me c result }
 {
-    let now = c.condition;
-    if is_present(now) {
-        return Saved::Newest(checkpoint_of(me, c));
+    if is_present(c.condition) {
+        return Some(checkpoint_of(me, c));
     }
-    Saved::Nothing
+    None
 }
 
 // A stopped controller stands by. The gate stays where it is.
 pub fn restore(me: Identity, saved: Checkpoint, c: Controller) -> Answer
     ensures { result ≡ restore me saved c }
 {
-    let now = c.condition;
-    if is_stopped(now) {
-        let held = saved.outcome;
-        let outcome = outcome_kept(saved.order, held, me.order);
+    if is_stopped(c.condition) {
+        let outcome = outcome_kept(saved.order, saved.outcome, me.order);
         let next = cleared(Condition::Standby(outcome), c);
         return becomes(next);
     }
@@ -88,6 +82,5 @@ pub fn restore(me: Identity, saved: Checkpoint, c: Controller) -> Answer
 pub fn renew(c: Controller) -> Controller
     ensures { result ≡ renew c }
 {
-    let now = c.condition;
-    cleared(renewed_condition(now), c)
+    cleared(renewed_condition(c.condition), c)
 }

@@ -20,12 +20,13 @@ use Rattle.protocol.specs.declared.HelpAnswers.{HelpAnswers}
 use Rattle.protocol.specs.declared.Sends.{Sends}
 use Rattle.protocol.specs.declared.Controller.{Controller}
 use Rattle.protocol.specs.declared.Reception.TheVariants.{Taken, PassedOver}
-use Rattle.protocol.specs.declared.Send.TheVariants.{Nothing, To}
 use Rattle.controller_rules.specs.declared.second.Conclusion.{Conclusion}
 use Rattle.controller_rules.specs.declared.second.Conclusion.TheVariants.{Waits}
-use Rattle.protocol.specs.Controllers.{bump, phase, outcome, in_phase, has_ack, has_called, keep_ack, with_votes, with_help, learn, add_caller, advance, freeze, await, keep_helped, propose, conclude}
+use Rattle.protocol.specs.Controllers.{bump, phase, outcome, in_phase, has_ack, has_called, keep_ack, with_votes, with_help, learn, add_caller, advance, freeze, await, keep_helped, propose, conclude, or_else}
 use Rattle.protocol.specs.Rules.{nothing, helps, sending, acks_to, count_own, first_timeout, passing_over, becomes, proposing, verdict, ack_join, decides, sufficient, answers_join, propose_if_sufficient, help_votes, frozen, ready, calls_help, vote_arrives, keeps_call, answers_call, help_arrives, second_timeout}
-use Rattle.controller_rules.specs.Conclusions.{conclusion_of, condition_after, position_after, helped_after, word_after, calls_after, waits_after, put_or}
+use Rattle.controller_rules.specs.Conclusions.{conclusion_of, condition_after, position_after, helped_after, word_after, calls_after, waits_after}
+use Rattle.std.specs.Prelude.{None}
+use Rattle.protocol.specs.Rules.{send_to}
 
 pub vote-joined : (s : VoteSet) (c : Controller)
     → ◌≡◌ {A = Answer} (record { reception = cond (leb (phase c) 1) Taken PassedOver; controller = with_votes c (cond (leb (phase c) 1) (agreed_or c.votes (join c.votes s)) c.votes); sends = nothing; proposal = None }) (vote_arrives s c)
@@ -39,7 +40,7 @@ pub help-joined : (j : ℕ) (c : Controller)
     → ◌≡◌ {A = Answer} (record {
       reception = cond (not (has_called c j)) Taken PassedOver;
       controller = with_help c (record { waiting = c.help.waiting; votes = c.help.votes; callers = cond (not (has_called c j)) (insert c.help.callers j) c.help.callers });
-      sends = helps Nothing (cond (not (has_called c j) && not (leb (phase c) 2)) (To (insert 0 j) c.help.votes) Nothing);
+      sends = helps None (cond (not (has_called c j) && not (leb (phase c) 2)) (send_to (insert 0 j) c.help.votes) None);
       proposal = None;
     }) (help_arrives j c)
 unfolding help_arrives becomes passing_over keeps_call answers_call add_caller
@@ -52,7 +53,7 @@ help-joined j c = elim (split (has_called c j)) [
 ]
 
 -- a word that was put is there
-put_word : (b : Bool) (old : Outcome) → put_or (word_of b) old ≡ word_of b
+put_word : (b : Bool) (old : Outcome) → or_else (word_of b) old ≡ word_of b
 put_word true old = refl
 put_word false old = refl
 
@@ -75,10 +76,10 @@ parts k n f i c =
         acks = c.acks;
         helped = helped;
         help = record { waiting = waits_after k put; votes = help_votes n c; callers = c.help.callers };
-        proposal = put_or put c.proposal;
+        proposal = or_else put c.proposal;
         gate = record { target = c.gate.target; position = position_after k next word c.gate };
       };
-      sends = helps (calls_after k n f i) (To c.help.callers (help_votes n c));
+      sends = helps (calls_after k n f i) (send_to c.help.callers (help_votes n c));
       proposal = put;
     }
 
@@ -115,8 +116,8 @@ module _ (n f i : ℕ) (c : Controller) (k : Conclusion) (votes : VoteSet) (word
   pub second_from : votes ≡ help_votes n c → word ≡ verdict n (ack_join n c) → k ≡ conclusion_of n f i c → next ≡ in_phase 3 (outcome c)
       → helped ≡ helped_after k i votes c.helped → put ≡ word_after k n f word c.acks.cnt helped
       → (condition : Condition) → condition ≡ condition_after k next word → (position : ℕ) → position ≡ position_after k next word c.gate
-      → (waiting : Bool) → waiting ≡ waits_after k put → (sends : Sends) → sends ≡ helps (calls_after k n f i) (To c.help.callers votes)
-      → (proposal : Outcome) → proposal ≡ put_or put c.proposal
+      → (waiting : Bool) → waiting ≡ waits_after k put → (sends : Sends) → sends ≡ helps (calls_after k n f i) (send_to c.help.callers votes)
+      → (proposal : Outcome) → proposal ≡ or_else put c.proposal
       → ◌≡◌ {A = Answer} (record {
         reception = Taken;
         controller = record {

@@ -1,10 +1,9 @@
 // What arrives: votes, acknowledgements, help calls and help answers.
-ghost use Rattle.std.specs.Prelude.{◌≡◌, cond, not, ◌&&◌, ◌||◌, leb};
+ghost use Rattle.std.specs.Prelude.{◌≡◌, cond, not, ◌&&◌, ◌||◌, leb, None};
 ghost use Rattle.ground.specs.Mask.{has, insert};
 ghost use Rattle.votes.specs.Joining.{join, agreed_or};
-ghost use Rattle.protocol.specs.declared.Send.TheVariants.{Nothing, To};
 ghost use Rattle.protocol.specs.Controllers.{phase_in};
-ghost use Rattle.protocol.specs.Rules.{vote_arrives, ack_arrives, helped_arrives, help_arrives};
+ghost use Rattle.protocol.specs.Rules.{send_to, vote_arrives, ack_arrives, helped_arrives, help_arrives};
 ghost use Rattle.protocol.specs.Calls.{arrives};
 
 use crate::waiting::propose_if_sufficient;
@@ -13,7 +12,7 @@ use controller_state::{
 };
 use ground::{has, insert};
 use model::Kind;
-use protocol::{Answer, Condition, Controller, HelpState, Send};
+use protocol::{Answer, Condition, Controller, HelpState, Outgoing};
 use votes::{VoteSet, agreed_or, join};
 
 // The vote set with another joined to it, if that is taken.
@@ -30,10 +29,8 @@ fn learned(takes: bool, own: VoteSet, s: VoteSet) -> VoteSet
 pub fn vote_arrives(s: VoteSet, c: Controller) -> Answer
     ensures { result ≡ vote_arrives s c }
 {
-    let condition = c.condition;
-    let takes = phase_in(condition) <= 1;
-    let own = c.votes;
-    let votes = learned(takes, own, s);
+    let takes = phase_in(c.condition) <= 1;
+    let votes = learned(takes, c.votes, s);
     let controller = Controller { votes, ..c };
     received(takes, controller, nothing())
 }
@@ -52,8 +49,7 @@ pub fn takes_ack(condition: Condition, from: u32, waiting: bool, j: u8) -> bool
 fn ack_arrives(n: u8, f: u8, j: u8, s: VoteSet, c: Controller) -> Answer
     ensures { result ≡ ack_arrives n f j s c }
 {
-    let condition = c.condition;
-    if takes_ack(condition, c.acks.from, c.help.waiting, j) {
+    if takes_ack(c.condition, c.acks.from, c.help.waiting, j) {
         return propose_if_sufficient(n, f, becomes(keep_ack(c, j, s)));
     }
     passed_over(c)
@@ -73,13 +69,16 @@ pub fn helped_arrives(n: u8, f: u8, j: u8, s: VoteSet, c: Controller) -> Answer
 }
 
 // The help vote set, sent back to a caller or to nobody.
-fn answer_to_call(answers: bool, j: u8, votes: VoteSet) -> Send
-    ensures { result ≡ cond answers (To (insert 0 j) votes) Nothing }
+fn answer_to_call(answers: bool, j: u8, votes: VoteSet) -> Option<Outgoing>
+    ensures { result ≡ cond answers (send_to (insert 0 j) votes) None }
 {
     if answers {
-        return Send::To(insert(0, j), votes);
+        return Some(Outgoing {
+            to: insert(0, j),
+            votes,
+        });
     }
-    Send::Nothing
+    None
 }
 
 // The callers with one more, if that call is taken.
@@ -98,17 +97,15 @@ pub fn help_arrives(j: u8, c: Controller) -> Answer
 {
     let old = c.help;
     let takes = !has(old.callers, j);
-    let condition = c.condition;
-    let early = phase_in(condition) <= 2;
+    let early = phase_in(c.condition) <= 2;
     let answers = takes & !early;
-    let votes = old.votes;
-    let sent = answer_to_call(answers, j, votes);
+    let sent = answer_to_call(answers, j, old.votes);
     let help = HelpState {
         callers: called(takes, old.callers, j),
         ..old
     };
     let controller = Controller { help, ..c };
-    received(takes, controller, helps(Send::Nothing, sent))
+    received(takes, controller, helps(None, sent))
 }
 
 // A message of each kind.

@@ -28,12 +28,8 @@ fn backups_complete(n: u8, f: u8, c: Controller) -> bool
     }
     let from = c.acks.from;
     let sets = c.acks.sets;
-    let mut j: u8 = 0;
-    while j < f {
-        let at = j as usize;
-        let s = sets[at];
-        j += 1;
-        if !held_complete(n, from, j, s) {
+    for j in 0..f {
+        if !held_complete(n, from, j + 1, sets[j as usize]) {
             return false;
         }
     }
@@ -48,9 +44,7 @@ fn second_knows(f: u8, c: Controller) -> bool
     if LIMIT <= at {
         return false;
     }
-    let sets = c.acks.sets;
-    let s = sets[at];
-    held_complete(f, c.acks.from, f + 1, s)
+    held_complete(f, c.acks.from, f + 1, c.acks.sets[at])
 }
 
 // May it take the word of the acknowledgements as the outcome?

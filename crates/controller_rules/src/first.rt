@@ -27,8 +27,7 @@ fn count_own(f: u8, i: u8, c: Controller) -> Controller
     ensures { result ≡ count_own f i c }
 {
     if counts_own(f, i, c.acks.from) {
-        let votes = c.votes;
-        return keep_ack(c, i, votes);
+        return keep_ack(c, i, c.votes);
     }
     c
 }
@@ -37,9 +36,8 @@ fn count_own(f: u8, i: u8, c: Controller) -> Controller
 pub fn acknowledge(n: u8, f: u8, i: u8, c: Controller) -> Answer
     ensures { result ≡ sending (advance c 2) (acks_to (recipients n f Ack i) c.votes) }
 {
-    let votes = c.votes;
     let to = recipients(n, f, Kind::Ack, i);
-    sending(advance(c, 2), acks_to(to, votes))
+    sending(advance(c, 2), acks_to(to, c.votes))
 }
 
 // The first timeout: a backup counts its own acknowledgement, and every one sends it.

@@ -1,15 +1,15 @@
 // The second timeout. What comes of it is found first, then each part of the controller from that: a rule that joins whole controllers would copy them.
 ghost use Rattle.std.specs.Prelude.{◌≡◌};
 ghost use Rattle.protocol.specs.Rules.{second_timeout};
-ghost use Rattle.controller_rules.specs.Conclusions.{conclusion_of, condition_after, position_after, helped_after, word_after, calls_after, waits_after, put_or};
+ghost use Rattle.controller_rules.specs.Conclusions.{conclusion_of, condition_after, position_after, helped_after, word_after, calls_after, waits_after};
 
 use crate::deciding::decides;
 use crate::waiting::{ack_tally, counted_word};
-use controller_state::{bump, helps, in_phase, landing, noting, outcome_in};
+use controller_state::{bump, helps, in_phase, landing, noting, or_else, outcome_in};
 use ground::insert;
 use model::{Kind, Outcome, is_none, recipients, word_of};
 use protocol::{
-    Answer, Cnt, CntHelp, Condition, Controller, Gate, HelpAnswers, HelpState, Reception, Send,
+    Answer, Cnt, CntHelp, Condition, Controller, Gate, HelpAnswers, HelpState, Outgoing, Reception,
 };
 use votes::{VoteSet, agreed_or, empty_set, join, tallied_with, tallied_word};
 
@@ -86,13 +86,16 @@ fn word_after(k: Conclusion, n: u8, f: u8, word: Outcome, cnt: Cnt, helped: Help
 }
 
 // The help calls: one that waits calls for help.
-fn calls_after(k: Conclusion, n: u8, f: u8, i: u8) -> Send
+fn calls_after(k: Conclusion, n: u8, f: u8, i: u8) -> Option<Outgoing>
     ensures { result ≡ calls_after k n f i }
 {
     match k {
-        Conclusion::Decides => Send::Nothing,
-        Conclusion::Proposes => Send::Nothing,
-        Conclusion::Waits => Send::To(recipients(n, f, Kind::Help, i), empty_set()),
+        Conclusion::Decides => None,
+        Conclusion::Proposes => None,
+        Conclusion::Waits => Some(Outgoing {
+            to: recipients(n, f, Kind::Help, i),
+            votes: empty_set(),
+        }),
     }
 }
 
@@ -107,45 +110,32 @@ fn waits_after(k: Conclusion, word: Outcome) -> bool
     }
 }
 
-// The word put, or the one put before.
-fn put_or(word: Outcome, old: Outcome) -> Outcome
-    ensures { result ≡ put_or word old }
-{
-    match word {
-        Outcome::None => old,
-        Outcome::Stay => Outcome::Stay,
-        Outcome::Move => Outcome::Move,
-    }
-}
-
 // To stage 3 with the help vote set frozen, which goes to those whose calls were kept and is ready from now on for those who call.
 pub fn second_timeout(n: u8, f: u8, i: u8, c: Controller) -> Answer
     ensures { result ≡ second_timeout n f i c }
 {
-    let own = c.votes;
-    let now = c.condition;
     let gate = c.gate;
-    let cnt = c.acks.cnt;
-    let old = c.proposal;
     let callers = c.help.callers;
     let acks = ack_tally(n, c);
-    let votes = tallied_with(own, acks);
+    let votes = tallied_with(c.votes, acks);
     let word = word_of(tallied_word(acks));
     let k = concluded(n, f, i, c);
-    let next = in_phase(3, outcome_in(now));
+    let next = in_phase(3, outcome_in(c.condition));
     let helped = helped_after(k, i, votes, c.helped);
-    let put = word_after(k, n, f, word, cnt, helped);
-    let condition = condition_after(k, next, word);
+    let put = word_after(k, n, f, word, c.acks.cnt, helped);
     let position = position_after(k, next, word, gate);
     let help = HelpState {
         waiting: waits_after(k, put),
         votes,
         callers,
     };
-    let sends = helps(calls_after(k, n, f, i), Send::To(callers, votes));
-    let proposal = put_or(put, old);
+    let sends = helps(
+        calls_after(k, n, f, i),
+        Some(Outgoing { to: callers, votes }),
+    );
+    let proposal = or_else(put, c.proposal);
     let controller = Controller {
-        condition,
+        condition: condition_after(k, next, word),
         helped,
         help,
         proposal,

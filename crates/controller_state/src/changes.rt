@@ -52,17 +52,17 @@ pub fn fresh() -> Controller
 pub fn cleared(condition: Condition, c: Controller) -> Controller
     ensures { result ≡ cleared condition c }
 {
-    let sets = c.acks.sets;
-    blank(condition, sets, c.gate.position)
+    blank(condition, c.acks.sets, c.gate.position)
 }
 
 // To a later stage.
 pub fn advance(c: Controller, phase: u8) -> Controller
     ensures { result ≡ advance c phase }
 {
-    let now = c.condition;
-    let condition = in_phase(phase, outcome_in(now));
-    Controller { condition, ..c }
+    Controller {
+        condition: in_phase(phase, outcome_in(c.condition)),
+        ..c
+    }
 }
 
 // A vote set is joined to the controller's own.
@@ -122,16 +122,16 @@ pub(crate) fn propose(c: Controller, proposal: Outcome) -> Controller
 pub fn conclude(c: Controller, o: Outcome) -> Controller
     ensures { result ≡ conclude c o }
 {
-    let now = c.condition;
-    let condition = noting(now, o);
-    let position = landing(now, o, c.gate);
     Controller {
-        condition,
+        condition: noting(c.condition, o),
         help: HelpState {
             waiting: false,
             ..c.help
         },
-        gate: Gate { position, ..c.gate },
+        gate: Gate {
+            position: landing(c.condition, o, c.gate),
+            ..c.gate
+        },
         ..c
     }
 }

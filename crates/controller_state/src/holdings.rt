@@ -7,52 +7,24 @@ ghost use Rattle.model.specs.declared.Outcome.TheVariants.{None};
 ghost use Rattle.protocol.specs.Controllers.{phase_in, bump, keep_ack, drop_if, drop_to, drop_contradicting, keep_helped};
 
 use crate::conditions::phase_in;
-use ground::{LIMIT, has, insert, remove};
+use ground::{LIMIT, has, insert, nth, put, remove};
 use model::Outcome;
 use protocol::{Acks, Cnt, CntHelp, Condition, Controller, HelpAnswers};
 use votes::{VoteSet, agreed_or, contradicts, empty_set, join};
 
 // One more, as far as a byte counts.
+// stays (promise): the definition of this name, by which the counts go; `lower` and `set_of` likewise are named by callers and theorems above.
 pub fn bump(k: u8) -> u8
     ensures { result ≡ bump k }
 {
-    if k < 255 {
-        return k + 1;
-    }
-    k
+    k.saturating_add(1)
 }
 
 // One fewer, down to 0.
 pub fn lower(k: u8) -> u8
     ensures { result ≡ k - 1 }
 {
-    if k < 1 {
-        return 0;
-    }
-    k - 1
-}
-
-// Where the vote set of sender j stands in a list.
-fn place(j: u8) -> usize
-    ensures { result ≡ j - 1 }
-{
-    if j < 1 {
-        return 0;
-    }
-    (j - 1) as usize
-}
-
-// The list with the vote set of sender j. Only as many senders as the limit have a place.
-fn placed(sets: [VoteSet; LIMIT], j: u8, s: VoteSet) -> [VoteSet; LIMIT]
-    ensures { result ≡ put sets j s }
-{
-    let at = place(j);
-    let mut next = sets;
-    if LIMIT <= at {
-        return next;
-    }
-    next[at] = s;
-    next
+    k.saturating_sub(1)
 }
 
 // An acknowledgement is kept and counted.
@@ -61,7 +33,7 @@ pub fn keep_ack(c: Controller, j: u8, s: VoteSet) -> Controller
 {
     let held = c.acks.sets;
     let acks = Acks {
-        sets: placed(held, j, s),
+        sets: put(held, j as usize, s),
         from: insert(c.acks.from, j),
         cnt: Cnt(bump(c.acks.cnt.0)),
     };
@@ -102,14 +74,7 @@ pub fn cnt_if(takes: bool, k: u8) -> u8
 pub fn set_of(sets: [VoteSet; LIMIT], j: u8) -> VoteSet
     ensures { result ≡ nth empty sets j }
 {
-    if j < 1 {
-        return empty_set();
-    }
-    if LIMIT < j as usize {
-        return empty_set();
-    }
-    let at = (j - 1) as usize;
-    sets[at]
+    nth(sets, j as usize, empty_set())
 }
 
 // The acknowledgements without that of j, if it contradicts a vote set.
@@ -126,7 +91,7 @@ fn drop_if(s: VoteSet, j: u8, a: Acks) -> Acks
     Acks {
         sets,
         from: remove(a.from, j),
-        cnt: Cnt(lower(a.cnt.0)),
+        cnt: Cnt(a.cnt.0.saturating_sub(1)),
     }
 }
 
@@ -135,10 +100,8 @@ fn drop_to(m: u8, s: VoteSet, a: Acks) -> Acks
     ensures { result ≡ drop_to m s a }
 {
     let mut acks = a;
-    let mut j: u8 = 0;
-    while j < m {
-        j += 1;
-        acks = drop_if(s, j, acks);
+    for j in 0..m {
+        acks = drop_if(s, j + 1, acks);
     }
     acks
 }
@@ -173,10 +136,7 @@ pub fn keep_helped(c: Controller, j: u8, s: VoteSet) -> Controller
 pub fn keeps_acks(condition: Condition, waiting: bool) -> bool
     ensures { result ≡ (leb (phase_in condition) 2 || waiting) }
 {
-    if phase_in(condition) <= 2 {
-        return true;
-    }
-    waiting
+    phase_in(condition) <= 2 || waiting
 }
 
 // The two counts, which are added here alone, come to n - f or more.

@@ -13,7 +13,7 @@ pub use answers::{
 };
 pub use changes::{advance, aim, await_help, blank, cleared, conclude, freeze, fresh, learn};
 pub use conditions::{
-    in_phase, is_present, is_running, is_standby, is_stopped, landing, noting, outcome_in,
+    in_phase, is_present, is_running, is_standby, is_stopped, landing, noting, or_else, outcome_in,
     phase_after_vote, phase_in, renewed_condition,
 };
 pub use holdings::{

@@ -1,6 +1,6 @@
 -- Laws of a sheet in pieces: the lockages of two pieces are those of the first and then those of the second.
 use Prim.Native.Nat.{ℕ, zero, suc, ◌+◌, ◌*◌, ◌%◌, ◌≤◌, ◌<◌}
-use Rattle.std.specs.Prelude.{◌≡◌, Bool, true, false, cond, ◌&&◌, List, [], ◌∷◌, ◌++◌, leb, length}
+use Rattle.std.specs.Prelude.{◌≡◌, Some, Err, Bool, true, false, cond, ◌&&◌, List, [], ◌∷◌, ◌++◌, leb, length}
 use Rattle.std.proofs.Math.Path.{refl}
 use Rattle.std.proofs.Common.{sym, ◌∙◌, ap, append_assoc, append-nil, add-suc, add-zero, arith, length-append, get_or-append-add}
 use Rattle.std.proofs.lemmas.Bool.{lt-leb}
@@ -9,7 +9,6 @@ use Rattle.model.specs.Questions.{accepted, first_no, unless}
 use Rattle.records.specs.Bytes.{byte}
 use Rattle.tariff.specs.declared.Shares.{Shares}
 use Rattle.dues.specs.declared.Lockage.{Lockage}
-use Rattle.dues.specs.declared.Answer.TheVariants.{Refused}
 use Rattle.dues.specs.Sheet.{lockage_at, lockages_to, count, lockages, every, listed, in_range, whole, questions, totals, answered, dues_for}
 use Rattle.dues.specs.Pieces.{piece_length, nothing_kept, kept_of, long_dues, last_answer, joined, EachWhole, InPieces}
 
@@ -66,7 +65,7 @@ module _ (a b : List ℕ) where
         rw e
 
 -- the three questions of a sheet with more than 1,000 lockages
-three : (w l rest : Bool) (t : Shares) → cond w (cond l (Refused 22) (Refused 3)) (Refused 1) ≡ answered (unless 1 w (unless 3 l (unless 22 (false && rest) accepted))) t
+three : (w l rest : Bool) (t : Shares) → cond w (cond l (Err 22) (Err 3)) (Err 1) ≡ answered (unless 1 w (unless 3 l (unless 22 (false && rest) accepted))) t
 unfolding unless
 three true true rest t = refl
 three true false rest t = refl
@@ -100,7 +99,7 @@ module _ (before s : List ℕ) (all : Bool) (k : Known before all) where
 
 -- after some pieces, more of them, and the last
 after-some : (pieces : List (List ℕ)) (before last : List ℕ) (all : Bool) → Known before all → EachWhole pieces
-    → last_answer (kept_of (record { some = true; listed = all }) pieces) last ≡ dues_for (before ++ (joined pieces ++ last))
+    → last_answer (kept_of (Some all) pieces) last ≡ dues_for (before ++ (joined pieces ++ last))
 unfolding kept_of joined last_answer
 after-some [] before last all k w = known-last before last all k
 after-some (s ∷ pieces) before last all k w =

@@ -1,5 +1,5 @@
 -- Document 02, U2: a sheet of lockages, the questions put to it, and its answer.
-use Rattle.std.specs.Prelude.{ℕ, zero, suc, ◌+◌, ◌*◌, ◌/◌, ◌%◌, ◌≡◌, Bool, true, ◌&&◌, List, [], ◌∷◌, ◌++◌, eqb, leb, length}
+use Rattle.std.specs.Prelude.{ℕ, Result, Ok, Err, zero, suc, ◌+◌, ◌*◌, ◌/◌, ◌%◌, ◌≡◌, Bool, true, ◌&&◌, List, [], ◌∷◌, ◌++◌, eqb, leb, length}
 use Rattle.model.specs.Questions.{Reply, accepted, refused, Question, ask, first_no}
 use Rattle.records.specs.Bytes.{byte, number2}
 use Rattle.records.specs.Codes.{is_outcome, outcome_of, is_flag, flag_of}
@@ -7,8 +7,6 @@ use Rattle.tariff.specs.declared.Shares.{Shares}
 use Rattle.tariff.specs.Shares.{upper_share, lower_share}
 use Rattle.tariff.specs.Charges.{charge}
 use Rattle.dues.specs.declared.Lockage.{Lockage}
-use Rattle.dues.specs.declared.Answer.{Answer}
-use Rattle.dues.specs.declared.Answer.TheVariants.{Totals, Refused}
 
 -- "4 bytes each with nothing between (length (2), outcome as on a card, 1 for such a return or 0)"
 unfoldable pub lockage_at : List ℕ → ℕ → Lockage
@@ -59,24 +57,24 @@ questions s = ask 1 (whole s) ∷ ask 3 (every listed (lockages s)) ∷ ask 22 (
 unfoldable pub totals : List Lockage → Shares
 totals ls = record { upper = total (λ l. upper_share (charge_of l)) ls; lower = total (λ l. lower_share (charge_of l)) ls }
 
-abbrev pub answered : Reply → Shares → Answer
-answered accepted t = Totals t
-answered (refused q) t = Refused q
+abbrev pub answered : Reply → Shares → Result Shares ℕ
+answered accepted t = Ok t
+answered (refused q) t = Err q
 
-unfoldable pub dues_for : List ℕ → Answer
+unfoldable pub dues_for : List ℕ → Result Shares ℕ
 dues_for s = answered (first_no (questions s)) (totals (lockages s))
 
 -- the paper's number for an answer, 0 for totals; and its values, nothing to either owner where the sheet is refused
-abbrev pub number_of : Answer → ℕ
-number_of (Totals t) = 0
-number_of (Refused q) = q
+abbrev pub number_of : Result Shares ℕ → ℕ
+number_of (Ok t) = 0
+number_of (Err q) = q
 
-abbrev pub values_of : Answer → Shares
-values_of (Totals t) = t
-values_of (Refused q) = record { upper = 0; lower = 0 }
+abbrev pub values_of : Result Shares ℕ → Shares
+values_of (Ok t) = t
+values_of (Err q) = record { upper = 0; lower = 0 }
 
 -- what is promised of the answer to a sheet
-pub record DuesOf (s : List ℕ) (r : Answer) : Type 0 where
+pub record DuesOf (s : List ℕ) (r : Result Shares ℕ) : Type 0 where
   pub answer : r ≡ dues_for s
   -- "the two totals make up the sum of the charges"
   pub sum : number_of r ≡ 0 → (values_of r).upper + (values_of r).lower ≡ total charge_of (lockages s)

@@ -1,12 +1,11 @@
 -- The two totals make up the sum of the charges: for any list of lockages, and hence of the answer to any sheet.
-use Rattle.std.specs.Prelude.{ℕ, ◌+◌, ◌≡◌, refl, List, [], ◌∷◌}
+use Rattle.std.specs.Prelude.{ℕ, Result, ◌+◌, ◌≡◌, refl, List, [], ◌∷◌}
 use Rattle.std.proofs.Common.{arith}
 use Rattle.model.specs.Questions.{Reply, accepted, refused, number, first_no}
 use Rattle.model.specs.QuestionLaws.{reply-accepted}
 use Rattle.tariff.specs.declared.Shares.{Shares}
 use Rattle.tariff.specs.ShareLaws.{make-up}
 use Rattle.dues.specs.declared.Lockage.{Lockage}
-use Rattle.dues.specs.declared.Answer.{Answer}
 use Rattle.dues.specs.Sheet.{charge_of, lockages, total, totals, questions, dues_for, answered, number_of, values_of, DuesOf}
 
 -- "the two totals make up the sum of the charges"
@@ -26,5 +25,5 @@ answer-sum s z =
     rw e (totals_make-up (lockages s))
 
 -- whatever equals the definition's answer is what is promised
-pub dues-of : (s : List ℕ) (r : Answer) → r ≡ dues_for s → DuesOf s r
+pub dues-of : (s : List ℕ) (r : Result Shares ℕ) → r ≡ dues_for s → DuesOf s r
 dues-of s r e = record { answer = e; sum = rw e (answer-sum s) }

@@ -8,7 +8,6 @@ mod sheet;
 pub use output::{LONGEST_OUTPUT, render};
 pub use pieces::{PIECE, in_pieces, kept_with, nothing_kept};
 pub use sheet::dues;
-use tariff::Shares;
 
 // A lockage as it stands on a sheet: the boat's length in cm, and the bytes for the outcome and for a return.
 #[derive(Clone, Copy)]
@@ -18,16 +17,5 @@ pub(crate) struct Lockage {
     pub returned: u8,
 }
 
-// Both owners' totals, or the number with which the sheet is refused.
-#[derive(Clone, Copy)]
-pub enum Answer {
-    Totals(Shares),
-    Refused(u8),
-}
-
-// What is kept of the pieces of a sheet, before the last: were there any, and are all their lockages listed?
-#[derive(Clone, Copy)]
-pub struct Kept {
-    pub some: bool,
-    pub listed: bool,
-}
+// What is kept of the pieces of a sheet, before the last: are all their lockages listed? None before the first piece.
+pub type Kept = Option<bool>;

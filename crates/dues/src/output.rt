@@ -1,12 +1,14 @@
 // What the dues program prints, in a lent buffer.
 ghost use Rattle.std.specs.Prelude.{◌≡◌};
+ghost use Rattle.model.specs.Refusals.{numbered};
 ghost use Rattle.text.specs.Writing.{fitted, fitted_length, Rendered};
 ghost use Rattle.dues.specs.Printed.{totals_line, answer_line, output_of};
 
+use crate::Kept;
 use crate::pieces::last_answer;
-use crate::{Answer, Kept};
+use model::Refusal;
 use tariff::Shares;
-use text::{LINE, put_byte, put_field, put_number, write_line, write_refusal};
+use text::{LINE, Writer, write_line, write_refusal};
 
 // No output is longer: `always-fits`, in specs/PrintedLaws.
 pub const LONGEST_OUTPUT: usize = LINE;
@@ -17,19 +19,22 @@ fn write_totals(out: &mut [u8], t: Shares) -> usize
     ensures out_after { out.new ≡ fitted (totals_line t) out.old }
 {
     let mut line = [0u8; LINE];
-    let next = put_number(&mut line, 0, t.upper);
-    let next = put_field(&mut line, next, t.lower);
-    let end = put_byte(&mut line, next, b'\n');
+    let mut w = Writer::new(&mut line);
+    w.number(t.upper);
+    w.field(t.lower);
+    w.byte(b'\n');
+    let end = w.at;
     write_line(&mut *out, line, end)
 }
 
-fn write_answer(out: &mut [u8], answer: Answer) -> usize
-    ensures value { result ≡ fitted_length (answer_line answer) out.old }
-    ensures out_after { out.new ≡ fitted (answer_line answer) out.old }
+#[tactic(auto, unfolding(crate::specs::Printed::answer_line))]
+fn write_answer(out: &mut [u8], answer: Result<Shares, Refusal>) -> usize
+    ensures value { result ≡ fitted_length (answer_line (numbered answer)) out.old }
+    ensures out_after { out.new ≡ fitted (answer_line (numbered answer)) out.old }
 {
     match answer {
-        Answer::Totals(t) => write_totals(&mut *out, t),
-        Answer::Refused(q) => write_refusal(&mut *out, q as u32),
+        Ok(t) => write_totals(&mut *out, t),
+        Err(q) => write_refusal(&mut *out, u32::from(u8::from(q))),
     }
 }
 

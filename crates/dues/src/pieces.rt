@@ -1,11 +1,14 @@
 // A sheet that comes in pieces. One that fills a piece has more than 1,000 lockages, so its answer is a refusal: 1 by the length of the last piece, 3 by any
 // lockage that is not listed, else 22. So of the pieces before the last it is kept whether all their lockages are listed.
 ghost use Rattle.std.specs.Prelude.{◌≡◌, ◌&&◌};
+ghost use Rattle.model.specs.Refusals.{numbered};
 ghost use Rattle.dues.specs.Sheet.{every, listed, lockages};
 ghost use Rattle.dues.specs.Pieces.{nothing_kept, kept_with, long_dues, last_answer, InPieces};
 
+use crate::Kept;
 use crate::sheet::{all_listed, dues};
-use crate::{Answer, Kept};
+use model::Refusal;
+use tariff::Shares;
 
 // The bytes of a piece, a whole number of lockages and more than 1,000; the last piece has fewer.
 pub const PIECE: usize = 65536;
@@ -14,51 +17,49 @@ pub const PIECE: usize = 65536;
 pub fn nothing_kept() -> Kept
     ensures { result ≡ nothing_kept }
 {
-    Kept {
-        some: false,
-        listed: true,
-    }
+    None
 }
 
 // After one piece more.
 pub fn kept_with(kept: Kept, s: &[u8]) -> Kept
     ensures { result ≡ kept_with kept s.now }
 {
-    let listed = listed_too(kept.listed, s);
-    Kept { some: true, listed }
+    match kept {
+        None => Some(all_listed(s)),
+        Some(all) => Some(listed_too(all, s)),
+    }
 }
 
 // Are all before a piece listed, and all on it?
 fn listed_too(all: bool, s: &[u8]) -> bool
     ensures { result ≡ (all && every listed (lockages s.now)) }
 {
-    if all {
-        return all_listed(s);
-    }
-    false
+    all && all_listed(s)
 }
 
 // The answer to a sheet of more than 1,000 lockages.
-fn long_dues(all: bool, s: &[u8]) -> Answer
-    ensures { result ≡ long_dues all s.now }
+#[tactic(auto, unfolding(crate::specs::Pieces::long_dues))]
+fn long_dues(all: bool, s: &[u8]) -> Result<Shares, Refusal>
+    ensures { numbered result ≡ long_dues all s.now }
 {
     if s.len() % 4 != 0 {
-        return Answer::Refused(1);
+        return Err(Refusal::Length);
     }
     if listed_too(all, s) {
-        return Answer::Refused(22);
+        return Err(Refusal::Lockages);
     }
-    Answer::Refused(3)
+    Err(Refusal::Listed)
 }
 
 // The answer to a sheet in pieces, from what is kept and the last one.
-pub(crate) fn last_answer(kept: Kept, s: &[u8]) -> Answer
-    ensures { result ≡ last_answer kept s.now }
+#[tactic(auto, unfolding(crate::specs::Pieces::last_answer))]
+pub(crate) fn last_answer(kept: Kept, s: &[u8]) -> Result<Shares, Refusal>
+    ensures { numbered result ≡ last_answer kept s.now }
 {
-    if kept.some {
-        return long_dues(kept.listed, s);
+    match kept {
+        None => dues(s),
+        Some(all) => long_dues(all, s),
     }
-    dues(s)
 }
 
 // What is kept and the last piece give the answer to the whole sheet, however many pieces it comes in.

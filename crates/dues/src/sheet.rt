@@ -1,9 +1,11 @@
 // A sheet of lockages: the questions put to it, and both owners' totals.
 ghost use Rattle.std.specs.Prelude.{◌≡◌, ◌&&◌, ◌+◌, ◌*◌, ◌≤◌, length};
+ghost use Rattle.model.specs.Refusals.{numbered};
 ghost use Rattle.tariff.specs.Charges.{shared};
 ghost use Rattle.dues.specs.Sheet.{charge_of, lockage_at, lockages, count, every, listed, in_range, totals, DuesOf};
 
-use crate::{Answer, Lockage};
+use crate::Lockage;
+use model::Refusal;
 use records::{flag_of, is_flag, is_outcome, number2, outcome_of};
 use tariff::{Shares, shares_of};
 
@@ -50,15 +52,12 @@ fn check_all(s: &[u8]) -> Checks
     ensures listed_value { result.listed ≡ every listed (lockages s.now) }
     ensures in_range_value { result.in_range ≡ every in_range (lockages s.now) }
 {
-    let count = s.len() / LENGTH;
     let mut listed_all = true;
     let mut in_range_all = true;
-    let mut k: usize = 0;
-    while k < count {
+    for k in 0..s.len() / LENGTH {
         let l = lockage_at(s, k * LENGTH);
-        listed_all = both(listed_all, listed(l));
-        in_range_all = both(in_range_all, in_range(l));
-        k += 1;
+        listed_all &= listed(l);
+        in_range_all &= in_range(l);
     }
     Checks {
         listed: listed_all,
@@ -70,15 +69,7 @@ fn check_all(s: &[u8]) -> Checks
 pub(crate) fn all_listed(s: &[u8]) -> bool
     ensures { result ≡ every listed (lockages s.now) }
 {
-    let checks = check_all(s);
-    checks.listed
-}
-
-// A call and no `&&`, so that a loop has one way through.
-fn both(a: bool, b: bool) -> bool
-    ensures { result ≡ (a && b) }
-{
-    if a { b } else { false }
+    check_all(s).listed
 }
 
 // What each owner gets of a lockage.
@@ -93,35 +84,32 @@ fn totals(s: &[u8]) -> Shares
     requires { count s.now ≤ 1000 }
     ensures { result ≡ totals (lockages s.now) }
 {
-    let count = s.len() / LENGTH;
     let mut upper: u32 = 0;
     let mut lower: u32 = 0;
-    let mut done: usize = 0;
-    while done < count {
+    for done in 0..s.len() / LENGTH {
         let shares = lockage_shares(lockage_at(s, done * LENGTH));
         upper += shares.upper;
         lower += shares.lower;
-        done += 1;
     }
     Shares { upper, lower }
 }
 
 // What each owner gets of the lockages on a sheet, or the number with which the whole sheet is refused.
-pub fn dues(s: &[u8]) -> Answer
-    ensures { DuesOf s.now result }
+pub fn dues(s: &[u8]) -> Result<Shares, Refusal>
+    ensures { DuesOf s.now (numbered result) }
 {
     if s.len() % LENGTH != 0 {
-        return Answer::Refused(1);
+        return Err(Refusal::Length);
     }
     let checks = check_all(s);
     if !checks.listed {
-        return Answer::Refused(3);
+        return Err(Refusal::Listed);
     }
     if MOST < s.len() / LENGTH {
-        return Answer::Refused(22);
+        return Err(Refusal::Lockages);
     }
     if !checks.in_range {
-        return Answer::Refused(22);
+        return Err(Refusal::Lockages);
     }
-    Answer::Totals(totals(s))
+    Ok(totals(s))
 }

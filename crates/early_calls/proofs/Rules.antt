@@ -16,14 +16,14 @@ use Rattle.protocol.specs.declared.Condition.TheVariants.{Stopped, Standby}
 use Rattle.protocol.specs.declared.Controller.{Controller}
 use Rattle.protocol.specs.declared.Answer.{Answer}
 use Rattle.protocol.specs.declared.Identity.{Identity}
-use Rattle.protocol.specs.declared.Saved.{Saved}
-use Rattle.protocol.specs.declared.Saved.TheVariants.{Nothing, Newest}
 use Rattle.protocol.specs.Controllers.{is_stopped, phase_in, phase, has_ack, has_helped, has_called, in_phase, cleared, advance, learn, aim, keep_ack, keep_helped, add_caller, propose, conclude}
 use Rattle.protocol.specs.Rules.{nothing, passing_over, becomes, proposing, verdict, vote_rule, vote_arrives, count_own, first_timeout, ack_join, sufficient, answers_join, propose_if_sufficient, ack_arrives, helped_arrives, keeps_call, answers_call, help_arrives}
 use Rattle.protocol.specs.Calls.{restore, renew}
 use Rattle.protocol.specs.Events.{restore_from}
 use Rattle.protocol.proofs.invariant.Words.{noting-phase}
 use Rattle.early_calls.specs.Document01.{with_callers, without_kept}
+use Rattle.std.specs.Prelude.{Option, Some, None}
+use Rattle.model.specs.declared.Checkpoint.{Checkpoint}
 
 -- two conditionals on one test
 pub by_cond₂ : {A B : Type 0} (P : A → B → Type 0) (t : Bool) (x y : A) (x' y' : B) → (t ≡ true → P x x') → (t ≡ false → P y y') → P (cond t x y) (cond t x' y')
@@ -190,8 +190,8 @@ passed_matches : (c : Controller) → Matches (passing_over c) (passing_over (wi
 unfolding passing_over
 passed_matches c = record { next = refl; sends = refl; word = refl }
 
-pub restore_matches : (me : Identity) (s : Saved) (c : Controller) → Matches (restore_from me s c) (restore_from me s (without_kept c))
+pub restore_matches : (me : Identity) (s : Option Checkpoint) (c : Controller) → Matches (restore_from me s c) (restore_from me s (without_kept c))
 unfolding restore_from restore
-restore_matches me Nothing c = passed_matches c
-restore_matches me (Newest x) c = by_equal Matches (is_stopped c.condition) _ (ap is_stopped (alike c).condition) _ _ _ _
+restore_matches me None c = passed_matches c
+restore_matches me (Some x) c = by_equal Matches (is_stopped c.condition) _ (ap is_stopped (alike c).condition) _ _ _ _
     (λ p. becomes_matches _ _ (cleared-kept (Standby (cond (eqb x.order me.order) x.outcome None)) c refl)) (λ p. passed_matches c)

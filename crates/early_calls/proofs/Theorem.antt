@@ -1,4 +1,5 @@
 -- From one event to every list: the bench of a list, and document 01's bench of the list with each kept call once more, go along together.
+use Rattle.std.specs.Prelude.{is_some}
 use Prim.Native.Nat.{ℕ, ◌≤◌}
 use mathlib.Core.Path.{◌≡◌, refl, sym, ◌∙◌, ap, subst}
 use mathlib.Core.Bool.{Bool, true, false, false≢true}
@@ -20,7 +21,7 @@ use Rattle.protocol.specs.declared.Bench.{Bench}
 use Rattle.protocol.specs.Controllers.{phase_in, phase}
 use Rattle.protocol.specs.Benches.{bench_of, new_bench, controller}
 use Rattle.protocol.specs.Events.{subject, source, receivers_in}
-use Rattle.protocol.specs.Questions.{accepted, is_accepted, first_no, may_open, may_give, is_saved, questions_of, reply}
+use Rattle.protocol.specs.Questions.{accepted, is_accepted, first_no, may_open, may_give, questions_of, reply}
 use Rattle.protocol.specs.Steps.{step, run}
 use Rattle.protocol.specs.Display.{WasSent}
 use Rattle.protocol.specs.NoContradiction.{untested_reply}
@@ -225,7 +226,7 @@ untested-same : (b b₁ : Bench) (e : Event) → SameButKept b b₁ → untested
 untested-same b b₁ e s = λ p. first_no (questions_of (record {
   shared = s.shared p;
   condition = condition (subject e) p;
-  has-checkpoint = is_saved (s.saved (subject e) p);
+  has-checkpoint = is_some (s.saved (subject e) p);
   receivers = receivers_in e (s.sent (source e) p);
   may_open = may_open (s.shared p);
   agrees = true;

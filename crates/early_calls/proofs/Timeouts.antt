@@ -5,20 +5,20 @@ use mathlib.Core.Bool.{true}
 use lib.Dec.{ltb}
 use Rattle.votes.specs.declared.VoteSet.{VoteSet}
 use Rattle.protocol.specs.declared.Controller.{Controller}
-use Rattle.protocol.specs.declared.Send.TheVariants.{To}
 use Rattle.protocol.specs.declared.Answer.{Answer}
 use Rattle.protocol.specs.Controllers.{is_running, phase, advance, keep_helped, freeze, await, propose, conclude}
 use Rattle.protocol.specs.Rules.{proposing, verdict, ack_join, backups_complete, second_knows, decides, sufficient, answers_join, propose_if_sufficient, help_votes, frozen, ready, calls_help, second_timeout}
 use Rattle.protocol.proofs.view.RuleCases.{sufficient_cases, second_cases}
 use Rattle.early_calls.specs.Document01.{with_callers}
 use Rattle.early_calls.proofs.Rules.{by_cond₂}
+use Rattle.protocol.specs.Rules.{send_to}
 
 -- an answer of the second timeout, with the help vote set s sent to the callers m
 abbrev pub answered_to : ℕ → VoteSet → Answer → Answer
 answered_to m s a = record {
   reception = a.reception;
   controller = with_callers a.controller m;
-  sends = record { vote = a.sends.vote; ack = a.sends.ack; help = a.sends.help; helped = To m s };
+  sends = record { vote = a.sends.vote; ack = a.sends.ack; help = a.sends.help; helped = send_to m s };
   proposal = a.proposal;
 }
 

@@ -31,9 +31,7 @@ use Rattle.protocol.specs.declared.Condition.TheVariants.{Stopped}
 use Rattle.protocol.specs.declared.Counts.{Counts}
 use Rattle.protocol.specs.declared.Controller.{Controller}
 use Rattle.protocol.specs.declared.Answer.{Answer}
-use Rattle.protocol.specs.declared.Send.TheVariants.{Nothing, To}
 use Rattle.protocol.specs.declared.Sent.{Sent}
-use Rattle.protocol.specs.declared.Saved.TheVariants.{Newest}
 use Rattle.protocol.specs.Controllers.{is_running, phase_in, outcome_in, phase, add_caller}
 use Rattle.protocol.specs.Counts.{counts_after}
 use Rattle.protocol.specs.CountLaws.{counts-stay}
@@ -43,7 +41,7 @@ use Rattle.protocol.specs.declared.Sends.{Sends}
 use Rattle.protocol.specs.declared.Bench.{Bench}
 use Rattle.protocol.specs.Benches.{after_send, sent_after}
 use Rattle.protocol.specs.Events.{subject, source, receivers_in}
-use Rattle.protocol.specs.Questions.{is_accepted, first_no, may_open, is_saved, questions_of}
+use Rattle.protocol.specs.Questions.{is_accepted, first_no, may_open, questions_of}
 use Rattle.protocol.specs.Steps.{renewed, order_opened}
 use Rattle.protocol.specs.Sequence.{members}
 use Rattle.protocol.specs.BallotSteps.{ballot_subject, ballots_after}
@@ -53,6 +51,8 @@ use Rattle.protocol.proofs.invariant.Arrivals.{insert-more}
 use Rattle.early_calls.specs.Document01.{is_early, once_more, with_callers, without_kept}
 use Rattle.early_calls.proofs.Timeouts.{answered_to, timeout-kept, Frozen, timeout-frozen}
 use Rattle.early_calls.proofs.Rules.{by_equal, early, late, alike, Matches, vote_matches, ack_matches, helped_matches, call_matches, KeptAlone, early-call, cast_matches, first_matches, conclude-kept, cleared-kept, renew-kept, becomes_matches, restore_matches}
+use Rattle.std.specs.Prelude.{Some, None, is_some}
+use Rattle.protocol.specs.Rules.{send_to}
 
 -- without the calls kept
 unfoldable pub forget_v : View → View
@@ -114,7 +114,7 @@ module _ (n f : ℕ) where
   accepts_forget v e = λ p. is_accepted (first_no (questions_of (record {
     shared = shared_v n f v;
     condition = (alike (v.ctl (subject e))).condition p;
-    has-checkpoint = is_saved (v.saved (subject e));
+    has-checkpoint = is_some (v.saved (subject e));
     receivers = receivers_in e (v.state.sent (source e));
     may_open = may_open (shared_v n f v);
     agrees = true;
@@ -172,7 +172,7 @@ module _ (n f : ℕ) where
   saved_forget : (v : View) (i : ℕ) → forget_v (saved_v v i (checkpoint_at n f v i)) ≡ saved_v (forget_v v) i (checkpoint_at n f (forget_v v) i)
   unfolding forget_v saved_v
   saved_forget v i = same_view _ _ refl refl refl refl refl
-      (λ p. upd v.saved i (Newest (record { id = i; n = n; f = f; outcome = outcome_in (sym (alike (v.ctl i)).condition p); order = v.order; position = sym (alike (v.ctl i)).position p }))) refl refl
+      (λ p. upd v.saved i (Some (record { id = i; n = n; f = f; outcome = outcome_in (sym (alike (v.ctl i)).condition p); order = v.order; position = sym (alike (v.ctl i)).position p }))) refl refl
 
   perform_forget : (v : View) (e : Event) → accepts n f v e ≡ true → Apart v e → forget_v (perform_v n f v e) ≡ perform_v n f (forget_v v) e
   unfolding perform_v accepts first_no forget_v arrives
@@ -314,10 +314,10 @@ module _ (n f : ℕ) where
         (again (λ k. without_kept (v.ctl k)) (d m) (add_caller (d m) j) (d (insert m j)) refl) refl
         (counts_same ((after_timeout m).ctl i).condition (d m).condition (after_timeout m).counts (sym (ap (λ (x : Controller). x.condition) (upd_same (λ k. without_kept (v.ctl k)) i (d m))))) refl
       where
-        outgoing : sent_after ((after_timeout m).state.sent i) (helps Nothing (To (insert 0 j) timed_out.controller.help.votes)) ≡ sent_after (v.state.sent i) (answered_to (insert m j) s timed_out).sends
-        outgoing = unfold commit_v forget_v in ap (λ (l : Sent). sent_after l (helps Nothing (To (insert 0 j) timed_out.controller.help.votes))) (upd_same v.state.sent i _) ∙ joined
+        outgoing : sent_after ((after_timeout m).state.sent i) (helps None (send_to (insert 0 j) timed_out.controller.help.votes)) ≡ sent_after (v.state.sent i) (answered_to (insert m j) s timed_out).sends
+        outgoing = unfold commit_v forget_v in ap (λ (l : Sent). sent_after l (helps None (send_to (insert 0 j) timed_out.controller.help.votes))) (upd_same v.state.sent i _) ∙ joined
           where
-            joined : sent_after (sent_after (v.state.sent i) (answered_to m s timed_out).sends) (helps Nothing (To (insert 0 j) timed_out.controller.help.votes)) ≡ sent_after (v.state.sent i) (answered_to (insert m j) s timed_out).sends
+            joined : sent_after (sent_after (v.state.sent i) (answered_to m s timed_out).sends) (helps None (send_to (insert 0 j) timed_out.controller.help.votes)) ≡ sent_after (v.state.sent i) (answered_to (insert m j) s timed_out).sends
             joined = unfold sent_after in λ p. record {
               vote = after_send (v.state.sent i).vote timed_out.sends.vote;
               ack = after_send (v.state.sent i).ack timed_out.sends.ack;

@@ -140,8 +140,6 @@ lawful = record {
   fit = λ e h all. (tt, (tt, (tt, (tt, (h.0, tt)))));
   told-apart = λ k e. refl;
   own = λ k v l all. refl;
-  answer-read = λ e. refl;
-  answer-refusal = λ q. refl;
 }
 
 pub promises : Promises events

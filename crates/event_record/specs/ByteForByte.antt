@@ -7,7 +7,7 @@ use Rattle.model.specs.declared.Act.{Act}
 use Rattle.model.specs.declared.Act.TheVariants.{Play, Back}
 use Rattle.model.specs.declared.Event.TheVariants.{Lock, Deliver, OfBallots}
 use Rattle.records.specs.Codec.{reads, writes}
-use Rattle.event_record.specs.declared.ReadEvent.TheVariants.{Read, Refused}
+use Rattle.std.specs.Prelude.{Ok, Err}
 use Rattle.event_record.specs.Events.{events}
 
 -- "4C 45; kind; a; b; c; value (4)"
@@ -16,10 +16,10 @@ bytes kind a b c high low = 0x4C ∷ 0x45 ∷ kind ∷ a ∷ b ∷ c ∷ 0 ∷ 0
 
 -- the act is written as those bytes, and read back from them; bytes that are refused
 abbrev StandsAs : Act → List ℕ → Type 0
-StandsAs act s = (writes events (replicate 10 0) act ≡ s) × (reads events s ≡ Read act)
+StandsAs act s = (writes events (replicate 10 0) act ≡ s) × (reads events s ≡ Ok act)
 
 abbrev Gets : List ℕ → ℕ → Type 0
-Gets s q = reads events s ≡ Refused q
+Gets s q = reads events s ≡ Err q
 
 pub record ByteForByte : Type 0 where
   -- "Its lock event has c = 1; with c = 0 the arbiter stays as it is"; c is a flag

@@ -1,5 +1,6 @@
 -- Event records. One stands for an act: an event, or a step back.
-use Rattle.std.specs.Prelude.{ℕ, Bool, cond, ◌&&◌, List, [], ◌∷◌, ◌++◌, get_or}
+use Rattle.std.specs.Prelude.{ℕ, Bool, cond, ◌&&◌, List, [], ◌∷◌, ◌++◌, get_or, Option, Result}
+use Rattle.std.specs.Bool.{then_some}
 use Rattle.model.specs.Numbers.{kind_number, ballot_kind_number}
 use Rattle.model.specs.declared.Act.{Act}
 use Rattle.model.specs.declared.Act.TheVariants.{Play, Back}
@@ -9,16 +10,9 @@ use Rattle.model.specs.declared.BallotEvent.{BallotEvent}
 use Rattle.model.specs.declared.BallotEvent.TheVariants.{Open, Carry}
 use Rattle.records.specs.Bytes.{one, four, bytes_of_widths}
 use Rattle.records.specs.Codes.{is_kind, kind_of, is_ballot_kind, ballot_kind_of, is_flag, flag_of, flag_number, unused}
-use Rattle.records.specs.Codec.{marked, mark_bytes, Reading, is_record, is_refusal, Form, form_length, Codec, one_form, bytes_of, reads}
+use Rattle.records.specs.Codec.{marked, mark_bytes, Form, form_length, Codec, one_form, bytes_of, reads}
 use Rattle.records.specs.Rows.{KindRow, row, row_of}
 use Rattle.event_record.specs.declared.Fields.{Fields}
-use Rattle.event_record.specs.declared.ReadEvent.{ReadEvent}
-use Rattle.event_record.specs.declared.ReadEvent.TheVariants.{Read, Refused}
-
--- what the reader's answer says
-abbrev pub answer_of : ReadEvent → Reading Act
-answer_of (Read act) = is_record act
-answer_of (Refused q) = is_refusal q
 
 -- "kind; a; b; c; value", as the code has them and as numbers
 abbrev pub fields : ℕ → ℕ → ℕ → ℕ → ℕ → Fields
@@ -86,6 +80,10 @@ rows x =
 unfoldable pub row_for : Fields → KindRow Act
 row_for x = row_of Back x.kind (rows x)
 
+-- the act, if it is listed
+unfoldable pub listed_act : Fields → Option Act
+listed_act x = then_some (row_for x).listed (row_for x).value
+
 -- "Event, 10 bytes: 4C 45; kind; a; b; c; value (4)." "Reading an event record puts 1 to 3", and writing 1.
 abbrev pub event_form : Form Act
 event_form = record {
@@ -97,8 +95,12 @@ event_form = record {
   asked = λ act. [];
 }
 
-abbrev pub events : Codec (Unit {0}) Act ReadEvent
-events = one_form event_form Read Refused answer_of
+abbrev pub events : Codec (Unit {0}) Act
+events = one_form event_form
+
+-- what its reader returns
+abbrev pub ReadEvent : Type 0
+ReadEvent = Result Act ℕ
 
 -- short names for those who read schedules
 abbrev pub event_length : ℕ

@@ -1,14 +1,14 @@
 // Event records: their reader and writer.
 ghost use Rattle.std.specs.Prelude.{◌≡◌, [], ◌∷◌, length};
-ghost use Rattle.model.specs.Questions.{number};
+ghost use Rattle.model.specs.Refusals.{numbered, reply_of};
 ghost use Rattle.records.specs.Codec.{fields_by, write_reply, writes};
 ghost use Rattle.records.specs.Promises.{Promises, AskedInSequence};
-ghost use Rattle.event_record.specs.Events.{answer_of, fields_in, ballot_fields, event_fields, fields_of, event_form, events, event_length, read_event, record_bytes, event_bytes};
+ghost use Rattle.event_record.specs.Events.{fields_in, ballot_fields, event_fields, fields_of, event_form, events, event_length, read_event, record_bytes, event_bytes};
 
-use crate::kinds::row_for;
-use crate::{Fields, ReadEvent};
-use model::{Act, BallotEvent, Event, ballot_kind_number, kind_number};
-use records::{flag_number, frame_question, low_byte, number4, write_record};
+use crate::Fields;
+use crate::kinds::listed_act;
+use model::{Act, BallotEvent, Event, Refusal};
+use records::{frame_question, number4, write_record};
 
 // The fields as they stand on the record.
 fn fields_in(s: &[u8]) -> Fields
@@ -25,34 +25,18 @@ fn fields_in(s: &[u8]) -> Fields
 }
 
 // The questions of reading, in their sequence: 1, 2 and 3.
-pub fn read_event(s: &[u8]) -> ReadEvent
-    ensures { result ≡ read_event s.now }
+pub fn read_event(s: &[u8]) -> Result<Act, Refusal>
+    ensures { numbered result ≡ read_event s.now }
 {
-    let no = frame_question(s, Event::LENGTH, Event::MARK);
-    if no != 0 {
-        return ReadEvent::Refused(no);
-    }
-    let row = row_for(fields_in(s));
-    if !row.listed {
-        return ReadEvent::Refused(3);
-    }
-    let act = row.act;
-    ReadEvent::Read(act)
+    frame_question(s, Event::LENGTH, Event::MARK)?;
+    listed_act(fields_in(s)).ok_or(Refusal::Listed)
 }
-
-const UNUSED: Fields = Fields {
-    kind: 0,
-    a: 0,
-    b: 0,
-    c: 0,
-    value: 0,
-};
 
 // The fields of an event of a ballot.
 fn ballot_fields(event: BallotEvent) -> Fields
     ensures { result ≡ ballot_fields event }
 {
-    let unused = UNUSED;
+    let unused = Fields::UNUSED;
     match event {
         BallotEvent::Open { id, ballot } => Fields {
             kind: 10,
@@ -69,7 +53,7 @@ fn ballot_fields(event: BallotEvent) -> Fields
             kind: 3,
             a: from,
             b: to,
-            c: ballot_kind_number(kind),
+            c: u8::from(kind),
             value: ballot,
         },
     }
@@ -79,12 +63,12 @@ fn ballot_fields(event: BallotEvent) -> Fields
 fn event_fields(e: Event) -> Fields
     ensures { result ≡ event_fields e }
 {
-    let unused = UNUSED;
+    let unused = Fields::UNUSED;
     match e {
         Event::Lock { n, f, own } => Fields {
             a: n,
             b: f,
-            c: flag_number(own),
+            c: u8::from(own),
             ..unused
         },
         Event::Order { number } => Fields {
@@ -99,7 +83,7 @@ fn event_fields(e: Event) -> Fields
         } => Fields {
             kind: 2,
             a: id,
-            b: flag_number(willing),
+            b: u8::from(willing),
             value: target,
             ..unused
         },
@@ -107,7 +91,7 @@ fn event_fields(e: Event) -> Fields
             kind: 3,
             a: from,
             b: to,
-            c: kind_number(kind),
+            c: u8::from(kind),
             ..unused
         },
         Event::Timeout { id } => Fields {
@@ -118,7 +102,7 @@ fn event_fields(e: Event) -> Fields
         Event::Decide { id, to_move } => Fields {
             kind: 5,
             a: id,
-            b: flag_number(to_move),
+            b: u8::from(to_move),
             ..unused
         },
         Event::Stop { id } => Fields {
@@ -144,7 +128,7 @@ fn event_fields(e: Event) -> Fields
 pub fn fields_of(act: Act) -> Fields
     ensures { result ≡ fields_of act }
 {
-    let unused = UNUSED;
+    let unused = Fields::UNUSED;
     match act {
         Act::Play(e) => event_fields(e),
         Act::Back => Fields { kind: 9, ..unused },
@@ -155,17 +139,10 @@ pub fn fields_of(act: Act) -> Fields
 pub fn record_bytes(x: Fields) -> [u8; 10]
     ensures { result ≡ record_bytes x }
 {
+    let mark = Event::MARK.to_be_bytes();
+    let value = x.value.to_be_bytes();
     [
-        low_byte(Event::MARK / 256),
-        low_byte(Event::MARK),
-        x.kind,
-        x.a,
-        x.b,
-        x.c,
-        low_byte(x.value / 65536 / 256),
-        low_byte(x.value / 65536),
-        low_byte(x.value / 256),
-        low_byte(x.value),
+        mark[2], mark[3], x.kind, x.a, x.b, x.c, value[0], value[1], value[2], value[3],
     ]
 }
 
@@ -176,22 +153,12 @@ fn event_bytes(act: Act) -> [u8; 10]
     record_bytes(fields_of(act))
 }
 
-// Answers 0, or 1 for a buffer of another length, which is then untouched: there is nothing to ask of an event.
-pub fn write_event(out: &mut [u8], act: Act) -> u8
-    ensures { (result ≡ number (write_reply events out.old act)) × (out.new ≡ writes events out.old act) }
+// There is nothing to ask of an event; a buffer of another length is untouched.
+pub fn write_event(out: &mut [u8], act: Act) -> Result<(), Refusal>
+    ensures { (reply_of result ≡ write_reply events out.old act) × (out.new ≡ writes events out.old act) }
 {
     let content = event_bytes(act);
-    write_record(out, &content, 0)
-}
-
-// Document 01's number for a reader's answer: 0 for a record.
-pub fn answer_of(read: ReadEvent) -> u8
-    ensures { result ≡ (answer_of read).number }
-{
-    match read {
-        ReadEvent::Read(_) => 0,
-        ReadEvent::Refused(q) => q,
-    }
+    write_record(out, &content, Ok(()))
 }
 
 // What is promised of these records: reading answers as the questions do, both round trips, and a refused write's buffer.

@@ -6,10 +6,7 @@ mod kinds;
 
 ghost use Rattle.event_record.specs.ByteForByte.{ByteForByte};
 
-pub use event::{
-    answer_of, asked_in_sequence, fields_of, read_event, record_bytes, round_trips, write_event,
-};
-use model::Act;
+pub use event::{asked_in_sequence, fields_of, read_event, record_bytes, round_trips, write_event};
 
 // What stands in an event record after its mark.
 #[derive(Clone, Copy)]
@@ -21,11 +18,14 @@ pub struct Fields {
     pub value: u32,
 }
 
-// A record, or the number of the first question that was answered "no".
-#[derive(Clone, Copy)]
-pub enum ReadEvent {
-    Read(Act),
-    Refused(u8),
+impl Fields {
+    pub const UNUSED: Fields = Fields {
+        kind: 0,
+        a: 0,
+        b: 0,
+        c: 0,
+        value: 0,
+    };
 }
 
 // Events of document 02, U14, and the step back of U11, byte for byte, and bytes with one fault each.

@@ -7,7 +7,7 @@ use Rattle.model.specs.declared.Event.{Event}
 use Rattle.model.specs.declared.Event.TheVariants.{Lock, Order, Cast}
 use Rattle.records.specs.Promises.{Promises}
 use Rattle.event_record.specs.Events.{event_fields, fields_of, events, event_length, event_bytes, read_event, records_of}
-use Rattle.event_record.specs.declared.ReadEvent.TheVariants.{Read}
+use Rattle.std.specs.Prelude.{Ok}
 use Rattle.schedule_reader.specs.Pieces.{piece_at, record_at}
 use Rattle.xorshift.specs.Claim.{Draws}
 use Rattle.generator.specs.Drawing.{drawn_event}
@@ -92,7 +92,7 @@ piece-next : (e : Event) (rest : List ℕ) (at : ℕ) → piece_at (event_bytes 
 unfolding piece_at
 piece-next e rest at = let place : event_length + at ≡ suc (suc (suc (suc (suc (suc (suc (suc (suc (suc at))))))))) = omega arith in rw place
 
-records-read : Promises events → (d : Event) (es : List Event) → Small es → (k : ℕ) → k < length es → record_at (event_records es) (event_length * k) ≡ Read (Play (get_or es k d))
+records-read : Promises events → (d : Event) (es : List Event) → Small es → (k : ℕ) → k < length es → record_at (event_records es) (event_length * k) ≡ Ok (Play (get_or es k d))
 unfolding records_of fields_of first_no
 records-read p d [] s k h = absurd (omega arith)
 records-read p d (e ∷ es) s zero h = ap read_event (piece-first e (event_records es)) ∙ p.reads-back (Play e) (s.0, tt) refl

@@ -1,20 +1,19 @@
 -- No output is longer than the program's buffer; and the output by the reply.
-use Rattle.std.specs.Prelude.{ℕ, ◌*◌, ◌≤◌, ◌<◌, ◌≡◌, refl, not, List, ◌++◌, eqb, leb, length, take, drop}
-use Rattle.std.proofs.Common.{sym, ◌∙◌, ap, arith, length-take-le, leb-true}
+use Rattle.std.specs.Prelude.{ℕ, ◌*◌, ◌≤◌, ◌<◌, ◌≡◌, refl, not, List, eqb, leb, length}
+use Rattle.std.proofs.Common.{sym, ◌∙◌, arith, leb-true}
 use Rattle.ground.specs.Tests.{and_r, by_cond}
 use Rattle.ground.specs.Limit.{limit}
-use Rattle.model.specs.Questions.{Reply, accepted, refused, number}
-use Rattle.model.specs.QuestionLaws.{all_yes, reply-refused}
+use Rattle.model.specs.Questions.{Reply, accepted, refused}
+use Rattle.model.specs.QuestionLaws.{all_yes}
 use Rattle.model.specs.RangeLaws.{ranges}
 use Rattle.records.specs.Bytes.{byte, number2, number4}
 use Rattle.event_record.specs.Events.{event_length}
 use Rattle.text.specs.Text.{refusal}
 use Rattle.text.specs.Lengths.{refusal-length}
-use Rattle.text.specs.Writing.{fitted, fitted_length}
-use Rattle.text.specs.WritingLaws.{nothing-fitted, fitted-whole}
-use Rattle.generator.specs.File.{file_of, most_drawn, asked, refusal_of, generated}
+use Rattle.text.specs.Writing.{Put, fitted, fitted_length}
+use Rattle.text.specs.WritingLaws.{nothing-fitted, all-fitted}
+use Rattle.generator.specs.File.{file_of, most_drawn, asked, refusal_of}
 use Rattle.generator.proofs.FileLaws.{length_file}
-use Rattle.generator.proofs.ReplyLaws.{not-refused, file-reply}
 use Rattle.generator.specs.Claim.{records_in}
 use Rattle.generator.specs.Output.{file_or_refusal, output_for, output_of, longest_output, AllFit}
 
@@ -44,18 +43,15 @@ all_fit s =
     (λ _. omega (arith, refusal-length 1))
 
 -- the output by the reply: a refusal
-pub refused-output : (n f count start q : ℕ) → q ≡ number (refusal_of n f count start) → (q ≡ 0 → ⊥) → output_for n f count start ≡ refusal q
-unfolding output_for refusal_of
-refused-output n f count start q e h = rw (reply-refused (asked n f count start) q e h)
+pub refused-output : (n f count start q : ℕ) → refused q ≡ refusal_of n f count start → output_for n f count start ≡ refusal q
+unfolding output_for
+refused-output n f count start q e = rw (← e)
 
 -- and the file, which the buffer holds or does not
-module _ (n f count start : ℕ) (out : List ℕ) (q r : ℕ) (e : q ≡ number (refusal_of n f count start)) (z : q ≡ 0) (l : r ≡ event_length * records_in n count) where
-  ok : refusal_of n f count start ≡ accepted
-  ok = not-refused n f count start q e z
-
+module _ (n f count start : ℕ) (out : List ℕ) (r : ℕ) (e : accepted ≡ refusal_of n f count start) (l : r ≡ event_length * records_in n count) where
   is_file : output_for n f count start ≡ file_of n f count start
   unfolding output_for
-  is_file = rw ok
+  is_file = rw (← e)
 
   as_long : length (file_of n f count start) ≡ r
   as_long = length_file n f count start ∙ sym l
@@ -63,10 +59,6 @@ module _ (n f count start : ℕ) (out : List ℕ) (q r : ℕ) (e : q ≡ number 
   pub short-output : length out < r → (0 ≡ fitted_length (output_for n f count start) out) × (out ≡ fitted (output_for n f count start) out)
   short-output h = rw is_file (nothing-fitted (file_of n f count start) out (rw as_long h))
 
-  pub whole-output : (after : List ℕ) → r ≤ length out → after ≡ generated n f count start (take r out)
-      → (r ≡ fitted_length (output_for n f count start) out) × (after ++ drop r out ≡ fitted (output_for n f count start) out)
-  whole-output after h g =
-      let part : length (take r out) ≡ length (file_of n f count start) = length-take-le r out h ∙ sym as_long in
-      let file : after ≡ file_of n f count start = g ∙ sym (file-reply n f count start (take r out) ok part).1 in
-      let w = fitted-whole (file_of n f count start) out (omega (arith, as_long)) in
-      rw (is_file, file) (sym (w.0 ∙ as_long), ap (λ (k : ℕ). file_of n f count start ++ drop k out) (sym as_long) ∙ sym w.1)
+  pub whole-output : {after : List ℕ} {k : ℕ} → r ≤ length out → Put out after 0 k (file_of n f count start)
+      → (k ≡ fitted_length (output_for n f count start) out) × (after ≡ fitted (output_for n f count start) out)
+  whole-output h p = rw is_file (all-fitted (file_of n f count start) out (rw as_long h) p)

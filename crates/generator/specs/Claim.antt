@@ -3,7 +3,7 @@ use Rattle.std.specs.Prelude.{ℕ, zero, suc, ◌+◌, ◌*◌, ◌^◌, ◌<◌
 use Rattle.model.specs.declared.Act.TheVariants.{Play}
 use Rattle.model.specs.declared.Event.TheVariants.{Lock}
 use Rattle.event_record.specs.Events.{event_length}
-use Rattle.event_record.specs.declared.ReadEvent.TheVariants.{Read}
+use Rattle.std.specs.Prelude.{Ok}
 use Rattle.schedule_reader.specs.Pieces.{record_at}
 use Rattle.generator.specs.Drawing.{drawn_event}
 use Rattle.generator.specs.File.{events_of, file_of}
@@ -21,7 +21,7 @@ state_after n (suc k) s = state_after n k (drawn_event n s).state
 pub record Files : Type 0 where
   -- each record reads, and as the event that was written there
   pub reads : (n f count start k : ℕ) → k < records_in n count
-      → record_at (file_of n f count start) (event_length * k) ≡ Read (Play (get_or (events_of n f count start) k (Lock n f false)))
+      → record_at (file_of n f count start) (event_length * k) ≡ Ok (Play (get_or (events_of n f count start) k (Lock n f false)))
   -- ten bytes for each record
   pub long : (n f count start : ℕ) → length (file_of n f count start) ≡ event_length * records_in n count
   -- a state is never 0 again

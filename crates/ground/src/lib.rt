@@ -4,8 +4,10 @@
 ghost use Rattle.std.specs.Prelude.{◌≡◌, min};
 ghost use Rattle.ground.specs.Limit.{limit};
 
+mod lists;
 mod mask;
 
+pub use lists::{nth, put};
 pub use mask::{full_to, has, insert, none_above, remove, size, up_to, within};
 
 // The most controllers that a lock has.
@@ -22,8 +24,5 @@ pub fn limit_is_one() -> usize
 pub fn up_to_limit(n: u8) -> u8
     ensures { result ≡ min n limit }
 {
-    if (n as usize) < LIMIT {
-        return n;
-    }
-    LIMIT as u8
+    n.min(LIMIT as u8)
 }

@@ -1,5 +1,5 @@
 -- The ends of the ranges decide: the answer that they give is right, and no other is.
-use Rattle.std.specs.Prelude.{◌≡◌, true, false, cond, ◌&&◌, ◌||◌, int_lt}
+use Rattle.std.specs.Prelude.{◌≡◌, ℕ, Result, Ok, Err, true, false, cond, ◌&&◌, ◌||◌, int_lt}
 use Rattle.std.proofs.Math.Path.{refl, sym, subst}
 use Rattle.std.proofs.Common.{◌∙◌, inl, inr}
 use Rattle.std.proofs.lemmas.Bool.{false≢true}
@@ -8,7 +8,7 @@ use Rattle.model.specs.Questions.{Reply, accepted, refused, first_no}
 use Rattle.model.specs.QuestionLaws.{all_yes}
 use Rattle.levels.specs.declared.Range.{Range}
 use Rattle.levels.specs.declared.Willingness.{Willingness}
-use Rattle.levels.specs.declared.Willingness.TheVariants.{Willing, CertainlyUnwilling, Unsure, Refused}
+use Rattle.levels.specs.declared.Willingness.TheVariants.{Willing, CertainlyUnwilling, Unsure}
 use Rattle.levels.specs.Integers.{Below, le-true, lt-true, not_lt}
 use Rattle.levels.specs.Heads.{low, high, mm, minus, EveryPair, NoPair}
 use Rattle.levels.specs.Judged.{ordered, questions, Says, SaysAfter, Judged, votes}
@@ -40,28 +40,28 @@ module _ (above below : Range) where
         every above below (not_lt (least above below) (minus 150) (or_no_l (int_lt (least above below) (minus 150)) (int_lt (mm 150) (greatest above below)) u))
         (not_lt (mm 150) (greatest above below) (or_no_r (int_lt (least above below) (minus 150)) (int_lt (mm 150) (greatest above below)) u))
 
-    by_heads_lem : Says above below (by_heads (least above below) (greatest above below))
+    by_heads_lem : Says above below (Ok (by_heads (least above below) (greatest above below)))
     unfolding by_heads
     by_heads_lem =
-        by_cond (Says above below) (int_lt (greatest above below) (minus 150) || int_lt (mm 150) (least above below)) CertainlyUnwilling
+        by_cond (λ (w : Willingness). Says above below (Ok w)) (int_lt (greatest above below) (minus 150) || int_lt (mm 150) (least above below)) CertainlyUnwilling
         (cond (int_lt (least above below) (minus 150) || int_lt (mm 150) (greatest above below)) Unsure Willing) outside
-        (λ t. by_cond (Says above below) (int_lt (least above below) (minus 150) || int_lt (mm 150) (greatest above below)) Unsure Willing (λ u. (beyond u, not-outside t)) not_beyond)
+        (λ t. by_cond (λ (w : Willingness). Says above below (Ok w)) (int_lt (least above below) (minus 150) || int_lt (mm 150) (greatest above below)) Unsure Willing (λ u. (beyond u, not-outside t)) not_beyond)
 
     -- two answers that are both right are one
-    says-once : (v w : Willingness) → Says above below v → Says above below w → v ≡ w
-    says-once Willing Willing p q = refl
-    says-once Willing CertainlyUnwilling p q = absurd (not_both above below oa ob p q)
-    says-once Willing Unsure p q = absurd (q.0 p)
-    says-once Willing (Refused k) p q = absurd q
-    says-once CertainlyUnwilling Willing p q = absurd (not_both above below oa ob q p)
-    says-once CertainlyUnwilling CertainlyUnwilling p q = refl
-    says-once CertainlyUnwilling Unsure p q = absurd (q.1 p)
-    says-once CertainlyUnwilling (Refused k) p q = absurd q
-    says-once Unsure Willing p q = absurd (p.0 q)
-    says-once Unsure CertainlyUnwilling p q = absurd (p.1 q)
-    says-once Unsure Unsure p q = refl
-    says-once Unsure (Refused k) p q = absurd q
-    says-once (Refused k) w p q = absurd p
+    says-once : (v w : Result Willingness ℕ) → Says above below v → Says above below w → v ≡ w
+    says-once (Ok Willing) (Ok Willing) p q = refl
+    says-once (Ok Willing) (Ok CertainlyUnwilling) p q = absurd (not_both above below oa ob p q)
+    says-once (Ok Willing) (Ok Unsure) p q = absurd (q.0 p)
+    says-once (Ok Willing) (Err k) p q = absurd q
+    says-once (Ok CertainlyUnwilling) (Ok Willing) p q = absurd (not_both above below oa ob q p)
+    says-once (Ok CertainlyUnwilling) (Ok CertainlyUnwilling) p q = refl
+    says-once (Ok CertainlyUnwilling) (Ok Unsure) p q = absurd (q.1 p)
+    says-once (Ok CertainlyUnwilling) (Err k) p q = absurd q
+    says-once (Ok Unsure) (Ok Willing) p q = absurd (p.0 q)
+    says-once (Ok Unsure) (Ok CertainlyUnwilling) p q = absurd (p.1 q)
+    says-once (Ok Unsure) (Ok Unsure) p q = refl
+    says-once (Ok Unsure) (Err k) p q = absurd q
+    says-once (Err k) w p q = absurd p
 
   in_order : first_no (questions above below) ≡ accepted → Below (low above) (high above) × Below (low below) (high below)
   in_order e =
@@ -78,7 +78,7 @@ module _ (above below : Range) where
       go (refused q) e = refl
 
   -- and no other is
-  pub judged-once : (v w : Willingness) → Judged above below v → Judged above below w → v ≡ w
+  pub judged-once : (v w : Result Willingness ℕ) → Judged above below v → Judged above below w → v ≡ w
   unfolding Judged
   judged-once v w = go (first_no (questions above below)) refl
     where
@@ -87,7 +87,7 @@ module _ (above below : Range) where
       go (refused k) e p q = p ∙ sym q
 
   -- what ensures it of a call's answer
-  pub right_answer : (w : Willingness) → w ≡ willingness above below → Judged above below w × (w ≡ willingness above below)
+  pub right_answer : (w : Result Willingness ℕ) → w ≡ willingness above below → Judged above below w × (w ≡ willingness above below)
   right_answer w e = (rw e ends-decide, e)
 
   -- "The vote is willing exactly when every pair of levels within the two ranges has a head from −150 to 150", of ranges that are not refused
@@ -100,12 +100,12 @@ module _ (above below : Range) where
     unfolding votes
     willing-vote t = go (willingness above below) says t
       where
-        go : (w : Willingness) → Says above below w → votes w ≡ true → EveryPair above below
-        go Willing s t = s
-        go CertainlyUnwilling s t = absurd (false≢true t)
-        go Unsure s t = absurd (false≢true t)
-        go (Refused q) s t = absurd s
+        go : (w : Result Willingness ℕ) → Says above below w → votes w ≡ true → EveryPair above below
+        go (Ok Willing) s t = s
+        go (Ok CertainlyUnwilling) s t = absurd (false≢true t)
+        go (Ok Unsure) s t = absurd (false≢true t)
+        go (Err q) s t = absurd s
 
     pub every-vote : EveryPair above below → votes (willingness above below) ≡ true
     unfolding votes
-    every-vote p = let o = in_order e in rw (says-once o.0 o.1 (willingness above below) Willing says p)
+    every-vote p = let o = in_order e in rw (says-once o.0 o.1 (willingness above below) (Ok Willing) says p)

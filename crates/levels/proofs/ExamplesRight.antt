@@ -1,5 +1,5 @@
 -- Each row of the table of examples has the right answer.
-use Rattle.std.specs.Prelude.{◌≡◌, List, [], ◌∷◌, map, refl}
+use Rattle.std.specs.Prelude.{◌≡◌, ℕ, Result, List, [], ◌∷◌, map, refl}
 use Rattle.std.proofs.Common.{subst}
 use Rattle.model.specs.Positions.{millimetres}
 use Rattle.model.specs.Questions.{unless, first_no}
@@ -9,7 +9,7 @@ use Rattle.levels.specs.Ends.{by_heads, willingness}
 use Rattle.levels.specs.Examples.{Example, examples, Right}
 use Rattle.levels.proofs.EndsLaws.{ends-decide}
 
-found : Example → Willingness
+found : Example → Result Willingness ℕ
 found e = willingness e.above e.below
 
 all_right : (es : List Example) → map found es ≡ map (λ (e : Example). e.answer) es → Right es

@@ -4,10 +4,10 @@ use lib.IntN.{sub_ℕ}
 use lib.Signed.{le_z, lt_z}
 use borrow.Author.Tests.{lt-leb}
 use Rattle.ground.specs.Tests.{split, same_test, and_l, and_r, and_i}
+use Rattle.std.specs.Prelude.{Ok, Err}
 use Rattle.model.specs.Positions.{millimetres}
 use Rattle.model.specs.Questions.{unless, first_no}
 use Rattle.levels.specs.declared.Range.{Range}
-use Rattle.levels.specs.declared.Willingness.TheVariants.{Refused}
 use Rattle.levels.specs.declared.heights.Heights.{Heights}
 use Rattle.levels.specs.Integers.{Difference, difference, minus_is, le-holds, lt-holds, le-true, lt-true}
 use Rattle.levels.specs.Heads.{low, high, head, mm, minus}
@@ -77,12 +77,12 @@ listed-true h e = record {
 
 -- what the code answers on each way
 module _ (above below : Range) (a b : Heights) (ra : RaisedRange above a) (rb : RaisedRange below b) where
-  pub above-outside : both_listed a ≡ false → Refused 20 ≡ willingness above below
+  pub above-outside : both_listed a ≡ false → Err 20 ≡ willingness above below
   unfolding willingness first_no unless
   above-outside e = rw (levels-is above a ra, e)
 
   module _ (la : both_listed a ≡ true) where
-    pub below-outside : both_listed b ≡ false → Refused 20 ≡ willingness above below
+    pub below-outside : both_listed b ≡ false → Err 20 ≡ willingness above below
     unfolding willingness first_no unless
     below-outside e = rw (levels-is above a ra, levels-is below b rb, la, e)
 
@@ -108,12 +108,12 @@ module _ (above below : Range) (a b : Heights) (ra : RaisedRange above a) (rb : 
       all_listed : (both_levels above && both_levels below) ≡ true
       all_listed = rw (levels-is above a ra, levels-is below b rb, la, lb)
 
-      pub above_crossed : a.high < a.low → Refused 21 ≡ willingness above below
+      pub above_crossed : a.high < a.low → Err 21 ≡ willingness above below
       unfolding willingness first_no unless
       above_crossed h = rw (all_listed, ordered-above, lt-leb a.low a.high h)
 
       module _ (oa : a.low ≤ a.high) where
-        pub below_crossed : b.high < b.low → Refused 21 ≡ willingness above below
+        pub below_crossed : b.high < b.low → Err 21 ≡ willingness above below
         unfolding willingness first_no unless
         below_crossed h = rw (all_listed, ordered-above, ordered-below, le-leb a.low a.high oa, lt-leb b.low b.high h)
 
@@ -127,6 +127,6 @@ module _ (above below : Range) (a b : Heights) (ra : RaisedRange above a) (rb : 
               over-is (high above) (low below) a.high b.low high-above low_below,
             )
 
-        pub answered : b.low ≤ b.high → by_heights a b ≡ willingness above below
+        pub answered : b.low ≤ b.high → Ok (by_heights a b) ≡ willingness above below
         unfolding willingness first_no unless
-        answered ob = rw (all_listed, ordered-above, ordered-below, le-leb a.low a.high oa, le-leb b.low b.high ob) same_answer
+        answered ob = rw (all_listed, ordered-above, ordered-below, le-leb a.low a.high oa, le-leb b.low b.high ob) (ap Ok same_answer)

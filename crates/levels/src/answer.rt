@@ -1,17 +1,20 @@
 // What two ranges say of a gate's willingness, and the vote.
 ghost use Rattle.std.specs.Prelude.{◌≡◌};
+ghost use Rattle.model.specs.Refusals.{numbered};
 ghost use Rattle.levels.specs.Heights.{Listed, by_heights};
 ghost use Rattle.levels.specs.Ends.{willingness};
 ghost use Rattle.levels.specs.Judged.{Judged, votes};
 
 use crate::heights::{Heights, both_listed, raised_range};
 use crate::{Range, Willingness};
+use model::Refusal;
 
 // The greatest head, in mm, with which a gate is willing, either way.
 const LIMIT: u32 = 150;
 
 // The heads of all pairs fill the interval from that of the low level above and the high one below to that of the high one above and the
 // low one below, so these two decide.
+#[tactic(auto, unfolding(crate::specs::Heights::by_heights))]
 fn by_heights(above: Heights, below: Heights) -> Willingness
     requires listed { Listed above }
     requires listed_2 { Listed below }
@@ -34,36 +37,32 @@ fn by_heights(above: Heights, below: Heights) -> Willingness
     Willingness::Willing
 }
 
-// What the range above a gate and the one below it say: the answer that is right of every pair of levels within them.
-pub fn judge(above: Range, below: Range) -> Willingness
-    ensures right { Judged above below result }
-    ensures by_ends { result ≡ willingness above below }
+// What the range above a gate and the one below it say: the answer that is right of every pair of levels within them, or the first question that they fail.
+pub fn judge(above: Range, below: Range) -> Result<Willingness, Refusal>
+    ensures right { Judged above below (numbered result) }
+    ensures by_ends { numbered result ≡ willingness above below }
 {
     let a = raised_range(above);
     let b = raised_range(below);
     if !both_listed(a) {
-        return Willingness::Refused(20);
+        return Err(Refusal::LevelRange);
     }
     if !both_listed(b) {
-        return Willingness::Refused(20);
+        return Err(Refusal::LevelRange);
     }
     if a.high < a.low {
-        return Willingness::Refused(21);
+        return Err(Refusal::LevelOrder);
     }
     if b.high < b.low {
-        return Willingness::Refused(21);
+        return Err(Refusal::LevelOrder);
     }
-    by_heights(a, b)
+    Ok(by_heights(a, b))
 }
 
 // The gate's vote: only "willing" is a willing one.
-pub fn vote(w: Willingness) -> bool
-    ensures { result ≡ votes w }
+#[tactic(auto, unfolding(crate::specs::Judged::votes))]
+pub fn vote(answer: Result<Willingness, Refusal>) -> bool
+    ensures { result ≡ votes (numbered answer) }
 {
-    match w {
-        Willingness::Willing => true,
-        Willingness::CertainlyUnwilling => false,
-        Willingness::Unsure => false,
-        Willingness::Refused(_) => false,
-    }
+    matches!(answer, Ok(Willingness::Willing))
 }

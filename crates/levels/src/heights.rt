@@ -3,7 +3,6 @@ ghost use Rattle.std.specs.Prelude.{◌≡◌, ◌&&◌};
 ghost use Rattle.levels.specs.Heights.{Raised, RaisedRange, both_listed};
 
 use crate::Range;
-use std::num::wrapping_add_u32;
 
 // What is added to a level, and the height of the highest.
 const RISE: u32 = 100000;
@@ -19,7 +18,7 @@ pub(crate) struct Heights {
 fn raised(level: u32) -> u32
     ensures { Raised level result }
 {
-    wrapping_add_u32(level, RISE)
+    level.wrapping_add(RISE)
 }
 
 pub(crate) fn raised_range(r: Range) -> Heights

@@ -13,11 +13,10 @@ pub struct Range {
     pub high: u32,
 }
 
-// What two ranges say of a gate's willingness, or the number of the question that they failed.
-#[derive(Clone, Copy)]
+// What two ranges say of a gate's willingness.
+#[derive(Clone, Copy, Debug, PartialEq, Eq)]
 pub enum Willingness {
     Willing,
     CertainlyUnwilling,
     Unsure,
-    Refused(u8),
 }

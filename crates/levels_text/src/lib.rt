@@ -2,10 +2,12 @@
 #![tactic(auto)]
 
 ghost use Rattle.std.specs.Prelude.{◌≡◌, ◌+◌, ◌≤◌, length};
+ghost use Rattle.model.specs.Refusals.{numbered};
 ghost use Rattle.text.specs.Writing.{fitted, fitted_length, Rendered};
 ghost use Rattle.levels_text.specs.Output.{range_at, words, willingness_in, output_of};
 
 use levels::{Range, Willingness, judge};
+use model::Refusal;
 use records::number4;
 use text::{write_bytes, write_refusal};
 
@@ -24,11 +26,12 @@ fn range_at(s: &[u8], at: usize) -> Range
 }
 
 // The answer to an input: above low, above high, below low, below high.
-fn answer_to(s: &[u8]) -> Willingness
-    ensures { result ≡ willingness_in s.now }
+#[tactic(auto, unfolding(crate::specs::Output::willingness_in))]
+fn answer_to(s: &[u8]) -> Result<Willingness, Refusal>
+    ensures { numbered result ≡ willingness_in s.now }
 {
     if s.len() != 16 {
-        return Willingness::Refused(1);
+        return Err(Refusal::Length);
     }
     let above = range_at(s, 0);
     let below = range_at(s, 8);
@@ -36,15 +39,16 @@ fn answer_to(s: &[u8]) -> Willingness
 }
 
 // Writes the answer in words, with a newline, to the front of the buffer and answers its length; 0, and nothing written, if it does not fit.
-fn write_words(out: &mut [u8], w: Willingness) -> usize
-    ensures value { result ≡ fitted_length (words w) out.old }
-    ensures out_after { out.new ≡ fitted (words w) out.old }
+#[tactic(auto, unfolding(crate::specs::Output::words))]
+fn write_words(out: &mut [u8], answer: Result<Willingness, Refusal>) -> usize
+    ensures value { result ≡ fitted_length (words (numbered answer)) out.old }
+    ensures out_after { out.new ≡ fitted (words (numbered answer)) out.old }
 {
-    match w {
-        Willingness::Willing => write_bytes(&mut *out, b"willing\n"),
-        Willingness::CertainlyUnwilling => write_bytes(&mut *out, b"certainly unwilling\n"),
-        Willingness::Unsure => write_bytes(&mut *out, b"unsure\n"),
-        Willingness::Refused(q) => write_refusal(&mut *out, q as u32),
+    match answer {
+        Ok(Willingness::Willing) => write_bytes(&mut *out, b"willing\n"),
+        Ok(Willingness::CertainlyUnwilling) => write_bytes(&mut *out, b"certainly unwilling\n"),
+        Ok(Willingness::Unsure) => write_bytes(&mut *out, b"unsure\n"),
+        Err(q) => write_refusal(&mut *out, u32::from(u8::from(q))),
     }
 }
 
@@ -52,6 +56,5 @@ fn write_words(out: &mut [u8], w: Willingness) -> usize
 pub fn render(input: &[u8], out: &mut [u8]) -> usize
     ensures { Rendered (output_of input.now) out.old out.new result }
 {
-    let w = answer_to(input);
-    write_words(&mut *out, w)
+    write_words(&mut *out, answer_to(input))
 }

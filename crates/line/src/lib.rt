@@ -2,7 +2,7 @@
 #![tactic(auto)]
 
 ghost use Rattle.std.specs.Prelude.{◌≡◌};
-ghost use Rattle.line.specs.Turns.{new_line, calls, unchanged, call_of, up, first_caller, turn_of, perform, number};
+ghost use Rattle.line.specs.Turns.{new_line, is_lock, calls, unchanged, call_of, up, first_caller, turn_of, perform, number};
 ghost use Rattle.line.specs.Claim.{FairLine};
 ghost use Rattle.line.specs.Examples.{ExamplesHold};
 
@@ -17,12 +17,14 @@ pub struct Line {
     pub last: u8,
 }
 
+// stays (no plainer): as an Option, a turn would be the lack of a lock's number.
 #[derive(Clone, Copy)]
 pub enum Act {
     Turn,
     Call(u8),
 }
 
+// stays (promise): `perform` answers either act in one type, and the sentences of `FairLine` go by its answers.
 #[derive(Clone, Copy)]
 pub enum Answer {
     // to a call
@@ -50,19 +52,19 @@ pub fn new_line() -> Line
     }
 }
 
+// Is it the number of a lock?
+fn is_lock(lock: u8) -> bool
+    ensures { result ≡ is_lock lock }
+{
+    1 <= lock && lock <= LOCKS
+}
+
 // Is this lock calling? A number that is no lock never is.
+#[tactic(auto, unfolding(crate::specs::Turns::calls))]
 pub fn is_calling(line: Line, lock: u8) -> bool
     ensures { result ≡ calls line lock }
 {
-    if lock < 1 {
-        return false;
-    }
-    if LOCKS < lock {
-        return false;
-    }
-    let calling = line.calling;
-    let at = (lock - 1) as usize;
-    calling[at]
+    is_lock(lock) && line.calling[lock as usize - 1]
 }
 
 // An answer that leaves the line as it was.
@@ -73,29 +75,23 @@ fn unchanged(line: Line, answer: Answer) -> Done
 }
 
 // A call for the line; 25 for a number that is no lock.
+#[tactic(auto, unfolding(crate::specs::Turns::call_of))]
 pub fn call(line: Line, lock: u8) -> Done
     ensures { result ≡ call_of line lock }
 {
-    if lock < 1 {
+    if !is_lock(lock) {
         return unchanged(line, Answer::Refused);
     }
-    if LOCKS < lock {
-        return unchanged(line, Answer::Refused);
-    }
-    let mut calling = line.calling;
-    let at = (lock - 1) as usize;
-    calling[at] = true;
-    let next = Line {
-        calling,
-        last: line.last,
-    };
+    let mut line = line;
+    line.calling[lock as usize - 1] = true;
     Done {
-        line: next,
+        line,
         answer: Answer::Accepted,
     }
 }
 
 // The lock met after this one on the way up. After a number that is no lock it is 1.
+#[tactic(auto, unfolding(crate::specs::Turns::up))]
 fn lock_after(lock: u8) -> u8
     ensures { result ≡ up lock }
 {
@@ -106,17 +102,16 @@ fn lock_after(lock: u8) -> u8
 }
 
 // The first caller met from this lock on up, or 0.
+// stays (promise): the definition's `first_caller` has 0 for none, as `last` has.
 fn first_caller(line: Line, from: u8) -> u8
     ensures { result ≡ first_caller line 8 from }
 {
     let mut lock = from;
-    let mut left: u8 = LOCKS;
-    while 0 < left {
+    for met in 0..LOCKS {
         if is_calling(line, lock) {
             return lock;
         }
         lock = lock_after(lock);
-        left -= 1;
     }
     0
 }
@@ -130,15 +125,11 @@ pub fn turn(line: Line) -> Done
     if lock < 1 {
         return unchanged(line, Answer::Nobody);
     }
-    let mut calling = line.calling;
-    let at = (lock - 1) as usize;
-    calling[at] = false;
-    let next = Line {
-        calling,
-        last: lock,
-    };
+    let mut line = line;
+    line.calling[lock as usize - 1] = false;
+    line.last = lock;
     Done {
-        line: next,
+        line,
         answer: Answer::Served(lock),
     }
 }
@@ -156,6 +147,7 @@ pub fn refusal(answer: Answer) -> u8
 }
 
 // Either act.
+#[tactic(auto, unfolding(crate::specs::Turns::perform))]
 pub fn perform(line: Line, act: Act) -> Done
     ensures { result ≡ perform line act }
 {

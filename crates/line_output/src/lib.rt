@@ -3,11 +3,12 @@
 
 ghost use Rattle.std.specs.Prelude.{◌≡◌, ◌∷◌, [], ◌++◌, ◌≤◌, length};
 ghost use Rattle.text.specs.Text.{ascii, decimal, line, lines};
+ghost use Rattle.text.specs.Writers.{Wrote};
 ghost use Rattle.text.specs.Writing.{Put, Rendered};
 ghost use Rattle.line_output.specs.Output.{act_of, shown, act_line, most, output_of};
 
 use line::{Act, Answer, new_line, perform, refusal};
-use text::{put_byte, put_field, put_number, write_refusal};
+use text::{Writer, write_refusal};
 
 // The most acts that are run.
 pub const MOST: usize = 4096;
@@ -22,33 +23,25 @@ fn act_of(b: u8) -> Act
     Act::Call(b)
 }
 
-// A space and a dash.
-fn put_none(out: &mut [u8], at: usize) -> usize
-    ensures { Put out.old out.new at result (ascii " -") }
-{
-    let next = put_byte(&mut *out, at, b' ');
-    put_byte(&mut *out, next, b'-')
-}
-
 // A space and an answer.
-fn put_answer(out: &mut [u8], at: usize, answer: Answer) -> usize
-    ensures { Put out.old out.new at result (ascii " " ++ shown answer) }
+fn put_answer(w: &mut Writer, answer: Answer)
+    ensures { Wrote w.old w.new (ascii " " ++ shown answer) }
 {
     match answer {
-        Answer::Accepted => put_field(&mut *out, at, refusal(answer) as u32),
-        Answer::Refused => put_field(&mut *out, at, refusal(answer) as u32),
-        Answer::Served(lock) => put_field(&mut *out, at, lock as u32),
-        Answer::Nobody => put_none(&mut *out, at),
+        Answer::Accepted => w.field(u32::from(refusal(answer))),
+        Answer::Refused => w.field(u32::from(refusal(answer))),
+        Answer::Served(lock) => w.field(u32::from(lock)),
+        Answer::Nobody => w.bytes(b" -"),
     }
 }
 
 // The line of an act.
-fn put_act(out: &mut [u8], at: usize, i: u32, answer: Answer) -> usize
-    ensures { Put out.old out.new at result (line (decimal i ∷ shown answer ∷ [])) }
+fn put_act(w: &mut Writer, i: u32, answer: Answer)
+    ensures { Wrote w.old w.new (line (decimal i ∷ shown answer ∷ [])) }
 {
-    let next = put_number(&mut *out, at, i);
-    let next = put_answer(&mut *out, next, answer);
-    put_byte(&mut *out, next, b'\n')
+    w.number(i);
+    put_answer(w, answer);
+    w.byte(b'\n')
 }
 
 // A line for each act on a new line.
@@ -56,17 +49,14 @@ fn put_acts(out: &mut [u8], s: &[u8]) -> usize
     requires { length s.now ≤ most }
     ensures { Put out.old out.new 0 result (lines (length s.now) (act_line s.now)) }
 {
+    let mut w = Writer::new(out);
     let mut line = new_line();
-    let mut next: usize = 0;
-    let mut i: usize = 0;
-    while i < s.len() {
+    for i in 0..s.len() {
         let done = perform(line, act_of(s[i]));
         line = done.line;
-        let answer = done.answer;
-        next = put_act(&mut *out, next, i as u32, answer);
-        i += 1;
+        put_act(&mut w, i as u32, done.answer);
     }
-    next
+    w.at
 }
 
 // The length of those lines: they are written where no byte is kept.

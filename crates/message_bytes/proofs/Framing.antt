@@ -1,13 +1,15 @@
 -- What the code answers in a form, as the description says it.
-use Prim.Native.Nat.{ℕ, ◌≤◌}
+use Prim.Native.Nat.{ℕ, ◌+◌, ◌≤◌}
 use mathlib.Core.Path.{◌≡◌, refl, sym, ◌∙◌, ap, subst}
-use mathlib.Core.List.{List}
+use mathlib.Core.List.{List, ◌∷◌, ◌++◌}
 use native.Mathlib.Omega.{arith}
+use Rattle.std.proofs.Common.{length-append}
 use lib.ListN.{length}
-use Rattle.model.specs.Questions.{number, first_no}
+use Rattle.model.specs.Questions.{Reply, first_no}
 use Rattle.model.specs.declared.Telegram.{Telegram}
+use Rattle.records.specs.Bytes.{bytes2, bytes4, bytes_of_width}
 use Rattle.records.specs.Codec.{form_length, fields_by, write_reply, writes}
-use Rattle.records.specs.Frames.{frame_questions, write_number, buffer_after}
+use Rattle.records.specs.Frames.{frame_questions, PutUnless}
 use Rattle.records.proofs.FrameLaws.{record-written}
 use Rattle.message_record.specs.declared.BallotFields.{BallotFields}
 use Rattle.message_record.specs.declared.Fields.{Fields}
@@ -16,13 +18,12 @@ use Rattle.message_record.specs.declared.MessageBody.TheVariants.{Votes, Ballot}
 use Rattle.message_record.specs.declared.MessageWidth.{MessageWidth}
 use Rattle.message_record.specs.declared.MessageWidth.TheVariants.{Short, Long}
 use Rattle.message_record.specs.declared.TelegramForm.{TelegramForm}
-use Rattle.message_record.specs.Telegrams.{formed, mark_of, no_more, fields_in, more_at, fields_of, asked_in, telegram_form, form_of, telegrams, bytes_in}
-use Rattle.message_bytes.proofs.Numbered.{telegram-numbered}
+use Rattle.message_record.specs.Telegrams.{formed, mark_of, set_width, more_numbers, no_more, fields_in, more_at, fields_of, asked_in, telegram_form, form_of, telegrams, bytes_in}
 
 -- questions 1 and 2 by the length and the mark of a form are that form's
-pub framed : (k : TelegramForm) (s : List ℕ) (size mark q : ℕ) → size ≡ form_length (telegram_form k) → mark ≡ mark_of k.width → q ≡ number (first_no (frame_questions size mark s))
-    → q ≡ number (first_no (frame_questions (form_length (telegram_form k)) (mark_of k.width) s))
-framed k s size mark q a b e = e ∙ (λ i. number (first_no (frame_questions (a i) (b i) s)))
+pub framed : (k : TelegramForm) (s : List ℕ) (size mark : ℕ) (q : Reply) → size ≡ form_length (telegram_form k) → mark ≡ mark_of k.width → q ≡ first_no (frame_questions size mark s)
+    → q ≡ first_no (frame_questions (form_length (telegram_form k)) (mark_of k.width) s)
+framed k s size mark q a b e = e ∙ (λ i. first_no (frame_questions (a i) (b i) s))
 
 -- a record of any form has the bytes before its vote set
 head-there : (w : MessageWidth) (b : MessageBody) (s : List ℕ) → length s ≡ form_length (telegram_form (formed w b)) → 12 ≤ length s
@@ -55,26 +56,41 @@ length_in Short Ballot x = refl
 length_in Long Votes x = refl
 length_in Long Ballot x = refl
 
+pub parts-length : (a b c : List ℕ) → length (a ++ (b ++ c)) ≡ length a + length b + length c
+parts-length a b c =
+    let e : length (a ++ (b ++ c)) ≡ length a + length (b ++ c) = length-append a (b ++ c) in let f : length (b ++ c) ≡ length b + length c = length-append b c in omega arith
+
 -- a buffer after a content is one after the bytes that the content is
-pub content-is : (out after x y : List ℕ) (q r : ℕ) → x ≡ y → (r ≡ write_number out x q) × (after ≡ buffer_after out x q) → (r ≡ write_number out y q) × (after ≡ buffer_after out y q)
-content-is out after x y q r e put = subst (λ (z : List ℕ). (r ≡ write_number out z q) × (after ≡ buffer_after out z q)) e put
+pub content-is : (out after x y : List ℕ) (q r : Reply) → x ≡ y → PutUnless x q out after r → PutUnless y q out after r
+content-is out after x y q r e put = subst (λ (z : List ℕ). PutUnless z q out after r) e put
 
--- so where the form is known by its width, and by its body
-pub in-width : (b : MessageBody) (w known : MessageWidth) (x : Fields) (out after : List ℕ) (q r : ℕ) → w ≡ known
-    → (r ≡ write_number out (bytes_in (formed known b) x) q) × (after ≡ buffer_after out (bytes_in (formed known b) x) q)
-    → (r ≡ write_number out (bytes_in (formed w b) x) q) × (after ≡ buffer_after out (bytes_in (formed w b) x) q)
-in-width b w known x out after q r e put =
-    content-is out after (bytes_in (formed known b) x) (bytes_in (formed w b) x) q r (ap (λ (y : MessageWidth). bytes_in (formed y b) x) (sym e)) put
+-- so where the body is known, and where the width is
+pub in_body : (body known : MessageBody) (head sets : List ℕ) (x : BallotFields) (out after : List ℕ) (q r : Reply) → body ≡ known
+    → PutUnless (head ++ (sets ++ more_numbers known x)) q out after r → PutUnless (head ++ (sets ++ more_numbers body x)) q out after r
+in_body body known head sets x out after q r e put =
+    content-is out after _ _ q r (ap (λ (y : MessageBody). head ++ (sets ++ more_numbers y x)) (sym e)) put
 
-pub in_body : (k : TelegramForm) (known : MessageBody) (x : Fields) (out after : List ℕ) (q r : ℕ) → k.body ≡ known
-    → (r ≡ write_number out (bytes_in (formed k.width known) x) q) × (after ≡ buffer_after out (bytes_in (formed k.width known) x) q)
-    → (r ≡ write_number out (bytes_in k x) q) × (after ≡ buffer_after out (bytes_in k x) q)
-in_body k known x out after q r e put =
-    content-is out after (bytes_in (formed k.width known) x) (bytes_in k x) q r (ap (λ (y : MessageBody). bytes_in (formed k.width y) x) (sym e)) put
+whole : (w : MessageWidth) (b : MessageBody) (x : Fields)
+    → (bytes2 (mark_of w) ++ (x.kind ∷ x.n ∷ x.f ∷ x.from ∷ x.to ∷ x.spare ∷ bytes4 x.order)) ++ ((bytes_of_width (set_width w) x.votes.known ++ bytes_of_width (set_width w) x.votes.willing) ++ more_numbers b x.more)
+    ≡ bytes_in (formed w b) x
+whole Short Votes x = refl
+whole Short Ballot x = refl
+whole Long Votes x = refl
+whole Long Ballot x = refl
+
+pub in_form : (k : TelegramForm) (w : MessageWidth) (x : Fields) (head sets : List ℕ) (mark : ℕ) (out after : List ℕ) (q r : Reply) → k.width ≡ w → mark ≡ mark_of k.width
+    → head ≡ bytes2 mark ++ (x.kind ∷ x.n ∷ x.f ∷ x.from ∷ x.to ∷ x.spare ∷ bytes4 x.order)
+    → sets ≡ bytes_of_width (set_width w) x.votes.known ++ bytes_of_width (set_width w) x.votes.willing
+    → PutUnless (head ++ (sets ++ more_numbers k.body x.more)) q out after r → PutUnless (bytes_in k x) q out after r
+in_form k w x head sets mark out after q r e m h t put =
+    let heads : head ≡ bytes2 (mark_of w) ++ (x.kind ∷ x.n ∷ x.f ∷ x.from ∷ x.to ∷ x.spare ∷ bytes4 x.order) =
+    h ∙ ap (λ (y : ℕ). bytes2 y ++ (x.kind ∷ x.n ∷ x.f ∷ x.from ∷ x.to ∷ x.spare ∷ bytes4 x.order)) (m ∙ ap mark_of e) in
+    content-is out after _ _ q r
+    ((λ i. heads i ++ (t i ++ more_numbers k.body x.more)) ∙ (whole w k.body x ∙ ap (λ (y : MessageWidth). bytes_in (formed y k.body) x) (sym e))) put
 
 -- what was put into a buffer as the bytes of a telegram's own form is what the description writes
-pub written_in : (k : TelegramForm) (x : Fields) (t : Telegram) (out after : List ℕ) (q r : ℕ) → k ≡ form_of t → x ≡ fields_of t → q ≡ number (first_no (asked_in k.width t))
-    → (r ≡ write_number out (bytes_in k x) q) × (after ≡ buffer_after out (bytes_in k x) q) → (r ≡ number (write_reply telegrams out t)) × (after ≡ writes telegrams out t)
+pub written_in : (k : TelegramForm) (x : Fields) (t : Telegram) (out after : List ℕ) (q r : Reply) → k ≡ form_of t → x ≡ fields_of t → q ≡ first_no (asked_in k.width t)
+    → PutUnless (bytes_in k x) q out after r → (r ≡ write_reply telegrams out t) × (after ≡ writes telegrams out t)
 written_in k x t out after q r own same asked put =
-    record-written telegrams t out (bytes_in k x) (λ i. bytes_in (own i) (same i)) (length_in (form_of t).width (form_of t).body (fields_of t)) q
-    (asked ∙ ap (λ (y : TelegramForm). number (first_no (asked_in y.width t))) own) (telegram-numbered (form_of t).width t) put
+    record-written telegrams t out (bytes_in k x) (λ i. bytes_in (own i) (same i)) (length_in (form_of t).width (form_of t).body (fields_of t))
+    (asked ∙ ap (λ (y : TelegramForm). first_no (asked_in y.width t)) own) put

@@ -1,13 +1,14 @@
 // The forms of telegrams: by which one bytes are read, and in which one a telegram is written.
 ghost use Rattle.std.specs.Prelude.{◌<◌, ◌≡◌};
-ghost use Rattle.model.specs.Questions.{first_no, number};
+ghost use Rattle.model.specs.Questions.{first_no};
+ghost use Rattle.model.specs.Refusals.{reply_of};
 ghost use Rattle.records.specs.Codec.{form_length, record_length};
 ghost use Rattle.records.specs.Frames.{frame_questions};
 ghost use Rattle.message_record.specs.declared.MessageBody.TheVariants.{Votes, Ballot};
 ghost use Rattle.message_record.specs.Telegrams.{formed, size_of, body_of, width_for, suits_width, mark_of, telegram_form, form_of_twenty, form_for, form_of, telegrams};
 
 use message_record::{MessageBody, MessageWidth, TelegramForm};
-use model::Telegram;
+use model::{Refusal, Telegram};
 use records::frame_question;
 
 // Of 20 bytes the mark says which form they are.
@@ -131,7 +132,7 @@ pub fn telegram_length(t: Telegram) -> usize
     length_of(width, body)
 }
 
-fn mark_of(width: MessageWidth) -> u32
+pub(crate) fn mark_of(width: MessageWidth) -> u32
     ensures { result ≡ mark_of width }
 {
     match width {
@@ -140,9 +141,9 @@ fn mark_of(width: MessageWidth) -> u32
     }
 }
 
-// Questions 1 and 2, by that form: 0, or the number of the first that is answered "no".
-pub(crate) fn frame_in(form: TelegramForm, s: &[u8]) -> u8
-    ensures { result ≡ number (first_no (frame_questions (form_length (telegram_form form)) (mark_of form.width) s.now)) }
+// Questions 1 and 2, by that form.
+pub(crate) fn frame_in(form: TelegramForm, s: &[u8]) -> Result<(), Refusal>
+    ensures { reply_of result ≡ first_no (frame_questions (form_length (telegram_form form)) (mark_of form.width) s.now) }
 {
     let width = form.width;
     let body = form.body;

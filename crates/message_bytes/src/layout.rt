@@ -1,17 +1,16 @@
 // The fields of telegrams: as they stand on a record, which of them are listed, and the telegram that they stand for.
 ghost use Rattle.std.specs.Prelude.{◌≡◌, ◌≤◌, length};
+ghost use Rattle.model.specs.Refusals.{numbered};
 ghost use Rattle.records.specs.Codec.{fields_by};
-ghost use Rattle.message_record.specs.declared.MessageBody.TheVariants.{Ballot};
+ghost use Rattle.records.specs.Frames.{if_listed};
+ghost use Rattle.message_record.specs.declared.MessageBody.TheVariants.{Votes, Ballot};
 ghost use Rattle.message_record.specs.Telegrams.{formed, fields_in, votes_at, more_at, no_more, telegram_form, listed_in};
 ghost use Rattle.message_record.specs.Telegrams.{message_of, ballot_message_of, telegram_of, plain_fields, ballot_fields, fields_of};
 
 use crate::forms::plain_length;
 use message_record::{BallotFields, Fields, MessageBody, MessageWidth, TelegramForm};
-use model::{BallotMessage, Message, Telegram};
-use records::{
-    ballot_kind_of, byte_after, is_ballot_kind, is_kind, is_outcome, kind_of, number2, number4,
-    outcome_of,
-};
+use model::{BallotKind, BallotMessage, Kind, Message, Outcome, Refusal, Telegram};
+use records::{byte_after, number2, number4};
 use votes::VoteSet;
 
 // The votes as they stand on a record of that width.
@@ -85,49 +84,40 @@ pub(crate) fn fields_in(form: TelegramForm, s: &[u8]) -> Fields
     }
 }
 
-fn ballot_listed(x: Fields) -> bool
-    ensures { result ≡ listed_in Ballot x }
+// Question 3 of a telegram without a ballot, and the telegram.
+fn message_of(x: Fields) -> Result<Message, Refusal>
+    ensures { numbered result ≡ if_listed (listed_in Votes x) (message_of x) }
 {
-    if !is_ballot_kind(x.kind) {
-        return false;
-    }
+    let kind = Kind::try_from(x.kind)?;
     if x.spare != 0 {
-        return false;
+        return Err(Refusal::Listed);
     }
-    is_outcome(x.more.word) && x.more.spare == 0
-}
-
-// Question 3: are kind and word listed values, and is what must be 0?
-pub(crate) fn listed(body: MessageBody, x: Fields) -> bool
-    ensures { result ≡ listed_in body x }
-{
-    match body {
-        MessageBody::Votes => is_kind(x.kind) && x.spare == 0,
-        MessageBody::Ballot => ballot_listed(x),
-    }
-}
-
-fn message_of(x: Fields) -> Message
-    ensures { result ≡ message_of x }
-{
     let votes = x.votes;
-    Message {
-        kind: kind_of(x.kind),
+    Ok(Message {
+        kind,
         n: x.n,
         f: x.f,
         from: x.from,
         to: x.to,
         order: x.order,
         votes,
-    }
+    })
 }
 
-fn ballot_message_of(x: Fields) -> BallotMessage
-    ensures { result ≡ ballot_message_of x }
+fn ballot_message_of(x: Fields) -> Result<BallotMessage, Refusal>
+    ensures { numbered result ≡ if_listed (listed_in Ballot x) (ballot_message_of x) }
 {
+    let kind = BallotKind::try_from(x.kind)?;
+    if x.spare != 0 {
+        return Err(Refusal::Listed);
+    }
+    let word = Outcome::try_from(x.more.word)?;
+    if x.more.spare != 0 {
+        return Err(Refusal::Listed);
+    }
     let votes = x.votes;
-    BallotMessage {
-        kind: ballot_kind_of(x.kind),
+    Ok(BallotMessage {
+        kind,
         n: x.n,
         f: x.f,
         from: x.from,
@@ -136,17 +126,17 @@ fn ballot_message_of(x: Fields) -> BallotMessage
         votes,
         ballot: x.more.ballot,
         last: x.more.last,
-        word: outcome_of(x.more.word),
-    }
+        word,
+    })
 }
 
-// The telegram that the fields stand for.
-pub(crate) fn telegram_of(body: MessageBody, x: Fields) -> Telegram
-    ensures { result ≡ telegram_of body x }
+// The telegram that the fields stand for. Question 3: are kind and word listed values, and is what must be 0?
+pub(crate) fn telegram_of(body: MessageBody, x: Fields) -> Result<Telegram, Refusal>
+    ensures { numbered result ≡ if_listed (listed_in body x) (telegram_of body x) }
 {
     match body {
-        MessageBody::Votes => Telegram::Plain(message_of(x)),
-        MessageBody::Ballot => Telegram::OfBallot(ballot_message_of(x)),
+        MessageBody::Votes => Ok(Telegram::Plain(message_of(x)?)),
+        MessageBody::Ballot => Ok(Telegram::OfBallot(ballot_message_of(x)?)),
     }
 }
 
@@ -157,7 +147,7 @@ fn plain_fields(m: Message) -> Fields
     let votes = m.votes;
     let more = no_more();
     Fields {
-        kind: model::kind_number(kind),
+        kind: u8::from(kind),
         n: m.n,
         f: m.f,
         from: m.from,
@@ -178,11 +168,11 @@ fn ballot_fields(b: BallotMessage) -> Fields
     let more = BallotFields {
         ballot: b.ballot,
         last: b.last,
-        word: model::outcome_number(word),
+        word: u8::from(word),
         spare: 0,
     };
     Fields {
-        kind: model::ballot_kind_number(kind),
+        kind: u8::from(kind),
         n: b.n,
         f: b.f,
         from: b.from,

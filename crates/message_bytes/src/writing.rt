@@ -1,177 +1,106 @@
-// The bytes of a telegram in each form, from its fields, and writing them.
-ghost use Rattle.std.specs.Prelude.{◌≡◌};
+// The bytes of a telegram in each form, from its fields, and writing them: the head, the two sets, and a ballot's four bytes more.
+ghost use Rattle.std.specs.Prelude.{◌≡◌, ◌≤◌, ◌∷◌, ◌++◌, length};
+ghost use Rattle.model.specs.Refusals.{reply_of};
+ghost use Rattle.records.specs.Bytes.{bytes2, bytes4};
 ghost use Rattle.records.specs.Frames.{PutUnless};
-ghost use Rattle.message_record.specs.declared.MessageWidth.TheVariants.{Short, Long};
-ghost use Rattle.message_record.specs.declared.MessageBody.TheVariants.{Votes, Ballot};
-ghost use Rattle.message_record.specs.Telegrams.{formed, bytes_in};
+ghost use Rattle.message_record.specs.Telegrams.{formed, more_numbers, bytes_in};
 
-use message_record::{Fields, MessageBody, MessageWidth, TelegramForm};
-use model::Telegram;
-use records::{low_byte, write_record};
+use crate::forms::mark_of;
+use message_record::{BallotFields, Fields, MessageBody, MessageWidth, TelegramForm};
+use model::Refusal;
+use votes::VoteSet;
+
+fn head_bytes(mark: u32, x: Fields) -> [u8; 12]
+    ensures { result ≡ bytes2 mark ++ (x.kind ∷ x.n ∷ x.f ∷ x.from ∷ x.to ∷ x.spare ∷ bytes4 x.order) }
+{
+    let mark = mark.to_be_bytes();
+    let order = x.order.to_be_bytes();
+    [
+        mark[2], mark[3], x.kind, x.n, x.f, x.from, x.to, x.spare, order[0], order[1], order[2],
+        order[3],
+    ]
+}
 
 // Question 9 leaves no bit above n: two bytes hold each of the sets where question 4 lets a short form through.
-fn short_bytes(x: Fields) -> [u8; 16]
-    ensures { result ≡ bytes_in (formed Short Votes) x }
+fn short_sets(votes: VoteSet) -> [u8; 4]
+    ensures { result ≡ bytes2 votes.known ++ bytes2 votes.willing }
 {
+    let known = votes.known.to_be_bytes();
+    let willing = votes.willing.to_be_bytes();
+    [known[2], known[3], willing[2], willing[3]]
+}
+
+fn long_sets(votes: VoteSet) -> [u8; 8]
+    ensures { result ≡ bytes4 votes.known ++ bytes4 votes.willing }
+{
+    let known = votes.known.to_be_bytes();
+    let willing = votes.willing.to_be_bytes();
     [
-        low_byte(Telegram::SHORT_MARK / 256),
-        low_byte(Telegram::SHORT_MARK),
-        x.kind,
-        x.n,
-        x.f,
-        x.from,
-        x.to,
-        x.spare,
-        low_byte(x.order / 65536 / 256),
-        low_byte(x.order / 65536),
-        low_byte(x.order / 256),
-        low_byte(x.order),
-        low_byte(x.votes.known / 256),
-        low_byte(x.votes.known),
-        low_byte(x.votes.willing / 256),
-        low_byte(x.votes.willing),
+        known[0], known[1], known[2], known[3], willing[0], willing[1], willing[2], willing[3],
     ]
 }
 
-fn long_bytes(x: Fields) -> [u8; 20]
-    ensures { result ≡ bytes_in (formed Long Votes) x }
+// Puts the three parts into a buffer of their length, unless there is a refusal.
+fn write_parts(
+    out: &mut [u8],
+    head: &[u8],
+    sets: &[u8],
+    more: &[u8],
+    asked: Result<(), Refusal>,
+) -> Result<(), Refusal>
+    requires head_fits { length head.now ≤ 12 }
+    requires sets_fit { length sets.now ≤ 8 }
+    requires more_fits { length more.now ≤ 4 }
+    ensures { PutUnless (head.now ++ (sets.now ++ more.now)) (reply_of asked) out.old out.new (reply_of result) }
 {
-    [
-        low_byte(Telegram::LONG_MARK / 256),
-        low_byte(Telegram::LONG_MARK),
-        x.kind,
-        x.n,
-        x.f,
-        x.from,
-        x.to,
-        x.spare,
-        low_byte(x.order / 65536 / 256),
-        low_byte(x.order / 65536),
-        low_byte(x.order / 256),
-        low_byte(x.order),
-        low_byte(x.votes.known / 65536 / 256),
-        low_byte(x.votes.known / 65536),
-        low_byte(x.votes.known / 256),
-        low_byte(x.votes.known),
-        low_byte(x.votes.willing / 65536 / 256),
-        low_byte(x.votes.willing / 65536),
-        low_byte(x.votes.willing / 256),
-        low_byte(x.votes.willing),
-    ]
+    if out.len() != head.len() + sets.len() + more.len() {
+        return Err(Refusal::Length);
+    }
+    asked?;
+    let (first, rest) = out.split_at_mut(head.len());
+    let (second, third) = rest.split_at_mut(sets.len());
+    first.copy_from_slice(head);
+    second.copy_from_slice(sets);
+    third.copy_from_slice(more);
+    Ok(())
 }
 
-fn short_ballot_bytes(x: Fields) -> [u8; 20]
-    ensures { result ≡ bytes_in (formed Short Ballot) x }
+fn write_body(
+    out: &mut [u8],
+    body: MessageBody,
+    head: &[u8],
+    sets: &[u8],
+    x: BallotFields,
+    asked: Result<(), Refusal>,
+) -> Result<(), Refusal>
+    requires head_fits { length head.now ≤ 12 }
+    requires sets_fit { length sets.now ≤ 8 }
+    ensures { PutUnless (head.now ++ (sets.now ++ more_numbers body x)) (reply_of asked) out.old out.new (reply_of result) }
 {
-    [
-        low_byte(Telegram::SHORT_MARK / 256),
-        low_byte(Telegram::SHORT_MARK),
-        x.kind,
-        x.n,
-        x.f,
-        x.from,
-        x.to,
-        x.spare,
-        low_byte(x.order / 65536 / 256),
-        low_byte(x.order / 65536),
-        low_byte(x.order / 256),
-        low_byte(x.order),
-        low_byte(x.votes.known / 256),
-        low_byte(x.votes.known),
-        low_byte(x.votes.willing / 256),
-        low_byte(x.votes.willing),
-        x.more.ballot,
-        x.more.last,
-        x.more.word,
-        x.more.spare,
-    ]
-}
-
-fn long_ballot_bytes(x: Fields) -> [u8; 24]
-    ensures { result ≡ bytes_in (formed Long Ballot) x }
-{
-    [
-        low_byte(Telegram::LONG_MARK / 256),
-        low_byte(Telegram::LONG_MARK),
-        x.kind,
-        x.n,
-        x.f,
-        x.from,
-        x.to,
-        x.spare,
-        low_byte(x.order / 65536 / 256),
-        low_byte(x.order / 65536),
-        low_byte(x.order / 256),
-        low_byte(x.order),
-        low_byte(x.votes.known / 65536 / 256),
-        low_byte(x.votes.known / 65536),
-        low_byte(x.votes.known / 256),
-        low_byte(x.votes.known),
-        low_byte(x.votes.willing / 65536 / 256),
-        low_byte(x.votes.willing / 65536),
-        low_byte(x.votes.willing / 256),
-        low_byte(x.votes.willing),
-        x.more.ballot,
-        x.more.last,
-        x.more.word,
-        x.more.spare,
-    ]
-}
-
-// The bytes of each form, put into a buffer of their length unless there is a refusal.
-fn write_short(out: &mut [u8], x: Fields, refusal: u8) -> u8
-    ensures { PutUnless (bytes_in (formed Short Votes) x) refusal out.old out.new result }
-{
-    let content = short_bytes(x);
-    write_record(out, &content, refusal)
-}
-
-fn write_long(out: &mut [u8], x: Fields, refusal: u8) -> u8
-    ensures { PutUnless (bytes_in (formed Long Votes) x) refusal out.old out.new result }
-{
-    let content = long_bytes(x);
-    write_record(out, &content, refusal)
-}
-
-fn write_short_ballot(out: &mut [u8], x: Fields, refusal: u8) -> u8
-    ensures { PutUnless (bytes_in (formed Short Ballot) x) refusal out.old out.new result }
-{
-    let content = short_ballot_bytes(x);
-    write_record(out, &content, refusal)
-}
-
-fn write_long_ballot(out: &mut [u8], x: Fields, refusal: u8) -> u8
-    ensures { PutUnless (bytes_in (formed Long Ballot) x) refusal out.old out.new result }
-{
-    let content = long_ballot_bytes(x);
-    write_record(out, &content, refusal)
-}
-
-fn write_votes(out: &mut [u8], width: MessageWidth, x: Fields, refusal: u8) -> u8
-    ensures { PutUnless (bytes_in (formed width Votes) x) refusal out.old out.new result }
-{
-    match width {
-        MessageWidth::Short => write_short(&mut *out, x, refusal),
-        MessageWidth::Long => write_long(&mut *out, x, refusal),
+    match body {
+        MessageBody::Votes => write_parts(out, head, sets, &[], asked),
+        MessageBody::Ballot => {
+            let more = [x.ballot, x.last, x.word, x.spare];
+            write_parts(out, head, sets, &more, asked)
+        }
     }
 }
 
-fn write_ballot(out: &mut [u8], width: MessageWidth, x: Fields, refusal: u8) -> u8
-    ensures { PutUnless (bytes_in (formed width Ballot) x) refusal out.old out.new result }
-{
-    match width {
-        MessageWidth::Short => write_short_ballot(&mut *out, x, refusal),
-        MessageWidth::Long => write_long_ballot(&mut *out, x, refusal),
-    }
-}
-
-pub(crate) fn write_in(out: &mut [u8], form: TelegramForm, x: Fields, refusal: u8) -> u8
-    ensures { PutUnless (bytes_in form x) refusal out.old out.new result }
+pub(crate) fn write_in(
+    out: &mut [u8],
+    form: TelegramForm,
+    x: Fields,
+    asked: Result<(), Refusal>,
+) -> Result<(), Refusal>
+    ensures { PutUnless (bytes_in form x) (reply_of asked) out.old out.new (reply_of result) }
 {
     let width = form.width;
     let body = form.body;
-    match body {
-        MessageBody::Votes => write_votes(&mut *out, width, x, refusal),
-        MessageBody::Ballot => write_ballot(&mut *out, width, x, refusal),
+    let votes = x.votes;
+    let more = x.more;
+    let head = head_bytes(mark_of(width), x);
+    match width {
+        MessageWidth::Short => write_body(out, body, &head, &short_sets(votes), more, asked),
+        MessageWidth::Long => write_body(out, body, &head, &long_sets(votes), more, asked),
     }
 }

@@ -34,7 +34,7 @@ use Rattle.message_record.specs.declared.MessageBody.TheVariants.{Votes, Ballot}
 use Rattle.message_record.specs.declared.MessageWidth.{MessageWidth}
 use Rattle.message_record.specs.declared.MessageWidth.TheVariants.{Short, Long}
 use Rattle.message_record.specs.declared.Fields.{Fields}
-use Rattle.message_record.specs.declared.ReadTelegram.TheVariants.{Read}
+use Rattle.std.specs.Prelude.{Ok}
 use Rattle.message_record.specs.Messages.{bits_in_range, willing_known, knows_for_kind, suits, about_message}
 use Rattle.message_record.specs.BallotMessages.{tells_for_kind, ballot_suits, about_ballot}
 use Rattle.message_record.specs.Telegrams.{about_telegram, size_of, formed, short_limit, width_for, suits_width, mark_of, set_width, numbers_in, fields_in, fields_of, telegram_of, listed_in, asked_in, telegram_form, form_of_twenty, form_for, form_of, telegrams}
@@ -172,8 +172,6 @@ lawful = record {
   fit = fit;
   told-apart = λ k. told-apart k.width k.body;
   own = λ k v l all. own k.width k.body (fields_in v) all;
-  answer-read = λ t. refl;
-  answer-refusal = λ q. refl;
 }
 
 pub promises : Promises telegrams
@@ -199,10 +197,10 @@ unfolding about_ballot fields_of
 ballot_in_32 Short b h all = (h, tt)
 ballot_in_32 Long b h all = let x : SetsFit four b.votes = empty-sets-fit four b all.1.1.1.0 in (h, (x.0, (x.1, tt)))
 
-pub message-back : (m : Message) → m.order < 2 ^ 32 → first_no (about_message m) ≡ accepted → reads telegrams (bytes_of telegrams (Plain m)) ≡ Read (Plain m)
+pub message-back : (m : Message) → m.order < 2 ^ 32 → first_no (about_message m) ≡ accepted → reads telegrams (bytes_of telegrams (Plain m)) ≡ Ok (Plain m)
 unfolding form_of
 message-back m h p = promises.reads-back (Plain m) (message_in_32 (width_for m.n) m h (all_yes (about_message m) p)) (own-passes m p)
 
-pub ballot-back : (b : BallotMessage) → b.order < 2 ^ 32 → first_no (about_ballot b) ≡ accepted → reads telegrams (bytes_of telegrams (OfBallot b)) ≡ Read (OfBallot b)
+pub ballot-back : (b : BallotMessage) → b.order < 2 ^ 32 → first_no (about_ballot b) ≡ accepted → reads telegrams (bytes_of telegrams (OfBallot b)) ≡ Ok (OfBallot b)
 unfolding form_of
 ballot-back b h p = promises.reads-back (OfBallot b) (ballot_in_32 (width_for b.n) b h (all_yes (about_ballot b) p)) (telegram-passes (OfBallot b) p)

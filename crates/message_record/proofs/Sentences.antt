@@ -24,19 +24,18 @@ use Rattle.model.specs.declared.Outcome.TheVariants.{None, Stay, Move}
 use Rattle.model.specs.declared.Telegram.{Telegram}
 use Rattle.model.specs.declared.Telegram.TheVariants.{Plain, OfBallot}
 use Rattle.records.specs.Bytes.{byte, number2}
-use Rattle.records.specs.Codec.{form_length, fields_by, value_by, form_bytes, form_questions, bytes_of, returned, reads, write_reply}
+use Rattle.records.specs.Codec.{form_length, fields_by, value_by, form_bytes, form_questions, answer_of, bytes_of, returned, reads, write_reply}
 use Rattle.records.specs.Codes.{is_kind, is_ballot_kind, is_outcome, unused}
 use Rattle.message_record.specs.declared.MessageBody.{MessageBody}
 use Rattle.message_record.specs.declared.MessageBody.TheVariants.{Votes, Ballot}
 use Rattle.message_record.specs.declared.MessageWidth.{MessageWidth}
 use Rattle.message_record.specs.declared.MessageWidth.TheVariants.{Short, Long}
-use Rattle.message_record.specs.declared.ReadTelegram.{ReadTelegram}
-use Rattle.message_record.specs.declared.ReadTelegram.TheVariants.{Refused}
+use Rattle.std.specs.Prelude.{Result, Err}
 use Rattle.message_record.specs.declared.TelegramForm.{TelegramForm}
 use Rattle.message_record.specs.Messages.{suits, about_message}
 use Rattle.message_record.specs.BallotMessages.{tells_nothing, tells_word, reports_last, tells_for_kind, ballot_suits, about_ballot}
-use Rattle.message_record.specs.Telegrams.{answer_of, formed, short_limit, width_for, suits_width, mark_of, fields_in, fields_of, telegram_of, listed_in, asked_in, telegram_form, form_of_twenty, form_for, form_of, telegrams}
-use Rattle.message_record.specs.OldCabinets.{refusal, as_now, old_sizes, old_form, old_messages}
+use Rattle.message_record.specs.Telegrams.{formed, short_limit, width_for, suits_width, mark_of, fields_in, fields_of, telegram_of, listed_in, asked_in, telegram_form, form_of_twenty, form_for, form_of, telegrams}
+use Rattle.message_record.specs.OldCabinets.{as_now, old_sizes, old_form, old_messages}
 use Rattle.message_record.specs.Forms.{Suited, Forms}
 
 -- in which form a telegram is written
@@ -159,9 +158,9 @@ not-below k (q ∷ qs) t e = elim (split q.yes) [
 ]
 
 -- a reader's refusal is one of the questions
-told : (r : Reply) (t : Telegram) (k : ℕ) → (k ≡ 0 → ⊥) → returned telegrams r t ≡ Refused k → r ≡ refused k
-told accepted t k n e = absurd (n (sym (ap (λ (x : ReadTelegram). (answer_of x).number) e)))
-told (refused q) t k n e = ap refused (ap (λ (x : ReadTelegram). (answer_of x).number) e)
+told : (r : Reply) (t : Telegram) (k : ℕ) → (k ≡ 0 → ⊥) → returned telegrams r t ≡ Err k → r ≡ refused k
+told accepted t k n e = absurd (n (sym (ap (λ (x : Result Telegram ℕ). (answer_of x).number) e)))
+told (refused q) t k n e = ap refused (ap (λ (x : Result Telegram ℕ). (answer_of x).number) e)
 
 -- the questions from 3 on
 later : TelegramForm → List ℕ → List Question
@@ -177,7 +176,7 @@ unfolding later above about_message about_ballot telegram_of
 later-above_1 w Votes s = refl
 later-above_1 w Ballot s = refl
 
-admitted : (w : MessageWidth) (b : MessageBody) (s : List ℕ) → form_for (length s) (number2 s 0) ≡ formed w b → length s ≡ form_length (telegram_form (formed w b)) → reads telegrams s ≡ Refused 1 → ⊥
+admitted : (w : MessageWidth) (b : MessageBody) (s : List ℕ) → form_for (length s) (number2 s 0) ≡ formed w b → length s ≡ form_length (telegram_form (formed w b)) → reads telegrams s ≡ Err 1 → ⊥
 unfolding first_no unless later above
 admitted w b s e l one =
     let asked : first_no (form_questions (telegram_form (formed w b)) s) ≡ refused 1 = told _ _ 1 (λ z. omega arith) (sym (read_by (formed w b) s e) ∙ one) in
@@ -185,7 +184,7 @@ admitted w b s e l one =
     not-below 1 (ask 2 (eqb (number2 s 0) (mark_of w)) ∷ later (formed w b) s) (later-above_1 w b s) (rw yes at asked)
 
 mark_admitted : (w : MessageWidth) (b : MessageBody) (s : List ℕ) → form_for (length s) (number2 s 0) ≡ formed w b → length s ≡ form_length (telegram_form (formed w b)) → number2 s 0 ≡ mark_of w
-    → reads telegrams s ≡ Refused 2 → ⊥
+    → reads telegrams s ≡ Err 2 → ⊥
 unfolding first_no unless later
 mark_admitted w b s e l m two =
     let asked : first_no (form_questions (telegram_form (formed w b)) s) ≡ refused 2 = told _ _ 2 (λ z. omega arith) (sym (read_by (formed w b) s e) ∙ two) in
@@ -193,41 +192,41 @@ mark_admitted w b s e l m two =
     let right : eqb (number2 s 0) (mark_of w) ≡ true = eq-eqb _ _ m in
     not-below 2 (later (formed w b) s) (later-above_2 w b s) (rw right at (rw long at asked))
 
-admits_20 : (s : List ℕ) → length s ≡ 20 → reads telegrams s ≡ Refused 1 → ⊥
+admits_20 : (s : List ℕ) → length s ≡ 20 → reads telegrams s ≡ Err 1 → ⊥
 admits_20 s l = elim (split (eqb (number2 s 0) 0x4C4B)) [
   | inl y ↦ admitted Short Ballot s (by-short_20 s l (eqb-true (number2 s 0) 0x4C4B y)) l
   | inr n ↦ admitted Long Votes s (by-long_20 s l (eqb-false (number2 s 0) 0x4C4B n)) l
 ]
 
-either-mark : (s : List ℕ) → length s ≡ 20 → (number2 s 0 ≡ 0x4C4B) ⊎ (number2 s 0 ≡ 0x4C4C) → reads telegrams s ≡ Refused 2 → ⊥
+either-mark : (s : List ℕ) → length s ≡ 20 → (number2 s 0 ≡ 0x4C4B) ⊎ (number2 s 0 ≡ 0x4C4C) → reads telegrams s ≡ Err 2 → ⊥
 either-mark s l (inl m) = mark_admitted Short Ballot s (by-short_20 s l m) l m
 either-mark s l (inr m) = mark_admitted Long Votes s (by-long_20 s l (λ z. omega arith)) l m
 
-no_other : (s : List ℕ) → (length s ≡ 16 → ⊥) → (length s ≡ 20 → ⊥) → (length s ≡ 24 → ⊥) → reads telegrams s ≡ Refused 1
+no_other : (s : List ℕ) → (length s ≡ 16 → ⊥) → (length s ≡ 20 → ⊥) → (length s ≡ 24 → ⊥) → reads telegrams s ≡ Err 1
 unfolding first_no unless
 no_other s a b c = read_by (formed Short Votes) s (other_length s b c) ∙ rw (ne_eqb (length s) 16 a)
 
 -- what a form answers to bytes of its length: to another mark, to fields that are not listed, to another n
 wrong-mark : (w : MessageWidth) (b : MessageBody) (s : List ℕ) → form_for (length s) (number2 s 0) ≡ formed w b → length s ≡ form_length (telegram_form (formed w b)) → (number2 s 0 ≡ mark_of w → ⊥)
-    → reads telegrams s ≡ Refused 2
+    → reads telegrams s ≡ Err 2
 unfolding first_no unless
 wrong-mark w b s e l m = read_by (formed w b) s e ∙ rw (eq-eqb (length s) (form_length (telegram_form (formed w b))) l, ne_eqb (number2 s 0) (mark_of w) m)
 
 not_listed : (w : MessageWidth) (b : MessageBody) (s : List ℕ) → form_for (length s) (number2 s 0) ≡ formed w b → length s ≡ form_length (telegram_form (formed w b)) → number2 s 0 ≡ mark_of w
-    → listed_in b (fields_in (fields_by (telegram_form (formed w b)) s)) ≡ false → reads telegrams s ≡ Refused 3
+    → listed_in b (fields_in (fields_by (telegram_form (formed w b)) s)) ≡ false → reads telegrams s ≡ Err 3
 unfolding first_no unless
 not_listed w b s e l m n =
     read_by (formed w b) s e ∙ rw (eq-eqb (length s) (form_length (telegram_form (formed w b))) l, eq-eqb (number2 s 0) (mark_of w) m, n)
 
 size-refused : (w : MessageWidth) (b : MessageBody) (s : List ℕ) → length s ≡ form_length (telegram_form (formed w b)) → number2 s 0 ≡ mark_of w
     → listed_in b (fields_in (fields_by (telegram_form (formed w b)) s)) ≡ true → suits_width w (byte s 3) ≡ false
-    → returned telegrams (first_no (form_questions (telegram_form (formed w b)) s)) (value_by (telegram_form (formed w b)) s) ≡ Refused 4
+    → returned telegrams (first_no (form_questions (telegram_form (formed w b)) s)) (value_by (telegram_form (formed w b)) s) ≡ Err 4
 unfolding first_no unless fields_in telegram_of
 size-refused w Votes s l m y n = rw (eq-eqb (length s) (form_length (telegram_form (formed w Votes))) l, eq-eqb (number2 s 0) (mark_of w) m, y, n)
 size-refused w Ballot s l m y n = rw (eq-eqb (length s) (form_length (telegram_form (formed w Ballot))) l, eq-eqb (number2 s 0) (mark_of w) m, y, n)
 
 wrong_size : (w : MessageWidth) (b : MessageBody) (s : List ℕ) → form_for (length s) (number2 s 0) ≡ formed w b → length s ≡ form_length (telegram_form (formed w b)) → number2 s 0 ≡ mark_of w
-    → listed_in b (fields_in (fields_by (telegram_form (formed w b)) s)) ≡ true → suits_width w (byte s 3) ≡ false → reads telegrams s ≡ Refused 4
+    → listed_in b (fields_in (fields_by (telegram_form (formed w b)) s)) ≡ true → suits_width w (byte s 3) ≡ false → reads telegrams s ≡ Err 4
 wrong_size w b s e l m y n = read_by (formed w b) s e ∙ size-refused w b s l m y n
 
 -- listed or not, by the bytes
@@ -368,11 +367,11 @@ between-any-two b four seven eight s =
     )
 
 -- document 01's reader asks for 16 bytes
-old-long : (m : Message) → reads old_messages (form_bytes (telegram_form (formed Long Votes)) (Plain m)) ≡ refusal 1
+old-long : (m : Message) → reads old_messages (form_bytes (telegram_form (formed Long Votes)) (Plain m)) ≡ Err 1
 unfolding reads first_no unless
 old-long m = refl
 
-old-ballot : (w : MessageWidth) (b : BallotMessage) → reads old_messages (form_bytes (telegram_form (formed w Ballot)) (OfBallot b)) ≡ refusal 1
+old-ballot : (w : MessageWidth) (b : BallotMessage) → reads old_messages (form_bytes (telegram_form (formed w Ballot)) (OfBallot b)) ≡ Err 1
 unfolding reads first_no unless
 old-ballot Short b = refl
 old-ballot Long b = refl

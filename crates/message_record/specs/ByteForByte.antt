@@ -1,5 +1,5 @@
 -- Telegrams of each form, byte for byte (document 02, U12 and U14).
-use Rattle.std.specs.Prelude.{ℕ, ◌≡◌, List, [], ◌∷◌, length, replicate}
+use Rattle.std.specs.Prelude.{ℕ, ◌≡◌, List, [], ◌∷◌, length, replicate, Ok}
 use Rattle.model.specs.declared.Kind.{Kind}
 use Rattle.model.specs.declared.Kind.TheVariants.{Vote, Ack}
 use Rattle.model.specs.declared.BallotKind.{BallotKind}
@@ -9,7 +9,6 @@ use Rattle.model.specs.declared.Outcome.TheVariants.{None, Stay, Move}
 use Rattle.model.specs.declared.Telegram.{Telegram}
 use Rattle.model.specs.declared.Telegram.TheVariants.{Plain, OfBallot}
 use Rattle.records.specs.Codec.{reads, writes}
-use Rattle.message_record.specs.declared.ReadTelegram.TheVariants.{Read}
 use Rattle.message_record.specs.Telegrams.{telegrams}
 
 abbrev telegram : Kind → ℕ → ℕ → ℕ → ℕ → ℕ → ℕ → ℕ → Telegram
@@ -23,7 +22,7 @@ of_ballot kind n f from to order ballot last word =
 
 -- the telegram is written as those bytes, and read back from them
 abbrev StandsAs : Telegram → List ℕ → Type 0
-StandsAs t s = (writes telegrams (replicate (length s) 0) t ≡ s) × (reads telegrams s ≡ Read t)
+StandsAs t s = (writes telegrams (replicate (length s) 0) t ≡ s) × (reads telegrams s ≡ Ok t)
 
 pub record ByteForByte : Type 0 where
   -- the acknowledgement of 1 to 16, which knows all of 1 to 16: all but 16 are willing

@@ -1,31 +1,21 @@
 -- Document 01's telegram, as cabinets of before document 02, U12 read and write it: locks of 2 to 16 controllers, one form, kinds 1 to 4.
-use Rattle.std.specs.Prelude.{ℕ, Bool, ◌&&◌, List, [], ◌∷◌, leb, ltb, get_or}
+use Rattle.std.specs.Prelude.{ℕ, Bool, ◌&&◌, List, [], ◌∷◌, leb, ltb, get_or, Result, Ok, Err}
 use Rattle.model.specs.Numbers.{kind_number}
 use Rattle.model.specs.Questions.{ask}
 use Rattle.model.specs.Ranges.{different_controllers}
 use Rattle.model.specs.Routes.{route}
 use Rattle.model.specs.declared.Message.{Message}
+use Rattle.model.specs.declared.Telegram.{Telegram}
 use Rattle.model.specs.declared.Telegram.TheVariants.{Plain}
 use Rattle.records.specs.Bytes.{one, two, four}
 use Rattle.records.specs.Codes.{is_kind, kind_of, unused}
-use Rattle.records.specs.Codec.{marked, Reading, is_record, is_refusal, Form, Codec, one_form}
-use Rattle.message_record.specs.declared.ReadTelegram.{ReadTelegram}
-use Rattle.message_record.specs.declared.ReadTelegram.TheVariants.{Read, Refused}
+use Rattle.records.specs.Codec.{marked, Form, Codec, one_form}
 use Rattle.message_record.specs.Messages.{suits}
 
--- what its reader returns
-pub data OldRead : Type 0 where
-  message : Message → OldRead
-  refusal : ℕ → OldRead
-
-abbrev pub old_answer : OldRead → Reading Message
-old_answer (message m) = is_record m
-old_answer (refusal q) = is_refusal q
-
--- the same as an answer of today's reader
-abbrev pub as_now : OldRead → ReadTelegram
-as_now (message m) = Read (Plain m)
-as_now (refusal q) = Refused q
+-- what its reader returns, as an answer of today's
+abbrev pub as_now : Result Message ℕ → Result Telegram ℕ
+as_now (Ok m) = Ok (Plain m)
+as_now (Err q) = Err q
 
 -- "n from 2 to 16; f from 1 to n − 1"
 unfoldable pub old_sizes : ℕ → ℕ → Bool
@@ -60,5 +50,5 @@ old_form = record {
       ∷ [];
 }
 
-abbrev pub old_messages : Codec (Unit {0}) Message OldRead
-old_messages = one_form old_form message refusal old_answer
+abbrev pub old_messages : Codec (Unit {0}) Message
+old_messages = one_form old_form

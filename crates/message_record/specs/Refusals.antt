@@ -1,8 +1,8 @@
 -- What reading answers to bytes of each form: none with a fault, then one fault each, in the sequence of the questions; last, faults of two questions.
 use Rattle.std.specs.Prelude.{ℕ, ◌≡◌, Bool, true, ◌&&◌, List, [], ◌∷◌, ◌++◌, eqb}
 use Rattle.records.specs.Bytes.{bytes2, bytes4}
-use Rattle.records.specs.Codec.{reads}
-use Rattle.message_record.specs.Telegrams.{answer_of, telegrams}
+use Rattle.records.specs.Codec.{answer_of, reads}
+use Rattle.message_record.specs.Telegrams.{telegrams}
 
 -- bytes, and the number that they get: 0 for a record
 pub record Trial : Type 0 where

@@ -1,5 +1,5 @@
 -- Telegrams as records, in four forms: document 01, "Records"; document 02, U12 (two widths) and U14 (with a ballot's four bytes more, and without).
-use Rattle.std.specs.Prelude.{ℕ, ◌+◌, Bool, cond, ◌&&◌, List, [], ◌∷◌, ◌++◌, eqb, leb, ltb, get_or, length}
+use Rattle.std.specs.Prelude.{ℕ, ◌+◌, Bool, cond, ◌&&◌, List, [], ◌∷◌, ◌++◌, eqb, leb, ltb, get_or, length, Result}
 use Rattle.model.specs.Numbers.{kind_number, ballot_kind_number, outcome_number}
 use Rattle.model.specs.Questions.{Question, ask}
 use Rattle.model.specs.declared.BallotMessage.{BallotMessage}
@@ -9,23 +9,16 @@ use Rattle.model.specs.declared.Telegram.TheVariants.{Plain, OfBallot}
 use Rattle.votes.specs.declared.VoteSet.{VoteSet}
 use Rattle.records.specs.Bytes.{byte, number2, Width, one, two, four, size, number_at, bytes_of_widths}
 use Rattle.records.specs.Codes.{is_kind, kind_of, is_ballot_kind, ballot_kind_of, is_outcome, outcome_of, unused}
-use Rattle.records.specs.Codec.{marked, mark_bytes, Reading, is_record, is_refusal, Form, form_length, Codec}
+use Rattle.records.specs.Codec.{marked, mark_bytes, Form, form_length, Codec}
 use Rattle.message_record.specs.declared.BallotFields.{BallotFields}
 use Rattle.message_record.specs.declared.Fields.{Fields}
 use Rattle.message_record.specs.declared.MessageBody.{MessageBody}
 use Rattle.message_record.specs.declared.MessageBody.TheVariants.{Votes, Ballot}
 use Rattle.message_record.specs.declared.MessageWidth.{MessageWidth}
 use Rattle.message_record.specs.declared.MessageWidth.TheVariants.{Short, Long}
-use Rattle.message_record.specs.declared.ReadTelegram.{ReadTelegram}
-use Rattle.message_record.specs.declared.ReadTelegram.TheVariants.{Read, Refused}
 use Rattle.message_record.specs.declared.TelegramForm.{TelegramForm}
 use Rattle.message_record.specs.Messages.{about_message}
 use Rattle.message_record.specs.BallotMessages.{about_ballot}
-
--- what the reader's answer says
-abbrev pub answer_of : ReadTelegram → Reading Telegram
-answer_of (Read t) = is_record t
-answer_of (Refused q) = is_refusal q
 
 -- what is asked of a telegram
 abbrev pub about_telegram : Telegram → List Question
@@ -184,15 +177,16 @@ form_for l mark =
 unfoldable pub form_of : Telegram → TelegramForm
 form_of t = formed (width_for (size_of t)) (body_of t)
 
-abbrev pub telegrams : Codec TelegramForm Telegram ReadTelegram
+abbrev pub telegrams : Codec TelegramForm Telegram
 telegrams = record {
   form = telegram_form;
   form_on = λ s. form_for (length s) (number2 s 0);
   form_of = form_of;
-  read = Read;
-  refusal = Refused;
-  answer = answer_of;
 }
+
+-- what its reader returns
+abbrev pub ReadTelegram : Type 0
+ReadTelegram = Result Telegram ℕ
 
 -- the questions from 4 on, in their sequence: 4 is asked of n and the form, then of n and f
 abbrev pub asked_of : MessageBody → List ℕ

@@ -1,10 +1,11 @@
 // What is asked of a telegram of a ballot, read or to be written.
 ghost use Rattle.std.specs.Prelude.{◌≡◌};
-ghost use Rattle.model.specs.Questions.{first_no, number};
+ghost use Rattle.model.specs.Questions.{first_no};
+ghost use Rattle.model.specs.Refusals.{reply_of};
 ghost use Rattle.message_record.specs.BallotMessages.{tells_nothing, tells_word, reports_last, tells_for_kind, ballot_suits, about_ballot};
 
 use crate::questions::head_question;
-use model::{BallotKind, BallotMessage, Outcome, is_none};
+use model::{BallotKind, BallotMessage, Outcome, Refusal, is_none};
 
 // Question 9: "Ask has the middle two 0".
 fn tells_nothing(last: u8, word: Outcome) -> bool
@@ -57,19 +58,16 @@ pub fn ballot_suits(b: BallotMessage) -> bool
     tells_for_kind(kind, b.ballot, b.last, word)
 }
 
-// Questions 4, 7, 8, 9 and 28: 0, or the number of the first that is answered "no".
-pub(crate) fn ballot_question(b: BallotMessage) -> u8
-    ensures { result ≡ number (first_no (about_ballot b)) }
+// Questions 4, 7, 8, 9 and 28.
+pub(crate) fn ballot_question(b: BallotMessage) -> Result<(), Refusal>
+    ensures { reply_of result ≡ first_no (about_ballot b) }
 {
-    let no = head_question(b.n, b.f, b.from, b.to, b.order);
-    if no != 0 {
-        return no;
-    }
+    head_question(b.n, b.f, b.from, b.to, b.order)?;
     if !ballot_suits(b) {
-        return 9;
+        return Err(Refusal::VoteSet);
     }
-    if !model::is_ballot(b.ballot as u32) {
-        return 28;
+    if !model::is_ballot(u32::from(b.ballot)) {
+        return Err(Refusal::Ballot);
     }
-    0
+    Ok(())
 }

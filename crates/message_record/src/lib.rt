@@ -7,22 +7,14 @@ mod questions;
 
 ghost use Rattle.std.specs.Prelude.{◌≡◌, ◌∷◌};
 ghost use Rattle.records.specs.Promises.{Promises, AskedInSequence};
-ghost use Rattle.message_record.specs.Telegrams.{answer_of, asked_of, telegrams};
+ghost use Rattle.message_record.specs.Telegrams.{asked_of, telegrams};
 ghost use Rattle.message_record.specs.Forms.{Forms};
 ghost use Rattle.message_record.specs.ByteForByte.{ByteForByte};
 ghost use Rattle.message_record.specs.Refusals.{Refusals};
 
 pub use ballots::ballot_suits;
-use model::Telegram;
 pub use questions::{suits, telegram_question};
 use votes::VoteSet;
-
-// A record, or the number of the first question that was answered "no".
-#[derive(Clone, Copy)]
-pub enum ReadTelegram {
-    Read(Telegram),
-    Refused(u8),
-}
 
 // How wide the two vote sets stand on the record: two bytes each in the short forms, for locks up to Telegram::SHORT_LIMIT controllers, and four in the long ones.
 #[derive(Clone, Copy)]
@@ -66,16 +58,6 @@ pub struct Fields {
     pub order: u32,
     pub votes: VoteSet,
     pub more: BallotFields,
-}
-
-// Document 01's number for a reader's answer: 0 for a record.
-pub fn answer_of(read: ReadTelegram) -> u8
-    ensures { result ≡ (answer_of read).number }
-{
-    match read {
-        ReadTelegram::Read(_) => 0,
-        ReadTelegram::Refused(q) => q,
-    }
 }
 
 // What is promised of these records: reading answers as the questions do, both round trips, no bytes of two forms, and a refused write's buffer.

@@ -1,11 +1,12 @@
 // What is asked of a telegram, read or to be written.
 ghost use Rattle.std.specs.Prelude.{◌≡◌};
-ghost use Rattle.model.specs.Questions.{first_no, number};
+ghost use Rattle.model.specs.Questions.{first_no};
+ghost use Rattle.model.specs.Refusals.{reply_of};
 ghost use Rattle.message_record.specs.Messages.{bits_in_range, knows_for_kind, suits, about_head, about_message};
 ghost use Rattle.message_record.specs.Telegrams.{about_telegram};
 
 use crate::ballots::ballot_question;
-use model::{Kind, Message, Telegram};
+use model::{Kind, Message, Refusal, Telegram};
 
 // Question 9: "No bit above n".
 fn bits_in_range(m: Message) -> bool
@@ -42,43 +43,41 @@ pub fn suits(m: Message) -> bool
     knows_for_kind(kind, m.from, set.known)
 }
 
-// Questions 4, 7 and 8, which are asked of every telegram: 0, or the number of the first that is answered "no".
-pub(crate) fn head_question(n: u8, f: u8, from: u8, to: u8, order: u32) -> u8
-    ensures { result ≡ number (first_no (about_head n f from to order)) }
+// Questions 4, 7 and 8, which are asked of every telegram.
+// stays (promise): `about_head n f from to order` and the theorems over `Message` and `BallotMessage` name these fields one by one; neither has a head of its own.
+pub(crate) fn head_question(n: u8, f: u8, from: u8, to: u8, order: u32) -> Result<(), Refusal>
+    ensures { reply_of result ≡ first_no (about_head n f from to order) }
 {
     if !model::sizes_in_range(n, f) {
-        return 4;
+        return Err(Refusal::Sizes);
     }
     if !model::different_controllers(n, from, to) {
-        return 7;
+        return Err(Refusal::Controllers);
     }
     if order < 1 {
-        return 8;
+        return Err(Refusal::OrderNumber);
     }
-    0
+    Ok(())
 }
 
 // These and 9 and 10.
-fn question(m: Message) -> u8
-    ensures { result ≡ number (first_no (about_message m)) }
+fn question(m: Message) -> Result<(), Refusal>
+    ensures { reply_of result ≡ first_no (about_message m) }
 {
-    let no = head_question(m.n, m.f, m.from, m.to, m.order);
-    if no != 0 {
-        return no;
-    }
+    head_question(m.n, m.f, m.from, m.to, m.order)?;
     if !suits(m) {
-        return 9;
+        return Err(Refusal::VoteSet);
     }
     let kind = m.kind;
     if !model::route(m.f, kind, m.from, m.to) {
-        return 10;
+        return Err(Refusal::Route);
     }
-    0
+    Ok(())
 }
 
-// What is asked of a telegram of either body: 0, or the number of the first question that is answered "no".
-pub fn telegram_question(t: Telegram) -> u8
-    ensures { result ≡ number (first_no (about_telegram t)) }
+// What is asked of a telegram of either body.
+pub fn telegram_question(t: Telegram) -> Result<(), Refusal>
+    ensures { reply_of result ≡ first_no (about_telegram t) }
 {
     match t {
         Telegram::Plain(m) => question(m),

@@ -6,3 +6,5 @@ pub mod Routes
 pub mod Numbers
 pub mod Questions
 pub mod QuestionLaws
+pub mod Refusals
+pub mod RefusalLaws

@@ -1,11 +1,13 @@
 -- The numbers that document 01 gives to kinds and outcomes ("Records"), and document 02, U14, to kinds of ballots.
-use Rattle.std.specs.Prelude.{ℕ, Bool, true, false}
+use Rattle.std.specs.Prelude.{ℕ, ◌≡◌, Bool, true, false, Result, MatchResult}
 use Rattle.model.specs.declared.Kind.{Kind}
 use Rattle.model.specs.declared.Kind.TheVariants.{Vote, Ack, Help, Helped}
 use Rattle.model.specs.declared.BallotKind.{BallotKind}
 use Rattle.model.specs.declared.BallotKind.TheVariants.{Prepare, Promise, Accept, Accepted}
 use Rattle.model.specs.declared.Outcome.{Outcome}
 use Rattle.model.specs.declared.Outcome.TheVariants.{None, Stay, Move}
+use Rattle.model.specs.declared.Refusal.{Refusal}
+use Rattle.model.specs.declared.Refusal.TheVariants.{Listed}
 
 -- "kind (1 vote, 2 acknowledgement, 3 help call, 4 help answer)"
 abbrev pub kind_number : Kind → ℕ
@@ -26,6 +28,10 @@ abbrev pub outcome_number : Outcome → ℕ
 outcome_number None = 0
 outcome_number Stay = 1
 outcome_number Move = 2
+
+-- a byte stands for the value that has its number; one that no value has is not listed (question 3)
+abbrev pub StandsFor : {A : Type 0} → (A → ℕ) → ℕ → Result A Refusal → Type 0
+StandsFor {A = A} number x r = MatchResult r (λ a. number a ≡ x) (λ q. (q ≡ Listed) × ((a : A) → number a ≡ x → ⊥))
 
 -- a word: true is Move
 abbrev pub word_of : Bool → Outcome

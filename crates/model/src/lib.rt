@@ -3,32 +3,32 @@
 
 mod numbers;
 mod ranges;
+mod refusals;
 mod routes;
 
-pub use numbers::{
-    ballot_kind_number, is_move, is_none, is_stay, kind_number, outcome_number, word_of,
-};
+pub use numbers::{is_move, is_none, is_stay, word_of};
 pub use ranges::{
     different_controllers, is_backup, is_ballot, is_controller, position_in_range, sizes_in_range,
 };
+pub use refusals::{answer_number, ask};
 pub use routes::{recipients, route};
 use votes::VoteSet;
 
-// The kinds of telegram, numbered 1 to 4 on a record: vote, acknowledgement, help call, help answer.
-#[derive(Clone, Copy)]
+// The kinds of telegram, by their numbers on a record: vote, acknowledgement, help call, help answer.
+#[derive(Clone, Copy, Debug, PartialEq, Eq)]
 pub enum Kind {
-    Vote,
-    Ack,
-    Help,
-    Helped,
+    Vote = 1,
+    Ack = 2,
+    Help = 3,
+    Helped = 4,
 }
 
-// An outcome, a word put, or the arbiter's word; None where there is none.
-#[derive(Clone, Copy)]
+// An outcome, a word put, or the arbiter's word, by their numbers on a record; None where there is none.
+#[derive(Clone, Copy, Debug, PartialEq, Eq)]
 pub enum Outcome {
-    None,
-    Stay,
-    Move,
+    None = 0,
+    Stay = 1,
+    Move = 2,
 }
 
 // A telegram.
@@ -43,13 +43,13 @@ pub struct Message {
     pub votes: VoteSet,
 }
 
-// The kinds of telegram of a ballot, numbered 5 to 8 on a record: ask, promise, put, taken.
-#[derive(Clone, Copy)]
+// The kinds of telegram of a ballot, by their numbers on a record: ask, promise, put, taken.
+#[derive(Clone, Copy, Debug, PartialEq, Eq)]
 pub enum BallotKind {
-    Prepare,
-    Promise,
-    Accept,
-    Accepted,
+    Prepare = 5,
+    Promise = 6,
+    Accept = 7,
+    Accepted = 8,
 }
 
 // A telegram of a ballot (document 02, U14): beside what every telegram has, its ballot, the ballot that its sender last took (0 none), and a word.
@@ -119,7 +119,43 @@ pub enum Event {
     OfBallots { event: BallotEvent },
 }
 
+// The questions of the documents, by their numbers: what is refused names the first one that it fails.
+#[derive(Clone, Copy, Debug, PartialEq, Eq)]
+pub enum Refusal {
+    Length = 1,
+    Mark = 2,
+    Listed = 3,
+    Sizes = 4,
+    LockSetUp = 5,
+    NoLock = 6,
+    Controllers = 7,
+    OrderNumber = 8,
+    VoteSet = 9,
+    Route = 10,
+    Position = 11,
+    LaterOrder = 12,
+    GatesClosed = 13,
+    OrderOpen = 14,
+    Condition = 15,
+    Stage = 16,
+    Sent = 17,
+    WordPut = 18,
+    Saved = 19,
+    LevelRange = 20,
+    LevelOrder = 21,
+    Lockages = 22,
+    Drawn = 23,
+    Contradiction = 24,
+    Lock = 25,
+    Remembered = 26,
+    Schedules = 27,
+    Ballot = 28,
+    BallotWord = 29,
+    OwnCard = 30,
+}
+
 // What a schedule has: an event, or a step back (kind 9; document 02, U11). It stands above events: no rule and no question of one knows of it.
+// stays (no plainer): as an Option, a step back would be the lack of an event.
 #[derive(Clone, Copy)]
 pub enum Act {
     Play(Event),

@@ -1,38 +1,77 @@
-// The numbers of kinds and outcomes, and tests of an outcome.
+// Kinds and outcomes and their numbers, both ways; and tests of an outcome.
 ghost use Rattle.std.specs.Prelude.{◌≡◌};
-ghost use Rattle.model.specs.Numbers.{kind_number, ballot_kind_number, outcome_number, word_of, is_none, says_move, is_stay};
+ghost use Rattle.model.specs.Numbers.{kind_number, ballot_kind_number, outcome_number, StandsFor, word_of, is_none, says_move, is_stay};
 
-use crate::{BallotKind, Kind, Outcome};
+use crate::{BallotKind, Kind, Outcome, Refusal};
 
-pub fn kind_number(kind: Kind) -> u8
-    ensures { result ≡ kind_number kind }
-{
-    match kind {
-        Kind::Vote => 1,
-        Kind::Ack => 2,
-        Kind::Help => 3,
-        Kind::Helped => 4,
+impl From<Kind> for u8 {
+    ghost from_gives = { λ kind x. x ≡ kind_number kind };
+
+    fn from(kind: Kind) -> u8 {
+        kind as u8
     }
 }
 
-pub fn ballot_kind_number(kind: BallotKind) -> u8
-    ensures { result ≡ ballot_kind_number kind }
-{
-    match kind {
-        BallotKind::Prepare => 5,
-        BallotKind::Promise => 6,
-        BallotKind::Accept => 7,
-        BallotKind::Accepted => 8,
+impl TryFrom<u8> for Kind {
+    type Error = Refusal;
+
+    ghost try_from_gives = { StandsFor kind_number };
+
+    fn try_from(x: u8) -> Result<Self, Refusal> {
+        match x {
+            1 => Ok(Kind::Vote),
+            2 => Ok(Kind::Ack),
+            3 => Ok(Kind::Help),
+            4 => Ok(Kind::Helped),
+            _ => Err(Refusal::Listed),
+        }
     }
 }
 
-pub fn outcome_number(outcome: Outcome) -> u8
-    ensures { result ≡ outcome_number outcome }
-{
-    match outcome {
-        Outcome::None => 0,
-        Outcome::Stay => 1,
-        Outcome::Move => 2,
+impl From<BallotKind> for u8 {
+    ghost from_gives = { λ kind x. x ≡ ballot_kind_number kind };
+
+    fn from(kind: BallotKind) -> u8 {
+        kind as u8
+    }
+}
+
+impl TryFrom<u8> for BallotKind {
+    type Error = Refusal;
+
+    ghost try_from_gives = { StandsFor ballot_kind_number };
+
+    fn try_from(x: u8) -> Result<Self, Refusal> {
+        match x {
+            5 => Ok(BallotKind::Prepare),
+            6 => Ok(BallotKind::Promise),
+            7 => Ok(BallotKind::Accept),
+            8 => Ok(BallotKind::Accepted),
+            _ => Err(Refusal::Listed),
+        }
+    }
+}
+
+impl From<Outcome> for u8 {
+    ghost from_gives = { λ outcome x. x ≡ outcome_number outcome };
+
+    fn from(outcome: Outcome) -> u8 {
+        outcome as u8
+    }
+}
+
+impl TryFrom<u8> for Outcome {
+    type Error = Refusal;
+
+    ghost try_from_gives = { StandsFor outcome_number };
+
+    fn try_from(x: u8) -> Result<Self, Refusal> {
+        match x {
+            0 => Ok(Outcome::None),
+            1 => Ok(Outcome::Stay),
+            2 => Ok(Outcome::Move),
+            _ => Err(Refusal::Listed),
+        }
     }
 }
 
@@ -50,29 +89,17 @@ pub fn word_of(is_move: bool) -> Outcome
 pub fn is_none(outcome: Outcome) -> bool
     ensures { result ≡ is_none outcome }
 {
-    match outcome {
-        Outcome::None => true,
-        Outcome::Stay => false,
-        Outcome::Move => false,
-    }
+    outcome == Outcome::None
 }
 
 pub fn is_stay(outcome: Outcome) -> bool
     ensures { result ≡ is_stay outcome }
 {
-    match outcome {
-        Outcome::None => false,
-        Outcome::Stay => true,
-        Outcome::Move => false,
-    }
+    outcome == Outcome::Stay
 }
 
 pub fn is_move(outcome: Outcome) -> bool
     ensures { result ≡ says_move outcome }
 {
-    match outcome {
-        Outcome::None => false,
-        Outcome::Stay => false,
-        Outcome::Move => true,
-    }
+    outcome == Outcome::Move
 }

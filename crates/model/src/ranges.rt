@@ -11,7 +11,7 @@ pub fn sizes_in_range(n: u8, f: u8) -> bool
     if n < 2 {
         return false;
     }
-    if LIMIT < n as usize {
+    if LIMIT < usize::from(n) {
         return false;
     }
     1 <= f && f < n
@@ -62,5 +62,5 @@ pub fn is_backup(f: u8, k: u8) -> bool
 pub(crate) fn is_second_backup(f: u8, k: u8) -> bool
     ensures { result ≡ is_second_backup f k }
 {
-    k as u16 == f as u16 + 1
+    u16::from(k) == u16::from(f) + 1
 }

@@ -1,18 +1,19 @@
 // What is typed: lines, and what they stand for.
-ghost use Rattle.std.specs.Prelude.{◌≤◌, length};
+ghost use Rattle.std.specs.Prelude.{◌≤◌, length, IfSome};
 
-use event_record::{ReadEvent, read_event};
+use event_record::read_event;
 use model::{Act, Event};
 use schedule_input::{LONGEST_OUTPUT, LONGEST_TEXT, is_text, render_text};
-use schedule_text::{Turned, read};
+use schedule_text::{TurnError, read};
 use streams::{read_input, read_some, write_output};
-use text::put_bytes;
+use text::Writer;
 use words::{Class, end_of_run};
 
 // One byte more than a text may have, so that a longer one is known by it.
 pub const ROOM: usize = LONGEST_TEXT + 1;
 
 // What a line stands for: nothing, a call for help at a terminal, an act; or which of its words was not expected.
+// stays (no plainer): four things are done of a line, and none of them is an error of the others.
 #[derive(Clone, Copy)]
 pub enum Heard {
     Nothing,
@@ -21,83 +22,60 @@ pub enum Heard {
     Unexpected(usize),
 }
 
-// What was read: how many bytes of text lie in the buffer, and whether there is nothing more to do.
-#[derive(Clone, Copy)]
-pub struct First {
-    pub have: usize,
-    pub over: bool,
-}
-
-// Where the line ends that begins at a place, how many bytes were read by then, whether it is the last, and whether reading failed before its end.
+// Where the line ends that begins at a place, how many bytes were read by then, and whether it is the last.
 #[derive(Clone, Copy)]
 pub struct Found {
     pub end: usize,
     pub have: usize,
     pub last: bool,
-    pub over: bool,
 }
 
-// Records, all of them read, become their text at the buffer's front; what is refused is printed.
-fn text_of(rt: &HostRuntime, input: &mut [u8], have: usize) -> First
+// Records, all of them read, become their text at the buffer's front, so many bytes; what is refused is printed, and there is nothing more to do.
+fn text_of(rt: &HostRuntime, input: &mut [u8], have: usize) -> Option<usize>
     requires { have ≤ length input.old }
-    ensures { result.have ≤ length input.new }
+    ensures { IfSome result (λ n. n ≤ length input.new) }
 {
     let mut text = [0u8; LONGEST_OUTPUT];
     let n = render_text(&input[..have], &mut text);
     if text[0] == b'-' {
-        write_output(rt, &text[..n]);
-        return First {
-            have: 0,
-            over: true,
-        };
+        let _ = write_output(rt, &text[..n]);
+        return None;
     }
-    let end = put_bytes(&mut *input, 0, &text[..n]);
+    let mut w = Writer::new(&mut *input);
+    w.bytes(&text[..n]);
+    let end = w.at;
     if input.len() < end {
-        return First {
-            have: 0,
-            over: true,
-        };
+        return None;
     }
-    First {
-        have: end,
-        over: false,
-    }
+    Some(end)
 }
 
-// At a terminal nothing is read yet. Of anything else all is, so that its form can be told, and records become text.
-pub fn first_lines(rt: &HostRuntime, input: &mut [u8], terminal: bool) -> First
-    ensures { result.have ≤ length input.new }
+// How many bytes of text lie in the buffer, unless there is nothing more to do. At a terminal nothing is read yet. Of anything else all is, so that its form
+// can be told, and records become text.
+pub fn first_lines(rt: &HostRuntime, input: &mut [u8], terminal: bool) -> Option<usize>
+    ensures { IfSome result (λ n. n ≤ length input.new) }
 {
     if terminal {
-        return First {
-            have: 0,
-            over: false,
-        };
+        return Some(0);
     }
-    let got = read_input(rt, &mut *input);
-    if got.failed {
-        return First {
-            have: 0,
-            over: true,
-        };
-    }
-    let have = got.count;
+    let Ok(have) = read_input(rt, &mut *input) else {
+        return None;
+    };
     if is_text(&input[..have]) {
-        return First { have, over: false };
+        return Some(have);
     }
     text_of(rt, &mut *input, have)
 }
 
 // Reads on, once; a failure is told by the streams, and ends all.
-fn read_more(rt: &HostRuntime, input: &mut [u8], have: usize) -> First
+fn read_more(rt: &HostRuntime, input: &mut [u8], have: usize) -> Option<usize>
     requires { have ≤ length input.old }
-    ensures { result.have ≤ length input.new }
+    ensures { IfSome result (λ n. n ≤ length input.new) }
 {
-    let more = read_some(rt, &mut input[have..]);
-    First {
-        have: have + more.count,
-        over: more.failed,
-    }
+    let Ok(more) = read_some(rt, &mut input[have..]) else {
+        return None;
+    };
+    Some(have + more)
 }
 
 // Where the line ends that a place stands in.
@@ -110,52 +88,37 @@ fn line_end(s: &[u8], at: usize) -> usize
     end_of_run(s, at, Class::Line)
 }
 
-// Reads on until the line that begins at a place has ended.
-pub fn next_line(rt: &HostRuntime, input: &mut [u8], at: usize, have: usize) -> Found {
+// Reads on until the line that begins at a place has ended, unless reading fails before.
+pub fn next_line(rt: &HostRuntime, input: &mut [u8], at: usize, have: usize) -> Option<Found> {
     if input.len() < have {
-        return Found {
-            end: at,
-            have,
-            last: true,
-            over: true,
-        };
+        return None;
     }
     let mut have = have;
+    // stays (no plainer): each turn reads as much as there is
     while have < input.len() {
         let end = line_end(&input[..have], at);
         if end < have {
-            return Found {
+            return Some(Found {
                 end,
                 have,
                 last: false,
-                over: false,
-            };
+            });
         }
-        let more = read_more(rt, &mut *input, have);
-        let now = more.have;
+        let now = read_more(rt, &mut *input, have)?;
         if now <= have {
-            return Found {
+            return Some(Found {
                 end,
                 have,
                 last: true,
-                over: more.over,
-            };
+            });
         }
         have = now;
     }
-    Found {
+    Some(Found {
         end: have,
         have,
         last: true,
-        over: false,
-    }
-}
-
-fn is_help(l: &[u8]) -> bool {
-    if l.len() != 4 {
-        return false;
-    }
-    l[0] == b'h' && l[1] == b'e' && l[2] == b'l' && l[3] == b'p'
+    })
 }
 
 // What the line between two places stands for.
@@ -170,14 +133,14 @@ pub fn hear(input: &[u8], at: usize, end: usize, terminal: bool) -> Heard {
 }
 
 fn hear_line(l: &[u8], terminal: bool) -> Heard {
-    if terminal && is_help(l) {
+    if terminal && l == b"help".as_slice() {
         return Heard::Help;
     }
     let mut record = [0u8; Event::LENGTH];
     match read(l, &mut record) {
-        Turned::Refused { by, .. } => Heard::Unexpected(by),
-        Turned::NoRoom => Heard::Nothing,
-        Turned::Done(n) => heard_of(record, n),
+        Err(TurnError::Refused { by, .. }) => Heard::Unexpected(by),
+        Err(TurnError::NoRoom) => Heard::Nothing,
+        Ok(n) => heard_of(record, n),
     }
 }
 
@@ -187,7 +150,7 @@ fn heard_of(record: [u8; Event::LENGTH], n: usize) -> Heard {
         return Heard::Nothing;
     }
     match read_event(&record) {
-        ReadEvent::Read(a) => Heard::Plays(a),
-        ReadEvent::Refused(_q) => Heard::Nothing,
+        Ok(a) => Heard::Plays(a),
+        Err(_) => Heard::Nothing,
     }
 }

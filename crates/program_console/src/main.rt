@@ -37,9 +37,7 @@ fn played(b: Bench, remembers: bool, newest: Bench, heard: Heard) -> Acted {
 // How many acts there were then. (No input has so many that the number ends.)
 fn count_after(k: u32, heard: Heard) -> u32 {
     if let Heard::Plays(_a) = heard {
-        if k < 0xFFFF_FFFF {
-            return k + 1;
-        }
+        return k.saturating_add(1);
     }
     k
 }
@@ -48,11 +46,10 @@ fn main(rt: HostRuntime) {
     let terminal = is_terminal(&rt);
     greet(&rt, terminal);
     let mut input = [0u8; ROOM];
-    let first = first_lines(&rt, &mut input, terminal);
-    if first.over {
+    let Some(first) = first_lines(&rt, &mut input, terminal) else {
         return;
-    }
-    let mut have = first.have;
+    };
+    let mut have = first;
     if ROOM < have {
         return;
     }
@@ -64,16 +61,16 @@ fn main(rt: HostRuntime) {
     let mut ring = Ring { at: 0, count: 0 };
     let mut k: u32 = 0;
     // each line is one byte further on, so there are no more lines than bytes
+    // stays (no plainer): each turn goes on to the next line, and reads until that has ended
     while at <= have {
-        let found = next_line(&rt, &mut input, at, have);
-        if found.over {
+        let Some(found) = next_line(&rt, &mut input, at, have) else {
             return;
-        }
+        };
         have = found.have;
         let end = found.end;
         // one more than a text may have
         if ROOM <= have {
-            write_output(&rt, b"- 1\n");
+            let _ = write_output(&rt, b"- 1\n");
             return;
         }
         if end < at {

@@ -4,9 +4,9 @@ use event_record::{fields_of, record_bytes};
 use model::Act;
 use protocol::Bench;
 use schedule_input::write_refused_line;
-use schedule_text::{Turned, write};
+use schedule_text::write;
 use streams::write_output;
-use text::put_bytes;
+use text::Writer;
 use trace_text::put_shown;
 
 // Room for what is shown of one act: 32 C lines, and at most 124 telegrams, words and the like of 84 bytes.
@@ -30,12 +30,13 @@ back                           the last accepted event is undone
 help                           this again
 ",
     )
+    .is_ok()
 }
 
 // Whoever sits at a terminal is asked for a line.
 pub fn prompt(rt: &HostRuntime, terminal: bool) {
     if terminal {
-        write_output(rt, b"> ");
+        let _ = write_output(rt, b"> ");
     }
 }
 
@@ -47,24 +48,16 @@ pub fn greet(rt: &HostRuntime, terminal: bool) {
 }
 
 // The line of an act, as whoever types it sees it.
-fn put_echo(out: &mut [u8], a: Act) -> usize {
+fn put_echo(w: &mut Writer, a: Act) {
     let record = record_bytes(fields_of(a));
     let mut line = [0u8; 80];
-    let next = put_bytes(&mut *out, 0, b"> ");
-    let Turned::Done(n) = write(&record, &mut line) else {
-        return next;
+    w.bytes(b"> ");
+    let Ok(n) = write(&record, &mut line) else {
+        return;
     };
-    if 80 < n {
-        return next;
+    if n <= 80 {
+        w.bytes(&line[..n]);
     }
-    put_bytes(&mut *out, next, &line[..n])
-}
-
-fn echo(out: &mut [u8], terminal: bool, a: Act) -> usize {
-    if terminal {
-        return 0;
-    }
-    put_echo(&mut *out, a)
 }
 
 // What came of an act; from a file or a pipe its line before that.
@@ -79,12 +72,16 @@ fn tell_act(
     new: Bench,
 ) -> bool {
     let mut out = [0u8; ROOM];
-    let next = echo(&mut out, terminal, a);
-    let end = put_shown(&mut out, next, k, undone, a, answer, old, new);
+    let mut w = Writer::new(&mut out);
+    if !terminal {
+        put_echo(&mut w, a);
+    }
+    put_shown(&mut w, k, undone, a, answer, old, new);
+    let end = w.at;
     if ROOM < end {
         return false;
     }
-    write_output(rt, &out[..end])
+    write_output(rt, &out[..end]).is_ok()
 }
 
 // A line that is no event: its number and the first word that was not expected.
@@ -97,7 +94,7 @@ fn tell_refused(rt: &HostRuntime, input: &[u8], have: usize, line: usize, word: 
     if 60 < end {
         return false;
     }
-    write_output(rt, &out[..end])
+    write_output(rt, &out[..end]).is_ok()
 }
 
 // What is said of a line; false where it could not be written.

@@ -2,18 +2,9 @@
 #![tactic(auto)]
 
 use levels_text::ROOM;
-use streams::{read_input, write_output};
+use streams::print_rendered;
 
+// One byte more than two ranges have; and room for any output: the law output-length of levels_text.
 fn main(rt: HostRuntime) {
-    // one byte more than two ranges have
-    let mut input = [0u8; 17];
-    let got = read_input(&rt, &mut input);
-    if got.failed {
-        return;
-    }
-    let n = got.count;
-    // holds every output: the law output-length of levels_text
-    let mut text = [0u8; ROOM];
-    let length = levels_text::render(&input[..n], &mut text);
-    write_output(&rt, &text[..length]);
+    print_rendered::<17, ROOM, _>(&rt, levels_text::render);
 }

@@ -2,18 +2,12 @@
 #![tactic(auto)]
 
 use line_output::MOST;
-use streams::{read_input, write_output};
+use streams::print_rendered;
 
+// one byte more than the acts that are run, so that more are known by it
+const INPUT: usize = MOST + 1;
+
+// Room for any output: always_fits of line_output, Room.
 fn main(rt: HostRuntime) {
-    // one byte more than the acts that are run
-    let mut input = [0u8; MOST + 1];
-    let got = read_input(&rt, &mut input);
-    if got.failed {
-        return;
-    }
-    let n = got.count;
-    // room for any output: always-fits in crates/line_output/specs/Room.antt
-    let mut text = [0u8; 90112];
-    let length = line_output::render(&input[..n], &mut text);
-    write_output(&rt, &text[..length]);
+    print_rendered::<INPUT, 90112, _>(&rt, line_output::render);
 }

@@ -2,19 +2,13 @@
 #![tactic(auto)]
 
 use bench_report::LONGEST_SCHEDULE;
-use schedule_input::LONGEST_TEXT;
-use streams::{read_input, write_output};
+use schedule_input::{LONGEST_TEXT, render_records};
+use streams::print_rendered;
 
+// one byte more than a text may have, so that a longer one is known by it
+const INPUT: usize = LONGEST_TEXT + 1;
+
+// Room for any output: `records-fit` of schedule_input, Room.
 fn main(rt: HostRuntime) {
-    // one byte more than a text may have, so that a longer one is known by it
-    let mut input = [0u8; LONGEST_TEXT + 1];
-    let got = read_input(&rt, &mut input);
-    if got.failed {
-        return;
-    }
-    let n = got.count;
-    // room for any output: `records-fit` of schedule_input, Room
-    let mut records = [0u8; LONGEST_SCHEDULE];
-    let length = schedule_input::render_records(&input[..n], &mut records);
-    write_output(&rt, &records[..length]);
+    print_rendered::<INPUT, LONGEST_SCHEDULE, _>(&rt, |s, out| render_records(s, out));
 }

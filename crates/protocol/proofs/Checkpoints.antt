@@ -11,7 +11,6 @@ use Rattle.ground.specs.Tests.{no_both, split, or_no_l, or_no_r, eqb_same}
 use Rattle.ground.specs.Update.{upd_same, upd_other}
 use Rattle.model.specs.declared.Event.{Event}
 use Rattle.model.specs.declared.Event.TheVariants.{Save}
-use Rattle.protocol.specs.declared.Saved.TheVariants.{Newest}
 use Rattle.protocol.specs.declared.Bench.{Bench}
 use Rattle.protocol.specs.Benches.{new_bench}
 use Rattle.protocol.specs.Questions.{is_accepted, reply}
@@ -24,6 +23,7 @@ use Rattle.protocol.proofs.view.Simulation.{view, Sound, step-performs}
 use Rattle.protocol.proofs.lists.Moments.{accepted-is, run-append, run-one, run-cons, refused-step}
 use Rattle.protocol.proofs.lists.Start.{freshes, new_refuses}
 use Rattle.protocol.proofs.lists.Reach.{Reached, new-step, step-reached, reached}
+use Rattle.std.specs.Prelude.{Some}
 
 module _ (b : Bench) (a : Sound b) where
   abbrev n : ℕ
@@ -45,7 +45,7 @@ module _ (b : Bench) (a : Sound b) where
       saved j q z = rw (z, q) (ap (λ t. t && true) (eqb_same j))
 
   -- a save makes what is shown
-  made : (i : ℕ) → is_accepted (reply b (Save i)) ≡ true → checkpoint_in (step b (Save i)) i ≡ Newest (as_shown b i)
+  made : (i : ℕ) → is_accepted (reply b (Save i)) ≡ true → checkpoint_in (step b (Save i)) i ≡ Some (as_shown b i)
   made i q = as-view (Save i) i q ∙ (unfold perform_v saved_v view in upd_same (view b).saved i _)
 
 -- another event leaves the checkpoint
@@ -65,7 +65,7 @@ run-kept [] b i r s = refl
 run-kept (e ∷ es) b i r s = run-kept es (step b e) i (step-reached b e r) (or_no_r (saves_at i b e) _ s) ∙ step_kept b e i r (or_no_l (saves_at i b e) _ s)
 
 -- an accepted save is made with a lock
-made_at : (b : Bench) (i : ℕ) → Reached b → is_accepted (reply b (Save i)) ≡ true → checkpoint_in (step b (Save i)) i ≡ Newest (as_shown b i)
+made_at : (b : Bench) (i : ℕ) → Reached b → is_accepted (reply b (Save i)) ≡ true → checkpoint_in (step b (Save i)) i ≡ Some (as_shown b i)
 made_at b i (inl z) q = absurd (new_refuses (Save i) refl (ap (λ (x : Bench). is_accepted (reply x (Save i))) (sym z) ∙ q))
 made_at b i (inr a) q = made b a i q
 

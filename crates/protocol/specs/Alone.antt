@@ -6,7 +6,7 @@ use Rattle.std.specs.Prelude.{ℕ, ◌≤◌, ◌≡◌, Bool, true, false, not,
 use Rattle.ground.specs.Limit.{limit}
 use Rattle.ground.specs.Quantify.{count_to}
 use Rattle.votes.specs.VoteSets.{empty, knows, wills, single, union}
-use Rattle.votes.specs.declared.Joined.TheVariants.{Agreed}
+use Rattle.std.specs.Prelude.{Ok}
 use Rattle.model.specs.declared.Message.{Message}
 use Rattle.model.specs.declared.Checkpoint.{Checkpoint}
 use Rattle.protocol.specs.declared.Identity.{Identity}
@@ -100,7 +100,7 @@ pub record ControllerAlone : Type 0 where
   -- that its own vote contradicts": so it never holds two vote sets that contradict each other
   pub held : (me : Identity) (ks : List Call) → Agreeing (alone me ks)
   -- "All users of the join follow": each join that its rules make is there, and is the union of the vote sets. The acknowledgements':
-  pub acks-joined : (me : Identity) (ks : List Call) → ack_join me.n (alone me ks) ≡ Agreed (acks_union me.n (alone me ks))
+  pub acks-joined : (me : Identity) (ks : List Call) → ack_join me.n (alone me ks) ≡ Ok (acks_union me.n (alone me ks))
   -- the help vote set, and its join with the help answers, for one that counts it as an answer;
   pub help-votes : (me : Identity) (ks : List Call) → help_votes me.n (alone me ks) ≡ union (acks_union me.n (alone me ks)) (alone me ks).votes
   pub own-answer : (me : Identity) (ks : List Call) → JoinIsUnion (alone me ks).helped.votes (help_votes me.n (alone me ks))

@@ -1,6 +1,6 @@
 -- Trials of a controller's calls in ballots, in its cabinet (document 02, U14): what it holds of a ballot before a call, the call, what it holds after it, and the telegrams that it
 -- sends, in their sequence. On the bench the questions stand before the rules; here a call that does not fit changes nothing and sends nothing.
-use Rattle.std.specs.Prelude.{ℕ, zero, suc, Bool, true, false, ◌&&◌, List, [], ◌∷◌, ◌++◌, eqb}
+use Rattle.std.specs.Prelude.{ℕ, zero, suc, Bool, true, false, ◌&&◌, List, [], ◌∷◌, ◌++◌, eqb, slice_get, option_to_list}
 use Rattle.ground.specs.Mask.{insert}
 use Rattle.votes.specs.VoteSets.{empty}
 use Rattle.model.specs.Numbers.{ballot_kind_number}
@@ -16,7 +16,7 @@ use Rattle.protocol.specs.declared.Tally.{Tally}
 use Rattle.protocol.specs.declared.BallotAnswer.{BallotAnswer}
 use Rattle.protocol.specs.Sequence.{members}
 use Rattle.protocol.specs.Alone.{Call, voting, timing-out, deciding, alone}
-use Rattle.protocol.specs.BallotCalls.{open_call, receive_ballot, ballot_messages, nth_ballot_of, to_send_ballot_values}
+use Rattle.protocol.specs.BallotCalls.{open_call, receive_ballot, ballot_messages}
 use Rattle.protocol.specs.Rows.{same, same_outcome, same_votes}
 use Rattle.protocol.specs.BallotTrials.{has-promised, idle, same_acceptor}
 
@@ -62,8 +62,8 @@ answer_of r = answer_to r.me (alone r.me r.calls) r.acceptor (tally_of r.counted
 
 -- one by one, up to one more than the row has
 unfoldable pub one_by_one : List BallotMessage → ℕ → List BallotMessage
-one_by_one ms zero = to_send_ballot_values (nth_ballot_of ms 0)
-one_by_one ms (suc k) = one_by_one ms k ++ to_send_ballot_values (nth_ballot_of ms (suc k))
+one_by_one ms zero = option_to_list (slice_get ms 0)
+one_by_one ms (suc k) = one_by_one ms k ++ option_to_list (slice_get ms (suc k))
 
 abbrev same_ballot_message : BallotMessage → BallotMessage → Bool
 same_ballot_message x y = eqb (ballot_kind_number x.kind) (ballot_kind_number y.kind) && eqb x.n y.n && eqb x.f y.f && eqb x.from y.from && eqb x.to y.to

@@ -1,6 +1,6 @@
 -- What may be asked of a controller in a ballot (document 02, U14), in its lock or alone in a cabinet: the rules behind the tests of lock, condition and address.
 -- Beside the controller there is what it has promised and accepted, and what it has counted for that ballot, if it is its own. A call that does not fit changes nothing.
-use Rattle.std.specs.Prelude.{ℕ, zero, suc, Bool, cond, not, ◌&&◌, List, [], ◌∷◌, ◌++◌, map, eqb, leb}
+use Rattle.std.specs.Prelude.{ℕ, Bool, cond, not, ◌&&◌, List, [], ◌∷◌, ◌++◌, map, take, drop, eqb, leb, ◌≡◌, slice_get, Option, option_to_list}
 use Rattle.ground.specs.Mask.{has, collect}
 use Rattle.votes.specs.VoteSets.{empty}
 use Rattle.model.specs.Numbers.{is_none}
@@ -16,8 +16,6 @@ use Rattle.protocol.specs.declared.Controller.{Controller}
 use Rattle.protocol.specs.declared.Acceptor.{Acceptor}
 use Rattle.protocol.specs.declared.Tally.{Tally}
 use Rattle.protocol.specs.declared.BallotAnswer.{BallotAnswer}
-use Rattle.protocol.specs.declared.ToSendBallot.{ToSendBallot}
-use Rattle.protocol.specs.declared.ToSendBallot.TheVariants.{AllSent, Next}
 use Rattle.protocol.specs.Controllers.{runs}
 use Rattle.protocol.specs.Calls.{valid_identity}
 use Rattle.protocol.specs.Sequence.{members}
@@ -81,13 +79,7 @@ unfoldable pub ballot_messages : Identity → ℕ → BallotAnswer → List Ball
 ballot_messages me b x = cond x.promise.given (promise_sent me b x) [] ++ (cond x.proposes (ballot_to_others me Accept b x.tally.word) []
     ++ cond (x.accepts && not (is_owner me b)) (ballot_to me Accepted b 0 x.acceptor.word (owner me.n b) ∷ []) [])
 
--- the one with k before it, if there are so many; as in Sequence
-unfoldable pub nth_ballot_of : List BallotMessage → ℕ → ToSendBallot
-nth_ballot_of [] k = AllSent
-nth_ballot_of (m ∷ ms) zero = Next m
-nth_ballot_of (m ∷ ms) (suc k) = nth_ballot_of ms k
-
--- what that says in the documents' terms: 0, since nothing is asked; and, as values, one message or none
-abbrev pub to_send_ballot_values : ToSendBallot → List BallotMessage
-to_send_ballot_values AllSent = []
-to_send_ballot_values (Next m) = m ∷ []
+-- what is promised of the message that has k before it, as in Sequence
+pub record NthBallotMessageOf (me : Identity) (b : ℕ) (x : BallotAnswer) (k : ℕ) (r : Option BallotMessage) : Type 0 where
+  pub answer : r ≡ slice_get (ballot_messages me b x) k
+  pub values : option_to_list r ≡ take 1 (drop k (ballot_messages me b x))

@@ -1,5 +1,5 @@
 -- The bench and its parts, by controller number. Document 01, "The parts" and "Words with values".
-use Rattle.std.specs.Prelude.{ℕ, Bool, false, List, [], replicate}
+use Rattle.std.specs.Prelude.{ℕ, Bool, false, List, [], replicate, Option, Some, None}
 use Rattle.std.specs.Int.Bits.{bit_or}
 use Rattle.ground.specs.Limit.{limit}
 use Rattle.ground.specs.Lists.{nth}
@@ -12,10 +12,7 @@ use Rattle.model.specs.declared.Message.{Message}
 use Rattle.protocol.specs.declared.Identity.{Identity}
 use Rattle.protocol.specs.declared.Outgoing.{Outgoing}
 use Rattle.protocol.specs.declared.Controller.{Controller}
-use Rattle.protocol.specs.declared.Send.{Send}
-use Rattle.protocol.specs.declared.Send.TheVariants.{Nothing as NothingSent, To}
 use Rattle.protocol.specs.declared.Sends.{Sends}
-use Rattle.protocol.specs.declared.Saved.TheVariants.{Nothing}
 use Rattle.protocol.specs.declared.Sent.{Sent}
 use Rattle.protocol.specs.declared.Station.{Station}
 use Rattle.protocol.specs.declared.Consensus.{Consensus}
@@ -38,7 +35,7 @@ unfoldable pub fresh : List VoteSet → Controller
 fresh sets = blank (in_phase 0 None) sets 0
 
 unfoldable pub fresh_station : List VoteSet → Station
-fresh_station sets = record { controller = fresh sets; sent = unsent_all; saved = Nothing }
+fresh_station sets = record { controller = fresh sets; sent = unsent_all; saved = None }
 
 -- no word put, no choice
 abbrev pub no_consensus : Consensus
@@ -83,9 +80,9 @@ abbrev pub message : Shared → Kind → ℕ → ℕ → Sent → Message
 message m kind from to sent = message_to (identity m from) kind (of_kind kind sent).votes to
 
 -- what was sent, after more was sent
-abbrev pub after_send : Outgoing → Send → Outgoing
-after_send old NothingSent = old
-after_send old (To receivers s) = record { to = bit_or old.to receivers; votes = s }
+abbrev pub after_send : Outgoing → Option Outgoing → Outgoing
+after_send old None = old
+after_send old (Some new) = record { to = bit_or old.to new.to; votes = new.votes }
 
 unfoldable pub sent_after : Sent → Sends → Sent
 sent_after s a = record { vote = after_send s.vote a.vote; ack = after_send s.ack a.ack; help = after_send s.help a.help; helped = after_send s.helped a.helped }

@@ -1,6 +1,6 @@
 -- What may be asked of a controller, in its lock or alone in a cabinet: the rules behind the tests of condition, stage and address.
 -- A call at a wrong stage or in a wrong condition changes nothing, and its answer says so.
-use Rattle.std.specs.Prelude.{ℕ, ◌≡◌, Bool, cond, ◌&&◌, ◌||◌, List, [], ◌∷◌, eqb, leb}
+use Rattle.std.specs.Prelude.{ℕ, ◌≡◌, Bool, cond, ◌&&◌, ◌||◌, [], ◌∷◌, eqb, leb, Option, Some, None, option_to_list}
 use Rattle.ground.specs.Quantify.{any_to}
 use Rattle.votes.specs.VoteSets.{single}
 use Rattle.votes.specs.Joining.{contradicts}
@@ -18,8 +18,6 @@ use Rattle.protocol.specs.declared.Identity.{Identity}
 use Rattle.protocol.specs.declared.Condition.TheVariants.{Stopped, Standby}
 use Rattle.protocol.specs.declared.Controller.{Controller}
 use Rattle.protocol.specs.declared.Answer.{Answer}
-use Rattle.protocol.specs.declared.Saved.{Saved}
-use Rattle.protocol.specs.declared.Saved.TheVariants.{Nothing, Newest}
 use Rattle.protocol.specs.Controllers.{runs, does_stand_by, is_stopped, phase, outcome, has_ack, ack_of, in_phase, cleared, drop_contradicting, conclude}
 use Rattle.protocol.specs.Rules.{is_taken, passing_over, contradicted, becomes, vote_rule, vote_arrives, first_timeout, second_timeout, ack_arrives, helped_arrives, help_arrives}
 
@@ -77,23 +75,19 @@ stop c = cond (runs c || does_stand_by c) (becomes (cleared Stopped c)) (passing
 unfoldable pub checkpoint_of : Identity → Controller → Checkpoint
 checkpoint_of me c = record { id = me.id; n = me.n; f = me.f; outcome = outcome c; order = me.order; position = c.gate.position }
 
-unfoldable pub save : Identity → Controller → Saved
-save me c = cond (runs c || does_stand_by c) (Newest (checkpoint_of me c)) Nothing
+unfoldable pub save : Identity → Controller → Option Checkpoint
+save me c = cond (runs c || does_stand_by c) (Some (checkpoint_of me c)) None
 
 -- what its answer says in document 01's terms: 0 and the checkpoint; or 15, "Is the condition right?", and none
-abbrev pub saved_number : Saved → ℕ
-saved_number Nothing = 15
-saved_number (Newest p) = 0
-
-abbrev pub saved_values : Saved → List Checkpoint
-saved_values Nothing = []
-saved_values (Newest p) = p ∷ []
+abbrev pub saved_number : Option Checkpoint → ℕ
+saved_number None = 15
+saved_number (Some p) = 0
 
 -- what is promised of the answer to a save. 15 asks "save: running or standing by"
-pub record SaveOf (me : Identity) (c : Controller) (r : Saved) : Type 0 where
+pub record SaveOf (me : Identity) (c : Controller) (r : Option Checkpoint) : Type 0 where
   pub answer : r ≡ save me c
   pub number : saved_number r ≡ cond (runs c || does_stand_by c) 0 15
-  pub values : saved_values r ≡ cond (runs c || does_stand_by c) (checkpoint_of me c ∷ []) []
+  pub values : option_to_list r ≡ cond (runs c || does_stand_by c) (checkpoint_of me c ∷ []) []
 
 -- **Restore** "brings a stopped controller to standing by, with the card's outcome if the card is of this order, else none.
 -- The gate's position stays what it is; the card's is not used."

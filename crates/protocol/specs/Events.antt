@@ -1,12 +1,10 @@
 -- Whom an event concerns, and what that controller answers to it.
-use Rattle.std.specs.Prelude.{ℕ, Bool, true, false}
+use Rattle.std.specs.Prelude.{ℕ, Bool, true, false, Option, Some, None}
 use Rattle.model.specs.declared.Event.{Event}
 use Rattle.model.specs.declared.Event.TheVariants.{Lock, Order, Cast, Deliver, Timeout, Decide, Stop, Save, Restore, OfBallots}
 use Rattle.protocol.specs.declared.Identity.{Identity}
 use Rattle.protocol.specs.declared.Controller.{Controller}
 use Rattle.protocol.specs.declared.Answer.{Answer}
-use Rattle.protocol.specs.declared.Saved.{Saved}
-use Rattle.protocol.specs.declared.Saved.TheVariants.{Nothing, Newest}
 use Rattle.protocol.specs.declared.Sent.{Sent}
 use Rattle.protocol.specs.declared.Station.{Station}
 use Rattle.protocol.specs.declared.Shared.{Shared}
@@ -14,6 +12,7 @@ use Rattle.protocol.specs.BallotSteps.{ballot_subject}
 use Rattle.protocol.specs.Rules.{passing_over}
 use Rattle.protocol.specs.Calls.{vote, receive, timeout, decide, stop, restore}
 use Rattle.protocol.specs.Benches.{identity, message, of_kind}
+use Rattle.model.specs.declared.Checkpoint.{Checkpoint}
 
 -- is it the event of one controller: kinds 2 to 8
 abbrev pub concerns_one : Event → Bool
@@ -67,9 +66,9 @@ receivers_in (Save i) s = 0
 receivers_in (Restore i) s = 0
 receivers_in (OfBallots e) s = 0
 
-unfoldable pub restore_from : Identity → Saved → Controller → Answer
-restore_from me Nothing c = passing_over c
-restore_from me (Newest saved) c = restore me saved c
+unfoldable pub restore_from : Identity → Option Checkpoint → Controller → Answer
+restore_from me None c = passing_over c
+restore_from me (Some saved) c = restore me saved c
 
 -- the answer of the controller that an event concerns: s is its station, and the event's source has sent `sent`. A save asks for none.
 unfoldable pub answer_to : Shared → Event → Sent → Station → Answer

@@ -1,12 +1,10 @@
 -- WHICH CHECKPOINT A CONTROLLER HAS (document 01: its card), at every moment of every list. **Save** "makes the card; the bench keeps the newest per controller."
 -- It outlives a stop, which ends everything "but the gate's position, its cards and what it has sent or put", and a new order: "cards remain".
 -- `kept_checkpoints` in src/lib.rt has it as its contract.
-use Rattle.std.specs.Prelude.{ℕ, ◌≡◌, Bool, false, ◌&&◌, ◌||◌, List, [], ◌∷◌, ◌++◌, eqb}
+use Rattle.std.specs.Prelude.{ℕ, ◌≡◌, Bool, false, ◌&&◌, ◌||◌, List, [], ◌∷◌, ◌++◌, eqb, Option, Some, None}
 use Rattle.model.specs.declared.Checkpoint.{Checkpoint}
 use Rattle.model.specs.declared.Event.{Event}
 use Rattle.model.specs.declared.Event.TheVariants.{Lock, Order, Cast, Deliver, Timeout, Decide, Stop, Save, Restore, OfBallots}
-use Rattle.protocol.specs.declared.Saved.{Saved}
-use Rattle.protocol.specs.declared.Saved.TheVariants.{Nothing, Newest}
 use Rattle.protocol.specs.declared.Bench.{Bench}
 use Rattle.protocol.specs.Benches.{new_bench, station}
 use Rattle.protocol.specs.Questions.{is_accepted, reply}
@@ -32,7 +30,7 @@ saves_any i b [] = false
 saves_any i b (e ∷ es) = saves_at i b e || saves_any i (step b e) es
 
 -- controller i's checkpoint, if it has one
-abbrev pub checkpoint_in : Bench → ℕ → Saved
+abbrev pub checkpoint_in : Bench → ℕ → Option Checkpoint
 checkpoint_in b i = (station b i).saved
 
 -- what a card of controller i has at a moment: "controller; n; f; outcome ..; order ..; position", these two as its C line shows them
@@ -42,6 +40,6 @@ as_shown b i = record { id = i; n = b.shared.n; f = b.shared.f; outcome = shown_
 pub record KeptCheckpoints : Type 0 where
   -- after an accepted save it is what was shown then, until the next accepted save of that controller
   pub newest : (es more : List Event) (i : ℕ) → Accepted es (Save i) → saves_any i (after (es ++ (Save i ∷ []))) more ≡ false
-      → checkpoint_in (after (es ++ (Save i ∷ more))) i ≡ Newest (as_shown (after es) i)
+      → checkpoint_in (after (es ++ (Save i ∷ more))) i ≡ Some (as_shown (after es) i)
   -- before the first there is none: "every controller is running at stage 0, without outcome or card"
-  pub none : (es : List Event) (i : ℕ) → saves_any i new_bench es ≡ false → checkpoint_in (after es) i ≡ Nothing
+  pub none : (es : List Event) (i : ℕ) → saves_any i new_bench es ≡ false → checkpoint_in (after es) i ≡ None

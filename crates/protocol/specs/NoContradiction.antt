@@ -5,7 +5,7 @@ use Rattle.std.specs.Prelude.{ℕ, ◌≡◌, Bool, true, false, cond, List, [],
 use Rattle.votes.specs.VoteSets.{single, union, union_all}
 use Rattle.votes.specs.Joining.{contradicts, join}
 use Rattle.votes.specs.declared.VoteSet.{VoteSet}
-use Rattle.votes.specs.declared.Joined.TheVariants.{Agreed}
+use Rattle.std.specs.Prelude.{Ok}
 use Rattle.model.specs.declared.Kind.{Kind}
 use Rattle.model.specs.declared.Event.{Event}
 use Rattle.model.specs.declared.Event.TheVariants.{Lock, Order, Cast, Deliver, Timeout, Decide, Stop, Save, Restore, OfBallots}
@@ -60,13 +60,13 @@ votes_sent b kind i = (of_kind kind (sent_by b i)).votes
 
 -- the join of two vote sets is there, and is what either knows
 abbrev pub JoinIsUnion : VoteSet → VoteSet → Type 0
-JoinIsUnion s t = join s t ≡ Agreed (union s t)
+JoinIsUnion s t = join s t ≡ Ok (union s t)
 
 pub record NoContradiction : Type 0 where
   -- no controller ever holds two vote sets that contradict each other
   pub held : (es : List Event) (i : ℕ) → Agreeing (controller (after es) i)
   -- so every join that a rule makes is there, and is the union of the vote sets: the join of the acknowledgements held
-  pub acks-joined : (es : List Event) (i : ℕ) → ack_join (after es).shared.n (controller (after es) i) ≡ Agreed (acks_union (after es).shared.n (controller (after es) i))
+  pub acks-joined : (es : List Event) (i : ℕ) → ack_join (after es).shared.n (controller (after es) i) ≡ Ok (acks_union (after es).shared.n (controller (after es) i))
   -- the help vote set, of the own vote set and these, and its join with the help answers, for one that counts it as an answer
   pub help-votes : (es : List Event) (i : ℕ)
       → help_votes (after es).shared.n (controller (after es) i) ≡ union (acks_union (after es).shared.n (controller (after es) i)) (controller (after es) i).votes

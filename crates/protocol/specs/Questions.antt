@@ -1,5 +1,5 @@
 -- Document 01, "Questions put to a record or event": those that the bench puts to an event, in their sequence.
-use Rattle.std.specs.Prelude.{ℕ, Bool, true, false, cond, not, ◌&&◌, ◌||◌, List, [], ◌∷◌, eqb, leb, ltb}
+use Rattle.std.specs.Prelude.{ℕ, Bool, true, false, cond, not, ◌&&◌, ◌||◌, List, [], ◌∷◌, eqb, leb, ltb, is_some}
 use Rattle.ground.specs.Mask.{has}
 use Rattle.model.specs.Ranges.{sizes_in_range, is_controller, different_controllers, position_in_range}
 use Rattle.model.specs.Routes.{route}
@@ -10,8 +10,6 @@ use Rattle.model.specs.declared.Outcome.TheVariants.{None, Stay, Move}
 use Rattle.model.specs.declared.Event.{Event}
 use Rattle.model.specs.declared.Event.TheVariants.{Lock, Order, Cast, Deliver, Timeout, Decide, Stop, Save, Restore, OfBallots}
 use Rattle.protocol.specs.declared.Condition.{Condition}
-use Rattle.protocol.specs.declared.Saved.{Saved}
-use Rattle.protocol.specs.declared.Saved.TheVariants.{Nothing, Newest}
 use Rattle.protocol.specs.declared.Sent.{Sent}
 use Rattle.protocol.specs.declared.Station.{Station}
 use Rattle.protocol.specs.declared.Consensus.{Consensus}
@@ -44,11 +42,6 @@ no_other_word Move move = move
 -- at c = 1 it asks instead whether more than n/2 have taken the word in one ballot
 abbrev pub may_give : Shared → Ballots → Bool → Bool
 may_give m bs move = cond m.own (is_chosen m.n bs move) (was_proposed m.consensus move && no_other_word m.consensus.decision move)
-
--- 19: "Has the controller a card?"
-abbrev pub is_saved : Saved → Bool
-is_saved Nothing = false
-is_saved (Newest c) = true
 
 -- 24: "Refused by the controller: 24, a delivered sheet that contradicts one held; last of all questions." (document 02, U7)
 abbrev pub agrees_at : Shared → Event → Sent → Station → Bool
@@ -91,7 +84,7 @@ questions_of v (OfBallots e) = ask 5 v.shared.locked ∷ ask 7 (ballot_controlle
 
 -- what they look at: of an event that concerns the controller of station s, and whose source has sent `sent`; and that, of a bench
 abbrev pub facts_of : Shared → Ballots → Event → Station → Sent → Bool → (Bool → Bool) → Bool → Facts
-facts_of m bs e s sent may give agrees = record { shared = m; may_give = give; ballots = bs; proposal = s.controller.proposal; condition = s.controller.condition; has-checkpoint = is_saved s.saved; receivers = receivers_in e sent; may_open = may; agrees = agrees }
+facts_of m bs e s sent may give agrees = record { shared = m; may_give = give; ballots = bs; proposal = s.controller.proposal; condition = s.controller.condition; has-checkpoint = is_some s.saved; receivers = receivers_in e sent; may_open = may; agrees = agrees }
 
 abbrev pub questions : Bench → Event → List Question
 questions b e = questions_of (facts_of b.shared b.ballots e (station b (subject e)) (sent_by b (source e)) (may_open b.shared) (may_give b.shared b.ballots) (agrees_at b.shared e (sent_by b (source e)) (station b (subject e)))) e

@@ -1,7 +1,7 @@
 -- WHAT THE BENCH CAN REACH, over every list of events: stages, positions and vote sets stay within document 01's "Words with values", and what a cabinet
 -- sends or saves passes every question put to its record, so that it can be written, and is read back as it was.
 -- `reach` in src/lib.rt has it as its contract.
-use Rattle.std.specs.Prelude.{ℕ, ◌≤◌, ◌<◌, ◌^◌, ◌≡◌, true, List, [], ◌∷◌, length}
+use Rattle.std.specs.Prelude.{ℕ, ◌≤◌, ◌<◌, ◌^◌, ◌≡◌, true, List, [], ◌∷◌, length, Some}
 use Rattle.votes.specs.Contradictions.{WellFormed}
 use Rattle.model.specs.Ranges.{position_in_range, different_controllers}
 use Rattle.model.specs.declared.Kind.{Kind}
@@ -17,13 +17,11 @@ use Rattle.model.specs.declared.Event.{Event}
 use Rattle.model.specs.declared.Event.TheVariants.{Lock, Order, Cast, Deliver, Timeout, Decide, Stop, Save, Restore, OfBallots}
 use Rattle.records.specs.Codec.{record_length, bytes_of, reads, writes}
 use Rattle.checkpoint_record.specs.Checkpoints.{about_checkpoint, checkpoints}
-use Rattle.checkpoint_record.specs.declared.ReadCheckpoint.TheVariants.{Read as ReadBack}
+use Rattle.std.specs.Prelude.{Ok}
 use Rattle.message_record.specs.Messages.{about_message}
 use Rattle.message_record.specs.BallotMessages.{about_ballot}
 use Rattle.message_record.specs.Telegrams.{telegrams}
-use Rattle.message_record.specs.declared.ReadTelegram.TheVariants.{Read}
 use Rattle.protocol.specs.declared.Controller.{Controller}
-use Rattle.protocol.specs.declared.Saved.TheVariants.{Newest}
 use Rattle.protocol.specs.declared.Bench.{Bench}
 use Rattle.protocol.specs.Controllers.{phase, has_ack, ack_of}
 use Rattle.protocol.specs.Benches.{station, controller, sent_by, identity, message}
@@ -70,7 +68,7 @@ pub record WasSentInBallot (b : Bench) (kind : BallotKind) (i j ballot : ℕ) : 
 
 -- controller i's checkpoint
 abbrev pub IsSaved : Bench → ℕ → Checkpoint → Type 0
-IsSaved b i p = (station b i).saved ≡ Newest p
+IsSaved b i p = (station b i).saved ≡ Some p
 
 -- "The list has events .. as reading lets them through": an order number and a target stand in four bytes. A ballot on a telegram is one that question 28 let through
 abbrev pub AsRead : Event → Type 0
@@ -109,7 +107,7 @@ pub record Reach : Type 0 where
       → writes checkpoints out p ≡ bytes_of checkpoints p
   -- and is read back as it was
   pub messages-back : (es : List Event) (kind : Kind) (i j : ℕ) → AllRead es → WasSent (after es) kind i j
-      → reads telegrams (bytes_of telegrams (Plain (message_at (after es) kind i j))) ≡ Read (Plain (message_at (after es) kind i j))
-  pub checkpoints-back : (es : List Event) (i : ℕ) (p : Checkpoint) → AllRead es → IsSaved (after es) i p → reads checkpoints (bytes_of checkpoints p) ≡ ReadBack p
+      → reads telegrams (bytes_of telegrams (Plain (message_at (after es) kind i j))) ≡ Ok (Plain (message_at (after es) kind i j))
+  pub checkpoints-back : (es : List Event) (i : ℕ) (p : Checkpoint) → AllRead es → IsSaved (after es) i p → reads checkpoints (bytes_of checkpoints p) ≡ Ok p
   pub ballots-back : (es : List Event) (kind : BallotKind) (i j ballot : ℕ) → AllRead es → WasSentInBallot (after es) kind i j ballot
-      → reads telegrams (bytes_of telegrams (OfBallot (ballot_at (after es) kind i j ballot))) ≡ Read (OfBallot (ballot_at (after es) kind i j ballot))
+      → reads telegrams (bytes_of telegrams (OfBallot (ballot_at (after es) kind i j ballot))) ≡ Ok (OfBallot (ballot_at (after es) kind i j ballot))

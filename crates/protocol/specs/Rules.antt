@@ -2,13 +2,14 @@
 -- (document 01: holders; the second backup is its second holder, f + 1). Stages are phases, bells are timeouts. A rule that another uses stands before it:
 -- Waiting before the second timeout, and the arrivals that may end waiting after it.
 use Rattle.std.specs.Prelude.{ℕ, suc, ◌+◌, Bool, true, false, cond, not, ◌&&◌, ◌||◌, leb, ltb}
+use Rattle.std.specs.Prelude.{Option, Some, None}
 use Rattle.ground.specs.Quantify.{all_to}
 use Rattle.ground.specs.Mask.{insert}
 use Rattle.votes.specs.VoteSets.{empty, single, complete}
 use Rattle.votes.specs.Joining.{join_next, join_all, unanimous_in, agreed_or}
 use Rattle.votes.specs.declared.VoteSet.{VoteSet}
-use Rattle.votes.specs.declared.Joined.{Joined}
-use Rattle.votes.specs.declared.Joined.TheVariants.{Agreed}
+use Rattle.votes.specs.Joining.{Joined}
+use Rattle.std.specs.Prelude.{Ok}
 use Rattle.model.specs.Ranges.{is_backup}
 use Rattle.model.specs.Routes.{recipients}
 use Rattle.model.specs.Numbers.{word_of}
@@ -16,26 +17,29 @@ use Rattle.model.specs.declared.Kind.TheVariants.{Vote, Ack, Help}
 use Rattle.model.specs.declared.Outcome.{Outcome}
 use Rattle.model.specs.declared.Outcome.TheVariants.{None}
 use Rattle.protocol.specs.declared.Controller.{Controller}
-use Rattle.protocol.specs.declared.Send.{Send}
-use Rattle.protocol.specs.declared.Send.TheVariants.{Nothing, To}
 use Rattle.protocol.specs.declared.Sends.{Sends}
 use Rattle.protocol.specs.declared.Reception.{Reception}
 use Rattle.protocol.specs.declared.Reception.TheVariants.{Taken, PassedOver, Contradicted}
 use Rattle.protocol.specs.declared.Answer.{Answer}
 use Rattle.protocol.specs.Controllers.{phase, has_ack, ack_of, has_helped, has_called, advance, learn, aim, keep_ack, keep_helped, freeze, add_caller, await, propose, conclude}
+use Rattle.protocol.specs.declared.Outgoing.{Outgoing}
+
+-- what is sent of a kind: one vote set to a set of controllers
+abbrev pub send_to : ℕ → VoteSet → Option Outgoing
+send_to to s = Some (record { to = to; votes = s })
 
 -- what an answer may send: nothing; a vote; an acknowledgement; help calls and the help vote set, to be sent or to be held ready
 abbrev pub nothing : Sends
-nothing = record { vote = Nothing; ack = Nothing; help = Nothing; helped = Nothing }
+nothing = record { vote = None; ack = None; help = None; helped = None }
 
 abbrev pub votes_to : ℕ → VoteSet → Sends
-votes_to to s = record { vote = To to s; ack = Nothing; help = Nothing; helped = Nothing }
+votes_to to s = record { vote = send_to to s; ack = None; help = None; helped = None }
 
 abbrev pub acks_to : ℕ → VoteSet → Sends
-acks_to to s = record { vote = Nothing; ack = To to s; help = Nothing; helped = Nothing }
+acks_to to s = record { vote = None; ack = send_to to s; help = None; helped = None }
 
-abbrev pub helps : Send → Send → Sends
-helps call answer = record { vote = Nothing; ack = Nothing; help = call; helped = answer }
+abbrev pub helps : Option Outgoing → Option Outgoing → Sends
+helps call answer = record { vote = None; ack = None; help = call; helped = answer }
 
 -- what an answer says in the papers' terms: 0, also where the call was passed over; or 24, a vote set that contradicts one held
 abbrev pub reception_number : Reception → ℕ
@@ -115,7 +119,7 @@ unfoldable pub sufficient : ℕ → ℕ → Controller → Bool
 sufficient n f c = c.help.waiting && leb n (c.acks.cnt.0 + c.helped.cnt_help.0 + f)
 
 unfoldable pub answers_join : ℕ → Controller → Joined
-answers_join n c = cond (ltb 0 c.acks.cnt.0) (ack_join n c) (Agreed c.helped.votes)
+answers_join n c = cond (ltb 0 c.acks.cnt.0) (ack_join n c) (Ok c.helped.votes)
 
 unfoldable pub propose_if_sufficient : ℕ → ℕ → Answer → Answer
 propose_if_sufficient n f a = cond (sufficient n f a.controller) (proposing a (verdict n (answers_join n a.controller))) a
@@ -131,11 +135,11 @@ frozen n c = freeze (advance c 3) (help_votes n c)
 -- Document 02, U4: a call kept is "answered at the second bell, after its own calls, in rising order of caller" (Sequence.antt has the sequence), whatever
 -- comes of the timeout. The help vote set s goes to those callers, and is ready from now on for those who call later: it is fixed, also if its owner stops.
 unfoldable pub ready : VoteSet → Controller → Answer
-ready s next = sending next (helps Nothing (To next.help.callers s))
+ready s next = sending next (helps None (send_to next.help.callers s))
 
 -- "Otherwise it waits, sends help calls to all others of f + 1 to n, and counts its own help sheet as an answer."
 unfoldable pub calls_help : ℕ → ℕ → ℕ → VoteSet → Controller → Answer
-calls_help n f i s c = sending (keep_helped (await c) i s) (helps (To (recipients n f Help i) empty) (To c.help.callers s))
+calls_help n f i s c = sending (keep_helped (await c) i s) (helps (send_to (recipients n f Help i) empty) (send_to c.help.callers s))
 
 -- the outcome, or else a word put ("Otherwise, if at least one is held, it puts the word of their join to the arbiter"), or else it waits
 unfoldable pub second_timeout : ℕ → ℕ → ℕ → Controller → Answer
@@ -162,7 +166,7 @@ unfoldable pub keeps_call : ℕ → Controller → Answer
 keeps_call j c = becomes (add_caller c j)
 
 unfoldable pub answers_call : ℕ → Controller → Answer
-answers_call j c = sending (add_caller c j) (helps Nothing (To (insert 0 j) c.help.votes))
+answers_call j c = sending (add_caller c j) (helps None (send_to (insert 0 j) c.help.votes))
 
 unfoldable pub help_arrives : ℕ → Controller → Answer
 help_arrives j c = cond (has_called c j) (passing_over c) (cond (leb (phase c) 2) (keeps_call j c) (answers_call j c))

@@ -1,6 +1,6 @@
 -- T COUNTS SENDS, and what was sent stays what it was. `message_count` (Display), which the T line shows, is the size of sets of receivers; that is the number of messages sent by the
 -- rules, since none is sent twice in an order. Said of every list of events. `sent_once` in src/lib.rt has it as its contract.
-use Rattle.std.specs.Prelude.{ℕ, ◌+◌, ◌≡◌, true, cond, List, [], ◌∷◌, ◌++◌, length}
+use Rattle.std.specs.Prelude.{ℕ, ◌+◌, ◌≡◌, true, cond, List, [], ◌∷◌, ◌++◌, length, Option, Some, None}
 use Rattle.ground.specs.Quantify.{count_to}
 use Rattle.ground.specs.Mask.{has}
 use Rattle.model.specs.declared.Kind.{Kind}
@@ -8,8 +8,6 @@ use Rattle.model.specs.declared.Kind.TheVariants.{Vote, Ack, Help, Helped}
 use Rattle.model.specs.declared.Event.{Event}
 use Rattle.model.specs.declared.Event.TheVariants.{Lock, Order, Cast, Deliver, Timeout, Decide, Stop, Save, Restore, OfBallots}
 use Rattle.protocol.specs.declared.Identity.{Identity}
-use Rattle.protocol.specs.declared.Send.{Send}
-use Rattle.protocol.specs.declared.Send.TheVariants.{Nothing, To}
 use Rattle.protocol.specs.declared.Sends.{Sends}
 use Rattle.protocol.specs.declared.Bench.{Bench}
 use Rattle.protocol.specs.Sequence.{messages_of_kind}
@@ -19,13 +17,14 @@ use Rattle.protocol.specs.Questions.{is_accepted, reply}
 use Rattle.protocol.specs.Steps.{sends_at, step}
 use Rattle.protocol.specs.Display.{WasSent, message_count}
 use Rattle.protocol.specs.Claim.{after, Accepted, SameOrder}
+use Rattle.protocol.specs.declared.Outgoing.{Outgoing}
 
 -- to whom an answer sends messages of a kind
-abbrev pub receivers_of : Send → ℕ
-receivers_of Nothing = 0
-receivers_of (To receivers votes) = receivers
+abbrev pub receivers_of : Option Outgoing → ℕ
+receivers_of None = 0
+receivers_of (Some o) = o.to
 
-abbrev pub send_of : Kind → Sends → Send
+abbrev pub send_of : Kind → Sends → Option Outgoing
 send_of Vote s = s.vote
 send_of Ack s = s.ack
 send_of Help s = s.help
@@ -70,4 +69,4 @@ pub record SentOnce : Type 0 where
   -- so the figures of the T line are the counts of the sends of the order's accepted events
   pub counted : (es : List Event) (kind : Kind) → message_count (after es) kind ≡ count_sends kind new_bench es 0
   -- and each of these sends has one message among those of the answer (Sequence)
-  pub listed : (me : Identity) (kind : Kind) (s : Send) → length (messages_of_kind me kind s) ≡ count_to me.n (has (receivers_of s))
+  pub listed : (me : Identity) (kind : Kind) (s : Option Outgoing) → length (messages_of_kind me kind s) ≡ count_to me.n (has (receivers_of s))

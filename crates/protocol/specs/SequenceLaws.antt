@@ -1,6 +1,6 @@
 -- Laws of the sequence of messages: how many members a set has, which is the k-th, and the k-th message of one list after another; and whatever
 -- equals the definition's k-th message is what is promised of it.
-use Rattle.std.specs.Prelude.{ℕ, zero, suc, ◌+◌, ◌-◌, ◌≤◌, ◌<◌, ◌≡◌, refl, Bool, true, false, cond, ◌⊎◌, take, drop, get_or}
+use Rattle.std.specs.Prelude.{ℕ, zero, suc, ◌+◌, ◌-◌, ◌≤◌, ◌<◌, ◌≡◌, refl, Bool, true, false, cond, ◌⊎◌, take, drop, get_or, slice_get, Option, Some, None, option_map, option_to_list}
 use Rattle.std.proofs.Common.{◌∙◌, ap, inl, inr, length-append}
 use mathlib.Core.List.{List, [], ◌∷◌, ◌++◌, map}
 use native.Mathlib.Omega.{arith}
@@ -13,9 +13,11 @@ use Rattle.ground.specs.Mask.{has}
 use Rattle.model.specs.declared.Message.{Message}
 use Rattle.protocol.specs.declared.Identity.{Identity}
 use Rattle.protocol.specs.declared.Sends.{Sends}
-use Rattle.protocol.specs.declared.ToSend.{ToSend}
-use Rattle.protocol.specs.declared.ToSend.TheVariants.{AllSent, Next}
-use Rattle.protocol.specs.Sequence.{members, messages_of, nth_of, to_send_number, to_send_values, NthMessageOf}
+use Rattle.model.specs.declared.BallotMessage.{BallotMessage}
+use Rattle.protocol.specs.declared.BallotAnswer.{BallotAnswer}
+use Rattle.protocol.specs.Sequence.{members, messages_of, to_send_number, NthMessageOf}
+use Rattle.protocol.specs.BallotCalls.{ballot_messages, NthBallotMessageOf}
+use Rattle.std.proofs.lemmas.Option.{slice_get-map, slice_get-get_or, slice_get_past}
 
 -- as many members as the set has of 1 to m
 pub members-size : (m set : ℕ) → length (members m set) ≡ count_to m (has set)
@@ -57,41 +59,36 @@ member-at (suc n) set k at h low high = elim (dec_le (suc at) n) [
     last (inr e) lo hi = unfold count_to in let hi' : k < 0 + count_to n (has set) = (rw e at hi) in absurd (omega arith)
 
 -- the k-th of two lists, one after the other
-pub nth_in : (ms rest : List Message) (k : ℕ) → k < length ms → nth_of (ms ++ rest) k ≡ nth_of ms k
-unfolding nth_of
-nth_in [] rest k h = absurd (omega arith)
-nth_in (m ∷ ms) rest zero h = refl
-nth_in (m ∷ ms) rest (suc k) h = nth_in ms rest k (omega arith)
+pub nth_in : {A : Type 0} (xs ys : List A) (k : ℕ) → k < length xs → slice_get (xs ++ ys) k ≡ slice_get xs k
+nth_in [] ys k h = absurd (omega arith)
+nth_in (x ∷ xs) ys zero h = refl
+nth_in (x ∷ xs) ys (suc k) h = nth_in xs ys k (omega arith)
 
-pub nth_past : (ms rest : List Message) (k : ℕ) → length ms ≤ k → nth_of (ms ++ rest) k ≡ nth_of rest (k - length ms)
-unfolding nth_of
-nth_past [] rest k h = ap (nth_of rest) (omega arith)
-nth_past (m ∷ ms) rest zero h = absurd (omega arith)
-nth_past (m ∷ ms) rest (suc k) h = nth_past ms rest k (omega arith) ∙ ap (nth_of rest) (omega arith)
+pub nth_past : {A : Type 0} (xs ys : List A) (k : ℕ) → length xs ≤ k → slice_get (xs ++ ys) k ≡ slice_get ys (k - length xs)
+nth_past [] ys k h = ap (slice_get ys) (omega arith)
+nth_past (x ∷ xs) ys zero h = absurd (omega arith)
+nth_past (x ∷ xs) ys (suc k) h = nth_past xs ys k (omega arith) ∙ ap (slice_get ys) (omega arith)
 
 -- the k-th of a list of messages to members; past the last there is none
-pub nth-map : (g : ℕ → Message) (xs : List ℕ) (k : ℕ) → k < length xs → nth_of (map g xs) k ≡ Next (g (get_or xs k 0))
-unfolding nth_of
-nth-map g [] k h = absurd (omega arith)
-nth-map g (x ∷ xs) zero h = refl
-nth-map g (x ∷ xs) (suc k) h = nth-map g xs k (omega arith)
+pub nth-map : {A : Type 0} (g : ℕ → A) (xs : List ℕ) (k : ℕ) → k < length xs → slice_get (map g xs) k ≡ Some (g (get_or xs k 0))
+nth-map g xs k h = slice_get-map g xs k ∙ ap (option_map g) (slice_get-get_or xs k 0 h)
 
-pub nth_end : (g : ℕ → Message) (xs : List ℕ) (k : ℕ) → length xs ≤ k → nth_of (map g xs) k ≡ AllSent
-unfolding nth_of
-nth_end g [] k h = refl
-nth_end g (x ∷ xs) zero h = absurd (omega arith)
-nth_end g (x ∷ xs) (suc k) h = nth_end g xs k (omega arith)
+pub nth_end : {A : Type 0} (g : ℕ → A) (xs : List ℕ) (k : ℕ) → length xs ≤ k → slice_get (map g xs) k ≡ None
+nth_end g xs k h = slice_get-map g xs k ∙ ap (option_map g) (slice_get_past xs k h)
 
-number_of : (r : ToSend) → to_send_number r ≡ 0
-number_of AllSent = refl
-number_of (Next m) = refl
+number_of : (r : Option Message) → to_send_number r ≡ 0
+number_of None = refl
+number_of (Some m) = refl
 
-values_of : (ms : List Message) (k : ℕ) → to_send_values (nth_of ms k) ≡ take 1 (drop k ms)
-unfolding nth_of
+-- as values, it is one or none
+values_of : {A : Type 0} (xs : List A) (k : ℕ) → option_to_list (slice_get xs k) ≡ take 1 (drop k xs)
 values_of [] zero = refl
 values_of [] (suc k) = refl
-values_of (m ∷ ms) zero = refl
-values_of (m ∷ ms) (suc k) = values_of ms k
+values_of (x ∷ xs) zero = refl
+values_of (x ∷ xs) (suc k) = values_of xs k
 
-pub nth-message-of : (me : Identity) (sends : Sends) (k : ℕ) (r : ToSend) → r ≡ nth_of (messages_of me sends) k → NthMessageOf me sends k r
-nth-message-of me sends k r e = rw e (record { answer = refl; number = number_of (nth_of (messages_of me sends) k); values = values_of (messages_of me sends) k })
+pub nth-message-of : (me : Identity) (sends : Sends) (k : ℕ) (r : Option Message) → r ≡ slice_get (messages_of me sends) k → NthMessageOf me sends k r
+nth-message-of me sends k r e = rw e (record { answer = refl; number = number_of (slice_get (messages_of me sends) k); values = values_of (messages_of me sends) k })
+
+pub nth-ballot-message-of : (me : Identity) (b : ℕ) (x : BallotAnswer) (k : ℕ) (r : Option BallotMessage) → r ≡ slice_get (ballot_messages me b x) k → NthBallotMessageOf me b x k r
+nth-ballot-message-of me b x k r e = rw e (record { answer = refl; values = values_of (ballot_messages me b x) k })

@@ -1,5 +1,5 @@
 -- Trials of stop, save and restore, and of one standing by. Document 01, "A controller's rules".
-use Rattle.std.specs.Prelude.{ℕ, Bool, true, false, ◌&&◌, List, [], ◌∷◌, ◌++◌, eqb}
+use Rattle.std.specs.Prelude.{ℕ, Bool, true, false, ◌&&◌, List, [], ◌∷◌, ◌++◌, eqb, option_to_list}
 use Rattle.model.specs.declared.Kind.TheVariants.{Vote, Ack}
 use Rattle.model.specs.declared.Outcome.{Outcome}
 use Rattle.model.specs.declared.Outcome.TheVariants.{None, Stay, Move}
@@ -7,7 +7,6 @@ use Rattle.model.specs.declared.Checkpoint.{Checkpoint}
 use Rattle.model.specs.declared.Event.{Event}
 use Rattle.model.specs.declared.Event.TheVariants.{Lock, Order, Cast, Deliver, Timeout, Decide, Stop, Save, Restore}
 use Rattle.protocol.specs.Benches.{new_bench, station}
-use Rattle.protocol.specs.Calls.{saved_values}
 use Rattle.protocol.specs.Steps.{run}
 use Rattle.protocol.specs.Rows.{Trial, same, same_outcome}
 use Rattle.protocol.specs.RowWords.{C, T, held, proposed, silent, putting, all_accepted}
@@ -62,7 +61,7 @@ abbrev same_checkpoint : Checkpoint → Checkpoint → Bool
 same_checkpoint x y = eqb x.id y.id && eqb x.n y.n && eqb x.f y.f && same_outcome x.outcome y.outcome && eqb x.order y.order && eqb x.position y.position
 
 unfoldable pub has_checkpoint : CheckpointTrial → Bool
-has_checkpoint r = same same_checkpoint (saved_values (station (run new_bench r.events) r.who).saved) (r.checkpoint ∷ [])
+has_checkpoint r = same same_checkpoint (option_to_list (station (run new_bench r.events) r.who).saved) (r.checkpoint ∷ [])
 
 unfoldable pub checkpoint_trials : List CheckpointTrial
 checkpoint_trials =

@@ -1,5 +1,5 @@
 -- What the bench does at an event, and over a list of events.
-use Rattle.std.specs.Prelude.{ℕ, Bool, true, cond, ◌||◌, List, [], ◌∷◌, map}
+use Rattle.std.specs.Prelude.{ℕ, Bool, true, cond, ◌||◌, List, [], ◌∷◌, map, Option}
 use Rattle.ground.specs.Lists.{put}
 use Rattle.model.specs.Numbers.{word_of, says_move, is_stay}
 use Rattle.model.specs.declared.Outcome.{Outcome}
@@ -7,7 +7,6 @@ use Rattle.model.specs.declared.Event.{Event}
 use Rattle.model.specs.declared.Event.TheVariants.{Lock, Order, Cast, Deliver, Timeout, Decide, Stop, Save, Restore, OfBallots}
 use Rattle.protocol.specs.declared.Sends.{Sends}
 use Rattle.protocol.specs.declared.Answer.{Answer}
-use Rattle.protocol.specs.declared.Saved.{Saved}
 use Rattle.protocol.specs.declared.Sent.{Sent}
 use Rattle.protocol.specs.declared.Station.{Station}
 use Rattle.protocol.specs.declared.Consensus.{Consensus}
@@ -22,6 +21,7 @@ use Rattle.protocol.specs.Counts.{counts_after}
 use Rattle.protocol.specs.Benches.{bench_of, no_consensus, all_undecided, station, controller, sent_by, identity, unsent_all, sent_after}
 use Rattle.protocol.specs.Events.{subject, source, answer_to}
 use Rattle.protocol.specs.Questions.{reply, is_accepted}
+use Rattle.model.specs.declared.Checkpoint.{Checkpoint}
 
 -- **New order**: "Old telegrams, words put and the arbiter's choice are gone; cards remain." All that are present are undecided.
 unfoldable pub renewed : Station → Station
@@ -58,7 +58,7 @@ answering m s a = record {
 }
 
 -- "the bench keeps the newest [card] per controller"
-unfoldable pub keeping : Station → Saved → Station
+unfoldable pub keeping : Station → Option Checkpoint → Station
 keeping s new = record { controller = s.controller; sent = s.sent; saved = new }
 
 -- what that controller sends at the event, by the rules

@@ -19,7 +19,7 @@ ghost use Rattle.protocol.specs.Termination.{Termination};
 ghost use Rattle.protocol.specs.Trials.{TrialsHold};
 
 use ground::LIMIT;
-use model::{BallotMessage, Checkpoint, Message, Outcome};
+use model::{Checkpoint, Outcome};
 use votes::VoteSet;
 
 // How far a running controller is in its order (document 01: its stage, 0 to 3), and its outcome.
@@ -100,24 +100,24 @@ pub struct Identity {
     pub order: u32,
 }
 
-// What a call sends of one kind: nothing, or one vote set to a set of controllers.
+// A vote set, and to whom it is sent.
 #[derive(Clone, Copy)]
-pub enum Send {
-    Nothing,
-    To(u32, VoteSet),
+pub struct Outgoing {
+    pub to: u32,
+    pub votes: VoteSet,
 }
 
-// What a call sends, by kind.
+// What a call sends, by kind: nothing, or one vote set to a set of controllers.
 #[derive(Clone, Copy)]
 pub struct Sends {
-    pub vote: Send,
-    pub ack: Send,
-    pub help: Send,
-    pub helped: Send,
+    pub vote: Option<Outgoing>,
+    pub ack: Option<Outgoing>,
+    pub help: Option<Outgoing>,
+    pub helped: Option<Outgoing>,
 }
 
 // How a controller took a call: taken; passed over; or refused, since the message's vote set contradicts one that it holds (document 02, U7).
-#[derive(Clone, Copy)]
+#[derive(Clone, Copy, Debug, PartialEq, Eq)]
 pub enum Reception {
     Taken,
     PassedOver,
@@ -133,27 +133,6 @@ pub struct Answer {
     pub proposal: Outcome,
 }
 
-// One of the messages (document 01: telegrams) of an answer, which a cabinet sends one by one; or there are no more.
-#[derive(Clone, Copy)]
-pub enum ToSend {
-    AllSent,
-    Next(Message),
-}
-
-// A checkpoint (document 01: a card), if there is one.
-#[derive(Clone, Copy)]
-pub enum Saved {
-    Nothing,
-    Newest(Checkpoint),
-}
-
-// A vote set, and to whom it was sent.
-#[derive(Clone, Copy)]
-pub struct Outgoing {
-    pub to: u32,
-    pub votes: VoteSet,
-}
-
 // What a controller has sent in this order, by kind. It outlives a stop.
 #[derive(Clone, Copy)]
 pub struct Sent {
@@ -163,12 +142,12 @@ pub struct Sent {
     pub helped: Outgoing,
 }
 
-// One controller on the bench: itself, what it has sent, its newest checkpoint.
+// One controller on the bench: itself, what it has sent, its newest checkpoint (document 01: a card), if there is one.
 #[derive(Clone, Copy)]
 pub struct Station {
     pub controller: Controller,
     pub sent: Sent,
-    pub saved: Saved,
+    pub saved: Option<Checkpoint>,
 }
 
 // The consensus (document 01: the arbiter) of one order: was Move put to it, was Stay, and its choice.
@@ -210,6 +189,7 @@ pub struct Tally {
 }
 
 // A promise, if one is given: it reports the ballot that its giver had last accepted, and the word of it.
+// stays (promise): `Encoding` of cabinet_state: words of a cabinet that say not given, with a word, are taken and written again as they stand.
 #[derive(Clone, Copy)]
 pub struct Report {
     pub given: bool,
@@ -226,13 +206,6 @@ pub struct BallotAnswer {
     pub promise: Report,
     pub proposes: bool,
     pub accepts: bool,
-}
-
-// One of the messages of such an answer, which a cabinet sends one by one; or there are no more.
-#[derive(Clone, Copy)]
-pub enum ToSendBallot {
-    AllSent,
-    Next(BallotMessage),
 }
 
 // One ballot on the bench: what its owner has counted; who has promised it, and which ballot each of them had last accepted then; who has accepted it ("the
@@ -254,6 +227,7 @@ pub struct Ballots {
 
 // What the controllers of a bench share: their lock (`own`: do they settle the word by ballots of their own), their order (0 before the first), the consensus,
 // and how many of them are undecided.
+// stays (promise): `locked` beside n and f: `new_bench`, and what a report shows of it (`summary_of`), name the n of a bench without a lock.
 #[derive(Clone, Copy)]
 pub struct Shared {
     pub locked: bool,

@@ -1,31 +1,17 @@
 // The words of the questions, and the one table of them in code.
 #![tactic(auto)]
 
-ghost use Rattle.std.specs.Prelude.{[], get_or};
-ghost use Rattle.text.specs.Writing.{Put};
-ghost use Rattle.words.specs.Words.{lines_of};
+ghost use Rattle.text.specs.Writers.{Wrote};
 ghost use Rattle.question_words.specs.Questions.{question_words};
 
-use text::put_bytes;
+use text::Writer;
 use words::nth_line;
 
-// Line k of a text, k from 0 on; nothing where there is none.
-fn put_nth_line(out: &mut [u8], at: usize, text: &[u8], k: usize) -> usize
-    ensures { Put out.old out.new at result (get_or (lines_of text.now) k []) }
-{
-    let span = nth_line(text, k);
-    let from = span.from;
-    let to = span.to;
-    put_bytes(&mut *out, at, &text[from..to])
-}
-
 // The words of a question; nothing for a number that no question has. Line k of the text is question k.
-pub fn put_question(out: &mut [u8], at: usize, number: u8) -> usize
-    ensures { Put out.old out.new at result (question_words number) }
+pub fn put_question(w: &mut Writer, number: u8)
+    ensures { Wrote w.old w.new (question_words number) }
 {
-    put_nth_line(
-        &mut *out,
-        at,
+    let words = nth_line(
         b"
 Is the record as long as it should be?
 Does it begin with its mark?
@@ -57,6 +43,7 @@ Is k from 1 to 1,000, s not 0, and s + k - 1 at most 4,294,967,295?
 Is it a ballot from 1 to 255, and may the controller open it?
 Has the lock no arbiter, and has the controller put a word?
 Is the card this controller's own?",
-        number as usize,
-    )
+        usize::from(number),
+    );
+    w.bytes(words)
 }

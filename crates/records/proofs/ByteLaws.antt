@@ -1,8 +1,9 @@
 -- Laws of bytes: numbers and their bytes, both ways round; a list as its elements; a buffer that a copy fills.
-use Rattle.std.specs.Prelude.{ℕ, zero, suc, ◌+◌, ◌*◌, ◌/◌, ◌%◌, ◌^◌, ◌≤◌, ◌<◌, ◌≡◌, refl, List, [], ◌∷◌, ◌++◌, length, take, drop}
+use Rattle.std.specs.Prelude.{ℕ, zero, suc, ◌+◌, ◌*◌, ◌/◌, ◌%◌, ◌^◌, ◌≤◌, ◌<◌, ◌≡◌, refl, List, [], ◌∷◌, ◌++◌, length, take, drop, get_or}
 use Rattle.std.proofs.Common.{sym, ◌∙◌, ap, append-nil, arith, drop_of_length-le}
 use Rattle.std.proofs.Math.ListN.{get_or-eq_default}
 use Rattle.std.proofs.Math.Seq.{take-length}
+use Rattle.std.specs.Int.{w16, w32, to_be_bytes}
 use Rattle.records.specs.Bytes.{byte, bytes2, bytes4}
 
 -- the number of its bytes
@@ -71,3 +72,15 @@ plus-three at = omega arith
 -- past the end every byte reads as 0
 pub byte_past : (s : List ℕ) (k : ℕ) → length s ≤ k → byte s k ≡ 0
 byte_past s k h = get_or-eq_default s 0 h
+
+-- std's bytes of a number are its two, and its four
+pub be_two : (v : ℕ) → to_be_bytes w16 v ≡ bytes2 v
+be_two v = let a : get_or (to_be_bytes w16 v) 0 0 ≡ v / 256 % 256 = omega arith in let b : get_or (to_be_bytes w16 v) 1 0 ≡ v % 256 = omega arith in λ i. a i ∷ b i ∷ []
+
+pub be_four : (v : ℕ) → to_be_bytes w32 v ≡ bytes4 v
+be_four v =
+    let a : get_or (to_be_bytes w32 v) 0 0 ≡ v / 65536 / 256 % 256 = omega arith in
+    let b : get_or (to_be_bytes w32 v) 1 0 ≡ v / 65536 % 256 = omega arith in
+    let c : get_or (to_be_bytes w32 v) 2 0 ≡ v / 256 % 256 = omega arith in
+    let d : get_or (to_be_bytes w32 v) 3 0 ≡ v % 256 = omega arith in
+    λ i. a i ∷ b i ∷ c i ∷ d i ∷ []

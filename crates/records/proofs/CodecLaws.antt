@@ -1,13 +1,13 @@
 -- The promises hold of every description that is lawful. A field's number and its bytes give each other back, then all fields of a record by going
 -- along the widths, then the record by its questions.
-use Rattle.std.specs.Prelude.{ℕ, ◌+◌, ◌*◌, ◌<◌, ◌≤◌, ◌^◌, ◌≡◌, refl, true, List, [], ◌∷◌, ◌++◌, eqb, length, drop, get_or}
+use Rattle.std.specs.Prelude.{ℕ, ◌+◌, ◌*◌, ◌<◌, ◌≤◌, ◌^◌, ◌≡◌, refl, true, List, [], ◌∷◌, ◌++◌, eqb, length, drop, get_or, Ok}
 use Rattle.std.proofs.Common.{sym, ◌∙◌, subst, append_assoc, arith, add-one, eq-eqb, eqb-true, length-append, drop_of_length-le, get_or-append-add, drop-cons}
 use Rattle.std.proofs.Math.Path.{ap}
 use Rattle.model.specs.Questions.{Reply, accepted, refused, Question, first_no}
 use Rattle.model.specs.QuestionLaws.{AllYes, all_yes, yes-all}
 use Rattle.records.specs.Bytes.{byte, number2, bytes2, bytes4, AllBytes, Width, one, two, four, size, number_at, bytes_of_width, numbers_at, bytes_of_widths, total_width}
 use Rattle.records.proofs.ByteLaws.{number-of-two, number-of-four, of_two, of_four}
-use Rattle.records.specs.Codec.{Mark, marked, unmarked, mark_bytes, mark_length, mark_question, Reading, is_record, is_refusal, Form, form_length, fields_by, value_by, form_bytes, form_questions, Codec, own_form, value_on, bytes_of, read_questions, returned, reads, write_reply, written, writes}
+use Rattle.records.specs.Codec.{Mark, marked, unmarked, mark_bytes, mark_length, mark_question, Reading, answer_of, is_record, Form, form_length, fields_by, value_by, form_bytes, form_questions, Codec, own_form, value_on, bytes_of, read_questions, returned, reads, write_reply, written, writes}
 use Rattle.records.specs.Promises.{In32Bits, answer_by, Promises}
 
 -- numbers that their widths hold; what the code holds as a byte is one
@@ -118,7 +118,7 @@ mark_right (marked m) h rest qs y = (eq-eqb (number2 (bytes2 m ++ rest) 0) m (nu
 mark_right unmarked h rest qs y = y
 
 -- what a record's crate shows of its description
-pub record Lawful {S A R : Type 0} (c : Codec S A R) : Type 0 where
+pub record Lawful {S A : Type 0} (c : Codec S A) : Type 0 where
   -- of each form: a mark of two bytes, and listed fields are those of their value
   pub mark_fits : (k : S) → MarkFits (c.form k).mark
   pub fields-of-value : (k : S) (vs : List ℕ) → length vs ≡ length (c.form k).widths → (c.form k).listed vs ≡ true → (c.form k).fields ((c.form k).value vs) ≡ vs
@@ -129,20 +129,18 @@ pub record Lawful {S A R : Type 0} (c : Codec S A R) : Type 0 where
   -- the forms never overlap: bytes of a form are read by that form, and a value read by a form is written in it
   pub told-apart : (k : S) (a : A) → c.form_on (form_bytes (c.form k) a) ≡ k
   pub own : (k : S) (vs : List ℕ) → (c.form k).listed vs ≡ true → AllYes ((c.form k).asked ((c.form k).value vs)) → c.form_of ((c.form k).value vs) ≡ k
-  pub answer-read : (a : A) → c.answer (c.read a) ≡ is_record a
-  pub answer-refusal : (q : ℕ) → c.answer (c.refusal q) ≡ is_refusal q
 
 -- an answer tells a record from a refusal
 told : {A : Type 0} (r : Reply) (x a : A) → answer_by r x ≡ is_record a → (r ≡ accepted) × (x ≡ a)
 told {A = A} accepted x a e = (refl, ap (λ (y : Reading A). get_or y.values 0 x) e)
 told {A = A} (refused q) x a e = let z : ◌≡◌ {A = ℕ} 0 1 = ap (λ (y : Reading A). length y.values) e in absurd (omega arith)
 
-module _ {S A R : Type 0} (c : Codec S A R) (law : Lawful c) where
-  answer-of : (r : Reply) (a : A) → c.answer (returned c r a) ≡ answer_by r a
-  answer-of accepted a = law.answer-read a
-  answer-of (refused q) a = law.answer-refusal q
+module _ {S A : Type 0} (c : Codec S A) (law : Lawful c) where
+  answer-of : (r : Reply) (a : A) → answer_of (returned c r a) ≡ answer_by r a
+  answer-of accepted a = refl
+  answer-of (refused q) a = refl
 
-  answered : (s : List ℕ) → c.answer (reads c s) ≡ answer_by (first_no (read_questions c s)) (value_on c s)
+  answered : (s : List ℕ) → answer_of (reads c s) ≡ answer_by (first_no (read_questions c s)) (value_on c s)
   unfolding reads
   answered s = answer-of (first_no (read_questions c s)) (value_on c s)
 
@@ -159,11 +157,11 @@ module _ {S A R : Type 0} (c : Codec S A R) (law : Lawful c) where
       ap (bytes_of_widths g.widths) vs ∙ numbers-same g.widths s (mark_length g.mark) all l in
       (ap (λ (x : List ℕ). mark_bytes g.mark ++ x) body ∙ marks.0, law.own k (fields_by g s) marks.1.0 marks.1.1)
 
-  writes-back : (s : List ℕ) (a : A) → AllBytes s → reads c s ≡ c.read a → bytes_of c a ≡ s
+  writes-back : (s : List ℕ) (a : A) → AllBytes s → reads c s ≡ Ok a → bytes_of c a ≡ s
   unfolding reads
   writes-back s a all q =
       let r : (first_no (read_questions c s) ≡ accepted) × (value_on c s ≡ a) =
-      told (first_no (read_questions c s)) (value_on c s) a (sym (answered s) ∙ (ap c.answer q ∙ law.answer-read a)) in
+      told (first_no (read_questions c s)) (value_on c s) a (sym (answered s) ∙ ap answer_of q) in
       let b = same_bytes (c.form_on s) s all (all_yes (read_questions c s) r.0) in
       ap (bytes_of c) (sym r.1) ∙ (ap (λ (k : S). form_bytes (c.form k) (value_on c s)) b.1 ∙ b.0)
 
@@ -186,19 +184,19 @@ module _ {S A R : Type 0} (c : Codec S A R) (law : Lawful c) where
       let about : AllYes (g.asked (value_by g s)) = subst (λ (x : A). AllYes (g.asked x)) (sym back) yes in
       (yes-all (form_questions g s) (lengths, mark_right g.mark (law.mark_fits (c.form_of a)) rest _ (lists, about)), back)
 
-  reads-back : (a : A) → In32Bits (own_form c a).widths ((own_form c a).fields a) → first_no ((own_form c a).asked a) ≡ accepted → reads c (bytes_of c a) ≡ c.read a
+  reads-back : (a : A) → In32Bits (own_form c a).widths ((own_form c a).fields a) → first_no ((own_form c a).asked a) ≡ accepted → reads c (bytes_of c a) ≡ Ok a
   unfolding reads
   reads-back a h passes =
       let b = same-value a h passes in
       ap (λ (k : S). returned c (first_no (form_questions (c.form k) (bytes_of c a))) (value_by (c.form k) (bytes_of c a))) (law.told-apart (c.form_of a) a)
-      ∙ (ap (λ (r : Reply). returned c r (value_by (own_form c a) (bytes_of c a))) b.0 ∙ ap c.read b.1)
+      ∙ (ap (λ (r : Reply). returned c r (value_by (own_form c a) (bytes_of c a))) b.0 ∙ ap Ok b.1)
 
   -- bytes of a form are read by it, whichever it is
   form-told : (k : S) (s : List ℕ) → AllBytes s → first_no (form_questions (c.form k) s) ≡ accepted → c.form_on s ≡ k
   form-told k s all p =
       ap c.form_on (sym (same_bytes k s all (all_yes (form_questions (c.form k) s) p)).0) ∙ law.told-apart k (value_by (c.form k) s)
 
-  forms-read : (k : S) (s : List ℕ) → AllBytes s → first_no (form_questions (c.form k) s) ≡ accepted → reads c s ≡ c.read (value_by (c.form k) s)
+  forms-read : (k : S) (s : List ℕ) → AllBytes s → first_no (form_questions (c.form k) s) ≡ accepted → reads c s ≡ Ok (value_by (c.form k) s)
   unfolding reads
   forms-read k s all p =
       ap (λ (x : S). returned c (first_no (form_questions (c.form x) s)) (value_by (c.form x) s)) (form-told k s all p) ∙ ap (λ (r : Reply). returned c r (value_by (c.form k) s)) p

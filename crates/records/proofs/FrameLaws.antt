@@ -1,19 +1,14 @@
 -- Reading and writing by frames is reading and writing by the description: what each way out of a reader returns, and what a writer leaves.
-use Rattle.std.specs.Prelude.{ℕ, ◌≡◌, false, List, ◌∷◌, ◌++◌, ◌⊎◌, length}
+use Rattle.std.specs.Prelude.{ℕ, ◌≡◌, Bool, true, false, List, ◌∷◌, ◌++◌, eqb, length, Result, Ok, Err}
 use Rattle.std.proofs.Math.Path.{refl, sym, ap}
-use Rattle.std.proofs.Common.{◌∙◌, inl, inr}
-use Rattle.std.proofs.Math.Bool.{true}
-use borrow.Author.Tests.{eqb-true, eqb-false}
-use Rattle.std.proofs.Math.Dec.{eqb}
-use Rattle.ground.specs.Tests.{split}
-use Rattle.model.specs.Questions.{Reply, accepted, refused, number, Question, ask, unless, first_no}
-use Rattle.model.specs.QuestionLaws.{all_yes, first-accepted, first-refused, numbered, reply-accepted, reply-refused}
+use Rattle.std.proofs.Common.{◌∙◌, eqb-true, arith}
+use Rattle.model.specs.Questions.{Reply, accepted, refused, Question, ask, unless, first_no}
+use Rattle.model.specs.QuestionLaws.{all_yes, first-accepted, first-refused}
 use Rattle.records.specs.Codec.{Mark, marked, mark_question, form_length, fields_by, value_by, form_questions, Codec, own_form, record_length, bytes_of, returned, reads, write_reply, written, writes}
-use Rattle.records.specs.Frames.{frame_questions, write_number, buffer_after}
+use Rattle.records.specs.Frames.{frame_questions, if_listed, put_reply, buffer_after, PutUnless}
 
--- a reader, from the form k that it took and what `frame_question` answered
-module _ {S A R : Type 0} (c : Codec S A R) (s : List ℕ) (k : S) (on : k ≡ c.form_on s) (m : ℕ) (marks : (c.form k).mark ≡ marked m)
-    (q₀ : ℕ) (e : q₀ ≡ number (first_no (frame_questions (form_length (c.form k)) m s))) where
+-- a reader, from the form k that it took and what `frame_question` replied
+module _ {S A : Type 0} (c : Codec S A) (s : List ℕ) (k : S) (on : k ≡ c.form_on s) (m : ℕ) (marks : (c.form k).mark ≡ marked m) where
   frame : List Question
   frame = frame_questions (form_length (c.form k)) m s
 
@@ -30,72 +25,69 @@ module _ {S A R : Type 0} (c : Codec S A R) (s : List ℕ) (k : S) (on : k ≡ c
       sym (ap (λ (x : Reply). returned c x (value_by (c.form k) s)) (ap first_no both ∙ h))
       ∙ ap (λ (x : S). returned c (first_no (form_questions (c.form x) s)) (value_by (c.form x) s)) on
 
-  framed : q₀ ≡ 0 → first_no frame ≡ accepted
+  pub frame_refused : (q : ℕ) → refused q ≡ first_no (frame_questions (form_length (c.form k)) m s) → Err q ≡ reads c s
   unfolding frame
-  framed z = reply-accepted (frame_questions (form_length (c.form k)) m s) q₀ refl e z
+  frame_refused q e = replied (refused q) (first-refused frame rest q (sym e))
 
-  pub frame_refused : (q₀ ≡ 0 → ⊥) → c.refusal q₀ ≡ reads c s
-  unfolding frame
-  frame_refused n = replied (refused q₀) (first-refused frame rest q₀ (reply-refused (frame_questions (form_length (c.form k)) m s) q₀ e n))
+  module _ (e : accepted ≡ first_no (frame_questions (form_length (c.form k)) m s)) where
+    pub frame-length : length s ≡ form_length (c.form k)
+    frame-length = eqb-true (length s) (form_length (c.form k)) (all_yes (frame_questions (form_length (c.form k)) m s) (sym e)).0
 
-  pub frame-length : q₀ ≡ 0 → length s ≡ form_length (c.form k)
-  unfolding frame
-  frame-length z = eqb-true (length s) (form_length (c.form k)) (all_yes frame (framed z)).0
+    listed-read : (t : Bool) → (c.form k).listed (fields_by (c.form k) s) ≡ t → (r : Reply) → unless 3 t (first_no ((c.form k).asked (value_by (c.form k) s))) ≡ r
+        → returned c r (value_by (c.form k) s) ≡ reads c s
+    unfolding frame rest first_no
+    listed-read t l r h = replied r (first-accepted frame rest (sym e) ∙ rw l h)
 
-  pub unlisted : q₀ ≡ 0 → (c.form k).listed (fields_by (c.form k) s) ≡ false → c.refusal 3 ≡ reads c s
-  unfolding rest first_no unless
-  unlisted z l = replied (refused 3) (first-accepted frame rest (framed z) ∙ rw l)
+    pub unlisted : (c.form k).listed (fields_by (c.form k) s) ≡ false → Err 3 ≡ reads c s
+    unfolding unless
+    unlisted l = listed-read false l (refused 3) refl
 
-  listed-read : q₀ ≡ 0 → (c.form k).listed (fields_by (c.form k) s) ≡ true → (r : Reply) → first_no ((c.form k).asked (value_by (c.form k) s)) ≡ r
-      → returned c r (value_by (c.form k) s) ≡ reads c s
-  unfolding rest first_no unless
-  listed-read z l r h = replied r (first-accepted frame rest (framed z) ∙ rw l h)
+    -- the record's own questions, of the value that the code has read
+    module _ (l : (c.form k).listed (fields_by (c.form k) s) ≡ true) (a : A) (v : a ≡ value_by (c.form k) s) where
+      asked-read : (r : Reply) → r ≡ first_no ((c.form k).asked a) → returned c r (value_by (c.form k) s) ≡ reads c s
+      unfolding unless
+      asked-read r h = listed-read true l r (ap (λ (x : A). first_no ((c.form k).asked x)) (sym v) ∙ sym h)
 
-  -- the record's own questions, of the value that the code has read and by the number that it answered
-  module _ (z : q₀ ≡ 0) (l : (c.form k).listed (fields_by (c.form k) s) ≡ true) (a : A) (v : a ≡ value_by (c.form k) s) (q : ℕ) (f : q ≡ number (first_no ((c.form k).asked a))) where
-    pub question-refused : (q ≡ 0 → ⊥) → c.refusal q ≡ reads c s
-    question-refused n = listed-read z l (refused q) (ap (λ (x : A). first_no ((c.form k).asked x)) (sym v) ∙ reply-refused ((c.form k).asked a) q f n)
+      pub question-refused : (q : ℕ) → refused q ≡ first_no ((c.form k).asked a) → Err q ≡ reads c s
+      question-refused q h = asked-read (refused q) h
 
-    pub questions-passed : numbered ((c.form k).asked a) ≡ true → q ≡ 0 → c.read a ≡ reads c s
-    questions-passed n y = ap c.read v ∙ listed-read z l accepted (ap (λ (x : A). first_no ((c.form k).asked x)) (sym v) ∙ reply-accepted ((c.form k).asked a) q n f y)
+      pub questions-passed : accepted ≡ first_no ((c.form k).asked a) → Ok a ≡ reads c s
+      questions-passed h = ap Ok v ∙ asked-read accepted h
 
--- a writer, from the record's bytes and the number that its questions answered
-module _ {S A R : Type 0} (c : Codec S A R) (a : A) (out content : List ℕ) (b : content ≡ bytes_of c a) (l : length (bytes_of c a) ≡ record_length c a)
-    (q₀ : ℕ) (e : q₀ ≡ number (first_no ((own_form c a).asked a))) (n : numbered ((own_form c a).asked a) ≡ true) where
-  Written : ℕ → List ℕ → Type 0
-  Written r after = (r ≡ number (write_reply c out a)) × (after ≡ writes c out a)
+-- a writer, from the record's bytes and what its questions replied
+module _ {S A : Type 0} (c : Codec S A) (a : A) (out content : List ℕ) (b : content ≡ bytes_of c a) (l : length (bytes_of c a) ≡ record_length c a) where
+  kept : (r : Reply) → buffer_after out (bytes_of c a) r ≡ written c r a out
+  kept accepted = refl
+  kept (refused q) = refl
 
-  by-reply : (r : Reply) → write_reply c out a ≡ r → Written (number r) (written c r a out)
-  unfolding Written writes
-  by-reply r h = (ap number (sym h), ap (λ (x : Reply). written c x a out) (sym h))
+  -- what `write_record` replies and leaves
+  pub record-written : {asked r : Reply} {after : List ℕ} → asked ≡ first_no ((own_form c a).asked a) → PutUnless content asked out after r
+      → (r ≡ write_reply c out a) × (after ≡ writes c out a)
+  unfolding put_reply write_reply writes first_no
+  record-written e w =
+      let size : length content ≡ record_length c a = ap length b ∙ l in
+      let r = w.0 ∙ (λ i. unless 1 (eqb (length out) (size i)) (e i)) in
+      (r, w.1 ∙ ((λ i. buffer_after out (b i) (r i)) ∙ kept (write_reply c out a)))
 
-  same_size : eqb (length out) (length content) ≡ eqb (length out) (record_length c a)
-  same_size = ap (eqb (length out)) (ap length b ∙ l)
+-- fields that the code has read are listed, and stand for what it read; or they are not, and it answers 3
+is_ok : {A : Type 0} → Result A ℕ → ℕ
+is_ok (Ok a) = 1
+is_ok (Err q) = 0
 
-  long : eqb (length out) (record_length c a) ≡ true → (r : Reply) → first_no ((own_form c a).asked a) ≡ r → write_reply c out a ≡ r
-  unfolding write_reply first_no unless
-  long t r h = rw t h
+value_or : {A : Type 0} → A → Result A ℕ → A
+value_or d (Ok a) = a
+value_or d (Err q) = d
 
-  short : eqb (length out) (record_length c a) ≡ false → write_reply c out a ≡ refused 1
-  unfolding write_reply first_no unless
-  short t = rw t
+refusal_or : {A : Type 0} → Result A ℕ → ℕ
+refusal_or (Ok a) = 0
+refusal_or (Err q) = q
 
-  by_code : Written (write_number out content q₀) (buffer_after out content q₀)
-  unfolding Written write_number buffer_after
-  by_code = sized (split (eqb (length out) (record_length c a)))
-    where
-      asked : eqb (length out) (record_length c a) ≡ true → (eqb q₀ 0 ≡ true) ⊎ (eqb q₀ 0 ≡ false) → Written (write_number out content q₀) (buffer_after out content q₀)
-      asked t (inl y) =
-          let z : q₀ ≡ 0 = eqb-true q₀ 0 y in
-          let w = by-reply accepted (long t accepted (reply-accepted ((own_form c a).asked a) q₀ n e z)) in
-          rw (same_size, t, y) (z ∙ w.0, b ∙ w.1)
-      asked t (inr y) = rw (same_size, t, y) (by-reply (refused q₀) (long t (refused q₀) (reply-refused ((own_form c a).asked a) q₀ e (eqb-false q₀ 0 y))))
+pub listed-value : {A : Type 0} (t : Bool) (x a : A) → Ok x ≡ if_listed t a → (t ≡ true) × (x ≡ a)
+unfolding is_ok value_or
+listed-value true x a e = (refl, ap (value_or x) e)
+listed-value false x a e = let z : ◌≡◌ {A = ℕ} 1 0 = ap is_ok e in absurd (omega arith)
 
-      sized : (eqb (length out) (record_length c a) ≡ true) ⊎ (eqb (length out) (record_length c a) ≡ false) → Written (write_number out content q₀) (buffer_after out content q₀)
-      sized (inl t) = asked t (split (eqb q₀ 0))
-      sized (inr t) = rw (same_size, t) (by-reply (refused 1) (short t))
-
-  -- what `write_record` answers and leaves
-  pub record-written : {r : ℕ} {after : List ℕ} → (r ≡ write_number out content q₀) × (after ≡ buffer_after out content q₀) → (r ≡ number (write_reply c out a)) × (after ≡ writes c out a)
-  unfolding Written
-  record-written w = (w.0 ∙ by_code.0, w.1 ∙ by_code.1)
+pub listed-refused : {A : Type 0} (t : Bool) (a : A) (q : ℕ) → Err q ≡ if_listed t a → (t ≡ false) × (q ≡ 3)
+unfolding is_ok refusal_or
+listed-refused true a q e = let z : ◌≡◌ {A = ℕ} 0 1 = ap is_ok e in absurd (omega arith)
+listed-refused false a q e = (refl, ap refusal_or e)

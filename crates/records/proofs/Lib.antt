@@ -1,3 +1,4 @@
 pub mod ByteLaws
 pub mod CodecLaws
 pub mod FrameLaws
+pub mod Unlisted

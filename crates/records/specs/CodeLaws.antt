@@ -1,7 +1,7 @@
 -- Laws of listed values: kinds, outcomes and flags and their numbers, both ways round.
 use Rattle.std.specs.Prelude.{ℕ, zero, suc, ◌≤◌, ◌≡◌, refl, Bool, true, false, leb}
-use Rattle.std.proofs.Common.{arith, leb-true}
-use Rattle.ground.specs.Tests.{and_l, and_r}
+use Rattle.std.proofs.Common.{sym, ◌∙◌, ap, arith, leb-true, inl, inr}
+use Rattle.ground.specs.Tests.{and_l, and_r, split}
 use Rattle.model.specs.Numbers.{kind_number, ballot_kind_number, outcome_number}
 use Rattle.model.specs.declared.Kind.{Kind}
 use Rattle.model.specs.declared.Kind.TheVariants.{Vote, Ack, Help, Helped}
@@ -113,3 +113,22 @@ flag_in_range (suc (suc x)) h = absurd (omega arith)
 
 pub number-of_flag : (x : ℕ) → is_flag x ≡ true → flag_number (flag_of x) ≡ x
 number-of_flag x t = flag_in_range x (leb-true x 1 t)
+
+-- what a byte is read as, by the number of what is read
+pub kind-read : (x : ℕ) (k : Kind) → kind_number k ≡ x → (is_kind x ≡ true) × (kind_of x ≡ k)
+kind-read x k e = (ap is_kind (sym e) ∙ kind-listed k, ap kind_of (sym e) ∙ kind-of-number k)
+
+pub no_kind : (x : ℕ) → ((k : Kind) → kind_number k ≡ x → ⊥) → is_kind x ≡ false
+no_kind x n = elim (split (is_kind x)) [ inl t ↦ absurd (n (kind_of x) (number-of-kind x t)) | inr f ↦ f ]
+
+pub ballot-kind-read : (x : ℕ) (k : BallotKind) → ballot_kind_number k ≡ x → (is_ballot_kind x ≡ true) × (ballot_kind_of x ≡ k)
+ballot-kind-read x k e = (ap is_ballot_kind (sym e) ∙ ballot-kind-listed k, ap ballot_kind_of (sym e) ∙ ballot-kind-of-number k)
+
+pub no_ballot-kind : (x : ℕ) → ((k : BallotKind) → ballot_kind_number k ≡ x → ⊥) → is_ballot_kind x ≡ false
+no_ballot-kind x n = elim (split (is_ballot_kind x)) [ inl t ↦ absurd (n (ballot_kind_of x) (number-of-ballot-kind x t)) | inr f ↦ f ]
+
+pub outcome-read : (x : ℕ) (o : Outcome) → outcome_number o ≡ x → (is_outcome x ≡ true) × (outcome_of x ≡ o)
+outcome-read x o e = (ap is_outcome (sym e) ∙ outcome-listed o, ap outcome_of (sym e) ∙ outcome-of-number o)
+
+pub no_outcome : (x : ℕ) → ((o : Outcome) → outcome_number o ≡ x → ⊥) → is_outcome x ≡ false
+no_outcome x n = elim (split (is_outcome x)) [ inl t ↦ absurd (n (outcome_of x) (number-of-outcome x t)) | inr f ↦ f ]

@@ -1,7 +1,7 @@
 -- A record as bytes, described once: its mark, the widths of its fields, what stands in them, and what is asked of it. Document 01, "Records" and
 -- "Questions put to a record or event". Each record is one such description, beside document 01's line on it: checkpoint_record, message_record and
 -- event_record. What holds of all of them is in Promises, and is proved once, in CodecLaws.
-use Rattle.std.specs.Prelude.{ℕ, ◌+◌, Bool, List, [], ◌∷◌, ◌++◌, eqb, length}
+use Rattle.std.specs.Prelude.{ℕ, ◌+◌, Bool, List, [], ◌∷◌, ◌++◌, eqb, length, Result, Ok, Err}
 use Rattle.model.specs.Questions.{Reply, accepted, refused, Question, ask, first_no}
 use Rattle.records.specs.Bytes.{number2, bytes2, Width, numbers_at, bytes_of_widths, total_width}
 
@@ -23,7 +23,7 @@ abbrev pub mark_question : Mark → List ℕ → List Question
 mark_question (marked m) s = ask 2 (eqb (number2 s 0) m) ∷ []
 mark_question unmarked s = []
 
--- what a reader's answer says in document 01's terms: the number, 0 for a record, and the record's value if there is one
+-- a reader returns a value, or the number of a question. What that says in document 01's terms: the number, 0 for a record, and the record's value if there is one
 pub record Reading (A : Type 0) : Type 0 where
   pub number : ℕ
   pub values : List A
@@ -33,6 +33,10 @@ is_record a = record { number = 0; values = a ∷ [] }
 
 abbrev pub is_refusal : {A : Type 0} → ℕ → Reading A
 is_refusal q = record { number = q; values = [] }
+
+abbrev pub answer_of : {A : Type 0} → Result A ℕ → Reading A
+answer_of (Ok a) = is_record a
+answer_of (Err q) = is_refusal q
 
 -- one form in which a value of A stands as bytes
 pub record Form (A : Type 0) : Type 0 where
@@ -64,22 +68,18 @@ module _ {A : Type 0} (k : Form A) where
   abbrev pub form_questions : List ℕ → List Question
   form_questions s = ask 1 (eqb (length s) form_length) ∷ (mark_question k.mark s ++ (ask 3 (k.listed (fields_by s)) ∷ k.asked (value_by s)))
 
--- the description of a record: S has a name for each of its forms, A is what it stands for, R what its reader returns
-pub record Codec (S A R : Type 0) : Type 0 where
+-- the description of a record: S has a name for each of its forms, A is what it stands for
+pub record Codec (S A : Type 0) : Type 0 where
   pub form : S → Form A
   -- by which form bytes are read, from their length and mark alone; and in which form a value is written
   pub form_on : List ℕ → S
   pub form_of : A → S
-  -- what the reader returns for a value and for a refusal, and the one definition of what that says
-  pub read : A → R
-  pub refusal : ℕ → R
-  pub answer : R → Reading A
 
 -- a record of one form
-abbrev pub one_form : {A R : Type 0} → Form A → (A → R) → (ℕ → R) → (R → Reading A) → Codec (Unit {0}) A R
-one_form k read refusal answer = record { form = λ u. k; form_on = λ s. tt; form_of = λ a. tt; read = read; refusal = refusal; answer = answer }
+abbrev pub one_form : {A : Type 0} → Form A → Codec (Unit {0}) A
+one_form k = record { form = λ u. k; form_on = λ s. tt; form_of = λ a. tt }
 
-module _ {S A R : Type 0} (c : Codec S A R) where
+module _ {S A : Type 0} (c : Codec S A) where
   -- the form of bytes, and that of a value
   abbrev pub form_at : List ℕ → Form A
   form_at s = c.form (c.form_on s)
@@ -101,11 +101,11 @@ module _ {S A R : Type 0} (c : Codec S A R) where
   read_questions s = form_questions (form_at s) s
 
   -- "A refused read returns the number and no record"
-  abbrev pub returned : Reply → A → R
-  returned accepted a = c.read a
-  returned (refused q) a = c.refusal q
+  abbrev pub returned : Reply → A → Result A ℕ
+  returned accepted a = Ok a
+  returned (refused q) a = Err q
 
-  unfoldable pub reads : List ℕ → R
+  unfoldable pub reads : List ℕ → Result A ℕ
   reads s = returned (first_no (read_questions s)) (value_on s)
 
   -- writing asks 1 of the buffer; there is no mark to ask 2 of, and kinds, outcomes and flags are listed ones

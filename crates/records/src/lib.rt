@@ -5,9 +5,6 @@ mod codes;
 mod frame;
 mod number;
 
-pub use codes::{
-    ballot_kind_of, flag_number, flag_of, is_ballot_kind, is_flag, is_kind, is_outcome, kind_of,
-    outcome_of,
-};
+pub use codes::{flag_of, is_flag, is_outcome, kind_of, outcome_of};
 pub use frame::{frame_question, write_record};
 pub use number::{byte_after, low_byte, number2, number4};

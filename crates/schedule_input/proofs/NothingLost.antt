@@ -16,8 +16,8 @@ use Rattle.model.specs.declared.BallotEvent.{BallotEvent}
 use Rattle.model.specs.declared.BallotEvent.TheVariants.{Open, Carry}
 use Rattle.records.specs.Bytes.{AllBytes}
 use Rattle.event_record.specs.Events.{ballot_fields, event_fields, fields_of, event_bytes, records_of}
-use Rattle.event_record.specs.declared.ReadEvent.{ReadEvent}
-use Rattle.event_record.specs.declared.ReadEvent.TheVariants.{Read, Refused}
+use Rattle.event_record.specs.Events.{ReadEvent}
+use Rattle.std.specs.Prelude.{Ok, Err}
 use Rattle.event_record.proofs.RoundTrips.{promises}
 use Rattle.schedule_reader.specs.Pieces.{piece_at, record_at}
 use Rattle.schedule_text.proofs.Held.{bytes-taken, bytes_left}
@@ -25,7 +25,7 @@ use Rattle.schedule_text.proofs.RoundTrips.{both_ways}
 use Rattle.bench_report.specs.Limits.{longest_schedule}
 use Rattle.words.specs.Words.{run, pieces, words_of}
 use Rattle.schedule_text.specs.Forms.{row_of, slot_in}
-use Rattle.schedule_text.specs.Texts.{ended, read_words, read_line, read_lines, read_text, Result, made, refused, write_text}
+use Rattle.schedule_text.specs.Texts.{ended, read_words, read_line, read_lines, read_text, Turn, made, refused, write_text}
 use Rattle.schedule_text.specs.TextLaws.{record-refused, records-begun}
 use Rattle.schedule_input.specs.Input.{marked, is_control, has_control, is_text, records_in, longest_text, either_form, records_output, text_or, text_output}
 use Rattle.schedule_input.specs.InputLaws.{of-text, of-records}
@@ -76,7 +76,7 @@ not-true : (b : Bool) → not b ≡ true → b ≡ false
 not-true true e = sym e
 not-true false e = refl
 
-none_reads : (s : List ℕ) (at : ℕ) (act : Act) → AllBytes s → is_text s ≡ true → record_at s at ≡ Read act → ⊥
+none_reads : (s : List ℕ) (at : ℕ) (act : Act) → AllBytes s → is_text s ≡ true → record_at s at ≡ Ok act → ⊥
 unfolding is_text piece_at
 none_reads s at act all t e =
     let bytes : event_bytes act ≡ take 10 (drop at s) = promises.writes-back (take 10 (drop at s)) act (bytes-taken 10 (drop at s) (bytes_left at s all)) e in
@@ -96,8 +96,8 @@ refused-not : {k q : ℕ} {t : List ℕ} → refused k q ≡ made t → ⊥
 refused-not e = let z : ◌≡◌ {A = ℕ} 0 1 = cc in omega arith
 
 first_reads : (s t : List ℕ) → AllBytes s → 0 < length s → write_text s ≡ made t → is_text s ≡ true → (r : ReadEvent) → record_at s 0 ≡ r → ⊥
-first_reads s t all h e x (Read act) f = none_reads s 0 act all x f
-first_reads s t all h e x (Refused q) f = refused-not (sym (record-refused 0 s 0 h [] q f) ∙ records-begun s ∙ e)
+first_reads s t all h e x (Ok act) f = none_reads s 0 act all x f
+first_reads s t all h e x (Err q) f = refused-not (sym (record-refused 0 s 0 h [] q f) ∙ records-begun s ∙ e)
 
 no_lines : made [] ≡ records_in []
 unfolding records_in is_text has_control run pieces words_of row_of slot_in ended read_words read_line read_lines read_text
@@ -117,7 +117,7 @@ short of s r h l e = rw (le-ltb longest_text (length s) h, ← e, le-leb (length
 turned : (s t : List ℕ) → AllBytes s → length s ≤ longest_schedule → write_text s ≡ made t → (text_output s ≡ t) × (records_output t ≡ s)
 turned s t all l e =
     let f : length (text_or (write_text s)) ≤ 327680 = few-lines s l in
-    let g : length (text_or (write_text s)) ≡ length t = ap (λ (x : Result). length (text_or x)) e in (
+    let g : length (text_or (write_text s)) ≡ length t = ap (λ (x : Turn). length (text_or x)) e in (
       short (λ r. text_or (write_text r)) s s (omega arith) l (its-records s t all e) ∙ ap text_or e,
       short (λ r. r) t s (omega arith) l (sym (back s t all e)),
     )

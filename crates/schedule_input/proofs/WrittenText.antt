@@ -18,10 +18,10 @@ use Rattle.model.specs.declared.BallotEvent.{BallotEvent}
 use Rattle.model.specs.declared.BallotEvent.TheVariants.{Open, Carry}
 use Rattle.event_record.specs.Events.{ballot_fields, event_fields, fields_of, read_event}
 use Rattle.event_record.specs.declared.Fields.{Fields}
-use Rattle.event_record.specs.declared.ReadEvent.{ReadEvent}
-use Rattle.event_record.specs.declared.ReadEvent.TheVariants.{Read, Refused}
+use Rattle.event_record.specs.Events.{ReadEvent}
+use Rattle.std.specs.Prelude.{Ok, Err}
 use Rattle.schedule_text.specs.Forms.{verbs, telegrams, willings, decisions, own, row_of, field_of, shown, left_out, spaced, line_of}
-use Rattle.schedule_text.specs.Texts.{Result, made, refused, after, written, write_records, count, write_text}
+use Rattle.schedule_text.specs.Texts.{Turn, made, refused, after, written, write_records, count, write_text}
 use Rattle.schedule_text.specs.declared.Slot.{Slot}
 use Rattle.schedule_text.specs.declared.Slot.TheVariants.{Verb, A, B, Number, Target, Willing, Word, Telegram, Own, End}
 use Rattle.schedule_input.specs.Input.{marked, is_control, has_control, is_text}
@@ -184,24 +184,24 @@ begun : (act : Act) (u : List ℕ) → marked (line_of (fields_of act) ++ u) ≡
 begun act u = line-begun (fields_of act) u (kind-of act)
 
 -- texts
-abbrev Text : Result → Type 0
+abbrev Text : Turn → Type 0
 Text (made t) = Plain t × (marked t ≡ false)
 Text (refused k q) = Unit
 
-after_text : (act : Act) (r : Result) → Text r → Text (after (line_of (fields_of act)) r)
+after_text : (act : Act) (r : Turn) → Text r → Text (after (line_of (fields_of act)) r)
 after_text act (made t) p = (both-plain (line_of (fields_of act)) t (line_plain (fields_of act)) p.0, begun act t)
 after_text act (refused k q) p = tt
 
-written-text : (r : ReadEvent) (k : ℕ) (rest : Result) → Text rest → Text (written r k rest)
-written-text (Read act) k rest p = after_text act rest p
-written-text (Refused q) k rest p = tt
+written-text : (r : ReadEvent) (k : ℕ) (rest : Turn) → Text rest → Text (written r k rest)
+written-text (Ok act) k rest p = after_text act rest p
+written-text (Err q) k rest p = tt
 
 records-text : (n k : ℕ) (s : List ℕ) → Text (write_records k n s)
 unfolding write_records
 records-text zero k s = (none-plain, refl)
 records-text (suc n) k s = written-text (read_event (take 10 s)) k (write_records (suc k) n (drop 10 s)) (records-text n (suc k) (drop 10 s))
 
-is-text : (r : Result) (t : List ℕ) → Text r → r ≡ made t → is_text t ≡ true
+is-text : (r : Turn) (t : List ℕ) → Text r → r ≡ made t → is_text t ≡ true
 unfolding is_text
 is-text (made u) t p e = let f : u ≡ t = cc in rw (← f, p.0, p.1)
 is-text (refused k q) t p e = let z : ◌≡◌ {A = ℕ} 0 1 = cc in absurd (omega arith)

@@ -1,9 +1,10 @@
 -- A schedule in either form, and what the programs that turn one into the other print.
 use Rattle.std.specs.Prelude.{ℕ, ◌-◌, ◌^◌, min, Bool, false, cond, not, ◌&&◌, ◌||◌, List, [], ◌∷◌, ◌++◌, eqb, leb, ltb, length, take, get_or}
+use Rattle.std.specs.List.{list_any}
 use Rattle.text.specs.Text.{ascii, decimal, refusal}
 use Rattle.words.specs.Words.{lines_of, uncommented, nth_word}
 use Rattle.bench_report.specs.Limits.{longest_schedule}
-use Rattle.schedule_text.specs.Texts.{Result, made, refused, read_text, write_text}
+use Rattle.schedule_text.specs.Texts.{Turn, made, refused, read_text, write_text}
 
 -- records begin with 4C 45, the mark of the first; 4C alone is the beginning of it
 abbrev pub marked : List ℕ → Bool
@@ -16,14 +17,13 @@ unfoldable pub is_control : ℕ → Bool
 is_control b = ltb b 32 && not (eqb b 9 || eqb b 10 || eqb b 13)
 
 unfoldable pub has_control : List ℕ → Bool
-has_control [] = false
-has_control (b ∷ s) = is_control b || has_control s
+has_control s = list_any is_control s
 
 -- all other bytes are records, and get the answers of document 01
 unfoldable pub is_text : List ℕ → Bool
 is_text s = not (marked s) && not (has_control s)
 
-unfoldable pub records_in : List ℕ → Result
+unfoldable pub records_in : List ℕ → Turn
 records_in s = cond (is_text s) (read_text s) (made s)
 
 -- a word, of a long one the beginning; or that a line has ended
@@ -51,7 +51,7 @@ abbrev pub longest_text : ℕ
 longest_text = 327680
 
 -- what a program prints of a schedule in either form that prints `of` of its records: that; or the refused line alone; or "- 1", where there are too many
-abbrev pub either_or : (List ℕ → List ℕ) → List ℕ → Result → List ℕ
+abbrev pub either_or : (List ℕ → List ℕ) → List ℕ → Turn → List ℕ
 either_or of s (made r) = cond (leb (length r) longest_schedule) (of r) (refusal 1)
 either_or of s (refused k i) = refused_line s k i
 
@@ -63,7 +63,7 @@ abbrev pub records_output : List ℕ → List ℕ
 records_output s = either_form (λ r. r) s
 
 -- `text` prints their text, or the record that is refused
-abbrev pub text_or : Result → List ℕ
+abbrev pub text_or : Turn → List ℕ
 text_or (made t) = t
 text_or (refused k q) = refused_record k q
 

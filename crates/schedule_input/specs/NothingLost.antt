@@ -3,7 +3,7 @@ use Rattle.std.specs.Prelude.{ℕ, suc, ◌≤◌, ◌≡◌, true, false, List,
 use Rattle.model.specs.declared.Act.{Act}
 use Rattle.records.specs.Bytes.{AllBytes}
 use Rattle.event_record.specs.Events.{records_of}
-use Rattle.event_record.specs.declared.ReadEvent.TheVariants.{Read}
+use Rattle.std.specs.Prelude.{Ok}
 use Rattle.schedule_reader.specs.Pieces.{record_at}
 use Rattle.bench_report.specs.Limits.{longest_schedule}
 use Rattle.schedule_text.specs.Texts.{made, write_text}
@@ -11,7 +11,7 @@ use Rattle.schedule_input.specs.Input.{is_text, records_in, records_output, text
 
 pub record NothingLost : Type 0 where
   -- no record of a text reads: as records it would get refusals by 1 to 3 alone
-  pub none_reads : (s : List ℕ) (at : ℕ) (act : Act) → AllBytes s → is_text s ≡ true → record_at s at ≡ Read act → ⊥
+  pub none_reads : (s : List ℕ) (at : ℕ) (act : Act) → AllBytes s → is_text s ≡ true → record_at s at ≡ Ok act → ⊥
   -- and no schedule is a text, nor is one that breaks off
   pub no_text : (act : Act) (acts : List Act) (k : ℕ) → is_text (take (suc k) (records_of (act ∷ acts))) ≡ false
   -- the text of a schedule is a text, and its records are that schedule

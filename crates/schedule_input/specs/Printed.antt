@@ -2,7 +2,7 @@
 use Rattle.std.specs.Prelude.{ℕ, ◌≡◌, refl, List, [], ◌∷◌}
 use Prim.Native.String.{String}
 use Rattle.text.specs.Text.{ascii, digits, decimal, signed}
-use Rattle.words.specs.Words.{belongs, run, pieces, words_of, same}
+use Rattle.words.specs.Words.{belongs, run, pieces, words_of}
 use Rattle.words.specs.Numbers.{all_digits, number_in, signed_in, number_among}
 use Rattle.model.specs.Questions.{unless, first_no}
 use Rattle.records.specs.Codec.{reads}
@@ -35,7 +35,7 @@ pub record Printed : Type 0 where
   pub other-mark : Prints (ascii "LF") "- line 1: LF\n"
 
 pub printed : Printed
-unfolding digits decimal signed belongs run pieces words_of same all_digits number_in signed_in number_among unless first_no reads is_kind kind_of is_ballot_kind ballot_kind_of kind_row_of fields_in ballot_fields event_fields fields_of rows row_for row_of slot_in field_of with_field value_in shown left_out spaced line_of ended read_words read_line read_lines read_text write_records write_text is_control has_control is_text records_in refused_line refused_record either_form
+unfolding digits decimal signed belongs run pieces words_of all_digits number_in signed_in number_among unless first_no reads is_kind kind_of is_ballot_kind ballot_kind_of kind_row_of fields_in ballot_fields event_fields fields_of rows row_for row_of slot_in field_of with_field value_in shown left_out spaced line_of ended read_words read_line read_lines read_text write_records write_text is_control has_control is_text records_in refused_line refused_record either_form
 printed = record {
   line = (refl, refl);
   ended-early = (refl, refl);

@@ -8,12 +8,12 @@ use Rattle.ground.specs.Tests.{by_cond}
 use Rattle.text.specs.Text.{refusal}
 use Rattle.text.specs.Lengths.{refusal-length}
 use Rattle.bench_report.specs.Limits.{longest_schedule}
-use Rattle.schedule_text.specs.Texts.{Result, made, refused, write_records, count, write_text}
+use Rattle.schedule_text.specs.Texts.{Turn, made, refused, write_records, count, write_text}
 use Rattle.schedule_text.proofs.Lengths.{Within, records-within}
 use Rattle.schedule_input.specs.Input.{longest_text, refused_line, records_in, either_or, either_form, records_output, text_or, text_output}
 use Rattle.schedule_input.specs.InputLaws.{refused-line-length, refused_record-length}
 
-text_or_lem : (x : Result) (n : ℕ) → n ≤ 327680 → Within n x → length (text_or x) ≤ 327680
+text_or_lem : (x : Turn) (n : ℕ) → n ≤ 327680 → Within n x → length (text_or x) ≤ 327680
 text_or_lem (made t) n h w = omega arith
 text_or_lem (refused k q) n h w = omega (arith, refused_record-length k q)
 
@@ -23,7 +23,7 @@ few-lines r h = text_or_lem (write_records 0 (count r) r) (80 * count r) (omega 
 
 -- what is printed of few records, or a refusal
 module _ (of : List ℕ → List ℕ) (m : ℕ) (room : 60 ≤ m) (within : (r : List ℕ) → length r ≤ longest_schedule → length (of r) ≤ m) (s : List ℕ) where
-  of-result : (x : Result) → length (either_or of s x) ≤ m
+  of-result : (x : Turn) → length (either_or of s x) ≤ m
   of-result (refused k i) = omega (arith, refused-line-length s k i)
   of-result (made r) =
       by_cond (λ (t : List ℕ). length t ≤ m) (leb (length r) longest_schedule) (of r) (refusal 1)
@@ -39,7 +39,7 @@ module _ (of : List ℕ → List ℕ) (m : ℕ) (room : 60 ≤ m) (within : (r :
 
 -- and something is printed always, where it is of records
 module _ (of : List ℕ → List ℕ) (some : (r : List ℕ) → 1 ≤ length (of r)) (s : List ℕ) where
-  some_of : (x : Result) → 1 ≤ length (either_or of s x)
+  some_of : (x : Turn) → 1 ≤ length (either_or of s x)
   unfolding refused_line
   some_of (refused k i) = omega arith
   some_of (made r) = by_cond (λ (t : List ℕ). 1 ≤ length t) (leb (length r) longest_schedule) (of r) (refusal 1) (λ _. some r) (λ _. omega arith)

@@ -8,7 +8,7 @@ use crate::LONGEST_TEXT;
 use crate::forms::records_in;
 use crate::refusals::{write_refused_line, write_refused_record};
 use bench_report::LONGEST_SCHEDULE;
-use schedule_text::{Turned, write};
+use schedule_text::{TurnError, write};
 use text::{write_bytes, write_refusal};
 
 // The records of a schedule in either form; or the refusal.
@@ -20,9 +20,9 @@ pub fn render_records(s: &[u8], out: &mut [u8]) -> usize
     }
     let mut records = [0u8; LONGEST_SCHEDULE];
     match records_in(s, &mut records) {
-        Turned::Done(n) => write_bytes(&mut *out, &records[..n]),
-        Turned::Refused { at, by } => write_refused_line(&mut *out, s, at, by),
-        Turned::NoRoom => write_refusal(&mut *out, 1),
+        Ok(n) => write_bytes(&mut *out, &records[..n]),
+        Err(TurnError::Refused { at, by }) => write_refused_line(&mut *out, s, at, by),
+        Err(TurnError::NoRoom) => write_refusal(&mut *out, 1),
     }
 }
 
@@ -31,9 +31,9 @@ fn write_text(out: &mut [u8], records: &[u8]) -> usize
     ensures { WrittenWhole (text_or (write_text records.now)) out.old out.new result }
 {
     match write(records, &mut *out) {
-        Turned::Done(n) => n,
-        Turned::Refused { at, by } => write_refused_record(&mut *out, at, by),
-        Turned::NoRoom => 0,
+        Ok(n) => n,
+        Err(TurnError::Refused { at, by }) => write_refused_record(&mut *out, at, by),
+        Err(TurnError::NoRoom) => 0,
     }
 }
 
@@ -46,8 +46,8 @@ pub fn render_text(s: &[u8], out: &mut [u8]) -> usize
     }
     let mut records = [0u8; LONGEST_SCHEDULE];
     match records_in(s, &mut records) {
-        Turned::Done(n) => write_text(&mut *out, &records[..n]),
-        Turned::Refused { at, by } => write_refused_line(&mut *out, s, at, by),
-        Turned::NoRoom => write_refusal(&mut *out, 1),
+        Ok(n) => write_text(&mut *out, &records[..n]),
+        Err(TurnError::Refused { at, by }) => write_refused_line(&mut *out, s, at, by),
+        Err(TurnError::NoRoom) => write_refusal(&mut *out, 1),
     }
 }

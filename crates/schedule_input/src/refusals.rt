@@ -1,11 +1,11 @@
 // The one line that is printed where a line or a record is refused.
 ghost use Rattle.std.specs.Prelude.{◌≡◌, ◌-◌, ◌^◌, ◌≤◌, min, take};
-ghost use Rattle.text.specs.Writing.{Put, WrittenWhole};
-ghost use Rattle.words.specs.Words.{nth_word};
+ghost use Rattle.text.specs.Writers.{Wrote};
+ghost use Rattle.text.specs.Writing.{WrittenWhole};
 ghost use Rattle.schedule_input.specs.Input.{word_shown, refused_word, refused_line, refused_record};
 
-use text::{put_byte, put_bytes, put_number, write_bytes};
-use words::{Class, end_of_run, nth_line, nth_span};
+use text::{Writer, write_bytes};
+use words::{nth_line, nth_word, uncommented};
 
 // No such line is longer.
 const ROOM: usize = 60;
@@ -14,62 +14,33 @@ const ROOM: usize = 60;
 fn printed(k: usize) -> u32
     ensures { result ≡ min k (2 ^ 32 - 1) }
 {
-    if k <= 0xFFFF_FFFF {
-        return k as u32;
+    k.min(0xFFFF_FFFF) as u32
+}
+
+fn put_shown(w: &mut Writer, word: &[u8])
+    ensures { Wrote w.old w.new (word_shown word.now) }
+{
+    if word.is_empty() {
+        return w.bytes(b"end of line");
     }
-    0xFFFF_FFFF
+    w.bytes(&word[..word.len().min(40)])
 }
 
-fn put_shown(out: &mut [u8], at: usize, w: &[u8]) -> usize
-    ensures { Put out.old out.new at result (word_shown w.now) }
+fn put_refused_word(w: &mut Writer, line: usize, word: &[u8])
+    ensures { Wrote w.old w.new (refused_word line word.now) }
 {
-    if w.len() == 0 {
-        return put_bytes(&mut *out, at, b"end of line");
-    }
-    if w.len() <= 40 {
-        return put_bytes(&mut *out, at, w);
-    }
-    put_bytes(&mut *out, at, &w[..40])
+    w.bytes(b"- line ");
+    w.number(printed(line));
+    w.bytes(b": ");
+    put_shown(w, word);
+    w.byte(b'\n')
 }
 
-fn put_refused_word(out: &mut [u8], line: usize, w: &[u8]) -> usize
-    ensures { Put out.old out.new 0 result (refused_word line w.now) }
+fn put_refused_line(w: &mut Writer, s: &[u8], line: usize, word: usize)
+    ensures { Wrote w.old w.new (refused_line s.now line word) }
 {
-    let next = put_bytes(&mut *out, 0, b"- line ");
-    let next = put_number(&mut *out, next, printed(line));
-    let next = put_bytes(&mut *out, next, b": ");
-    let next = put_shown(&mut *out, next, w);
-    put_byte(&mut *out, next, b'\n')
-}
-
-// Of a line without its comment, and a word in it.
-fn put_refused_in(out: &mut [u8], line: usize, l: &[u8], word: usize) -> usize
-    ensures { Put out.old out.new 0 result (refused_word line (nth_word l.now word)) }
-{
-    let span = nth_span(l, word);
-    let from = span.from;
-    let to = span.to;
-    put_refused_word(&mut *out, line, &l[from..to])
-}
-
-fn one_less(k: usize) -> usize
-    ensures { result ≡ k - 1 }
-{
-    if k == 0 {
-        return 0;
-    }
-    k - 1
-}
-
-fn put_refused_line(out: &mut [u8], s: &[u8], line: usize, word: usize) -> usize
-    ensures { Put out.old out.new 0 result (refused_line s.now line word) }
-{
-    let span = nth_line(s, one_less(line));
-    let from = span.from;
-    let to = span.to;
-    let l = &s[from..to];
-    let shown = end_of_run(l, 0, Class::Shown);
-    put_refused_in(&mut *out, line, &l[..shown], word)
+    let l = uncommented(nth_line(s, line.saturating_sub(1)));
+    put_refused_word(w, line, nth_word(l, word))
 }
 
 // The number of a refused line and the first word of it that was not expected, whole or not at all.
@@ -77,18 +48,20 @@ pub fn write_refused_line(out: &mut [u8], s: &[u8], line: usize, word: usize) ->
     ensures { WrittenWhole (refused_line s.now line word) out.old out.new result }
 {
     let mut text = [0u8; ROOM];
-    let end = put_refused_line(&mut text, s, line, word);
+    let mut w = Writer::new(&mut text);
+    put_refused_line(&mut w, s, line, word);
+    let end = w.at;
     write_front(&mut *out, text, end)
 }
 
-fn put_refused_record(out: &mut [u8], k: usize, q: usize) -> usize
-    ensures { Put out.old out.new 0 result (refused_record k q) }
+fn put_refused_record(w: &mut Writer, k: usize, q: usize)
+    ensures { Wrote w.old w.new (refused_record k q) }
 {
-    let next = put_bytes(&mut *out, 0, b"- record ");
-    let next = put_number(&mut *out, next, printed(k));
-    let next = put_bytes(&mut *out, next, b": ");
-    let next = put_number(&mut *out, next, printed(q));
-    put_byte(&mut *out, next, b'\n')
+    w.bytes(b"- record ");
+    w.number(printed(k));
+    w.bytes(b": ");
+    w.number(printed(q));
+    w.byte(b'\n')
 }
 
 // The index of a refused record and the number of the question, whole or not at all.
@@ -96,7 +69,9 @@ pub(crate) fn write_refused_record(out: &mut [u8], k: usize, q: usize) -> usize
     ensures { WrittenWhole (refused_record k q) out.old out.new result }
 {
     let mut text = [0u8; ROOM];
-    let end = put_refused_record(&mut text, k, q);
+    let mut w = Writer::new(&mut text);
+    put_refused_record(&mut w, k, q);
+    let end = w.at;
     write_front(&mut *out, text, end)
 }
 

@@ -5,7 +5,7 @@ use Rattle.std.proofs.Math.Decide.{dec_le}
 use Rattle.model.specs.Questions.{first_no, unless}
 use Rattle.records.specs.Codec.{reads}
 use Rattle.event_record.specs.Events.{read_event}
-use Rattle.event_record.specs.declared.ReadEvent.TheVariants.{Refused}
+use Rattle.std.specs.Prelude.{Err}
 use Rattle.schedule_reader.specs.Pieces.{piece_at}
 
 pub part-is-piece : (s : List ℕ) (at to : ℕ) → to ≡ min (at + 10) (length s) → take (to - at) (drop at s) ≡ piece_at s at
@@ -21,6 +21,6 @@ unfolding piece_at
 no-piece s at h = rw (drop_of_length-le s h)
 
 -- and nothing is no record
-pub nothing_read : read_event [] ≡ Refused 1
+pub nothing_read : read_event [] ≡ Err 1
 unfolding reads first_no unless
 nothing_read = refl

@@ -1,7 +1,7 @@
 -- Document 01, "The bench program": "The records follow one another with nothing between them."
 use Rattle.std.specs.Prelude.{ℕ, List, take, drop}
 use Rattle.event_record.specs.Events.{event_length, read_event}
-use Rattle.event_record.specs.declared.ReadEvent.{ReadEvent}
+use Rattle.event_record.specs.Events.{ReadEvent}
 
 -- the ten bytes from a place on, or what is left of them ("a short last piece")
 unfoldable pub piece_at : List ℕ → ℕ → List ℕ

@@ -12,7 +12,7 @@ use Rattle.model.specs.declared.Act.{Act}
 use Rattle.records.specs.Bytes.{byte, number4, AllBytes}
 use Rattle.records.specs.Codec.{fields_by, value_by, form_questions, returned, reads}
 use Rattle.event_record.specs.Events.{numbers_in, fields_of, event_form, events, read_event}
-use Rattle.event_record.specs.declared.ReadEvent.TheVariants.{Read}
+use Rattle.std.specs.Prelude.{Ok}
 use Rattle.event_record.proofs.RoundTrips.{lawful}
 use Rattle.schedule_text.proofs.Shows.{Held}
 
@@ -28,11 +28,11 @@ bytes-taken n s all at = elim (dec_lt at n) [
 pub bytes_left : (n : ℕ) (s : List ℕ) → AllBytes s → AllBytes (drop n s)
 bytes_left n s all at = let e : byte (drop n s) at ≡ byte s (n + at) = get_or-drop n s at 0 in let b = all (n + at) in omega arith
 
-was_read : (r : Reply) (a act : Act) → returned events r a ≡ Read act → (r ≡ accepted) × (a ≡ act)
+was_read : (r : Reply) (a act : Act) → returned events r a ≡ Ok act → (r ≡ accepted) × (a ≡ act)
 was_read accepted a act e = let f : a ≡ act = cc in (refl, f)
 was_read (refused q) a act e = let z : ◌≡◌ {A = ℕ} 0 1 = cc in absurd (omega arith)
 
-same_numbers : (p : List ℕ) (act : Act) → read_event p ≡ Read act → numbers_in (fields_of act) ≡ fields_by event_form p
+same_numbers : (p : List ℕ) (act : Act) → read_event p ≡ Ok act → numbers_in (fields_of act) ≡ fields_by event_form p
 unfolding reads
 same_numbers p act e =
     let w = was_read (first_no (form_questions event_form p)) (value_by event_form p) act e in
@@ -42,7 +42,7 @@ same_numbers p act e =
 four_bytes : (a b c d : ℕ) → a < 256 → b < 256 → c < 256 → d < 256 → (a * 256 + b) * 65536 + (c * 256 + d) < 2 ^ 32
 four_bytes a b c d p q r s = omega arith
 
-pub held : (p : List ℕ) (act : Act) → AllBytes p → read_event p ≡ Read act → Held (fields_of act)
+pub held : (p : List ℕ) (act : Act) → AllBytes p → read_event p ≡ Ok act → Held (fields_of act)
 held p act all e =
     let n : numbers_in (fields_of act) ≡ fields_by event_form p = same_numbers p act e in
     let a : (fields_of act).a ≡ byte p 3 = ap (λ (v : List ℕ). get_or v 1 0) n in

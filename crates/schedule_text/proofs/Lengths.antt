@@ -7,10 +7,10 @@ use Rattle.text.specs.Lengths.{decimal-length, signed-length}
 use Rattle.words.specs.Words.{belongs, pieces, words_of}
 use Rattle.event_record.specs.Events.{fields_of, read_event}
 use Rattle.event_record.specs.declared.Fields.{Fields}
-use Rattle.event_record.specs.declared.ReadEvent.{ReadEvent}
-use Rattle.event_record.specs.declared.ReadEvent.TheVariants.{Read, Refused}
+use Rattle.event_record.specs.Events.{ReadEvent}
+use Rattle.std.specs.Prelude.{Ok, Err}
 use Rattle.schedule_text.specs.Forms.{verbs, telegrams, willings, decisions, own, row_of, field_of, shown, left_out, spaced, line_of}
-use Rattle.schedule_text.specs.Texts.{Result, made, refused, after, written, write_records}
+use Rattle.schedule_text.specs.Texts.{Turn, made, refused, after, written, write_records}
 use Rattle.schedule_text.specs.declared.Slot.{Slot}
 use Rattle.schedule_text.specs.declared.Slot.TheVariants.{Verb, A, B, Number, Target, Willing, Word, Telegram, Own, End}
 
@@ -55,11 +55,11 @@ line-length x =
     let r = row_of x.kind x.c in
     simp length-append (omega (arith, shown-length Verb x.kind, spaced-length r.first x, spaced-length r.second x, spaced-length r.third x, spaced-length r.fourth x))
 
-abbrev pub Within : ℕ → Result → Type 0
+abbrev pub Within : ℕ → Turn → Type 0
 Within m (made t) = length t ≤ m
 Within m (refused k q) = Unit
 
-after-within : (m n : ℕ) (s : List ℕ) (r : Result) → length s ≤ m → Within n r → Within (m + n) (after s r)
+after-within : (m n : ℕ) (s : List ℕ) (r : Turn) → length s ≤ m → Within n r → Within (m + n) (after s r)
 after-within m n s (made t) h w = let e = length-append s t in omega arith
 after-within m n s (refused k q) h w = tt
 
@@ -68,10 +68,10 @@ unfolding write_records
 records-within zero k s = omega arith
 records-within (suc n) k s = by_record (read_event (take 10 s)) (records-within n (suc k) (drop 10 s))
   where
-    more : (r : Result) → Within (80 + 80 * n) r → Within (80 * suc n) r
+    more : (r : Turn) → Within (80 + 80 * n) r → Within (80 * suc n) r
     more (made t) w = omega arith
     more (refused j q) w = tt
 
     by_record : (r : ReadEvent) → Within (80 * n) (write_records (suc k) n (drop 10 s)) → Within (80 * suc n) (written r k (write_records (suc k) n (drop 10 s)))
-    by_record (Refused q) w = tt
-    by_record (Read act) w = more (after (line_of (fields_of act)) (write_records (suc k) n (drop 10 s))) (after-within 80 (80 * n) (line_of (fields_of act)) (write_records (suc k) n (drop 10 s)) (line-length (fields_of act)) w)
+    by_record (Err q) w = tt
+    by_record (Ok act) w = more (after (line_of (fields_of act)) (write_records (suc k) n (drop 10 s))) (after-within 80 (80 * n) (line_of (fields_of act)) (write_records (suc k) n (drop 10 s)) (line-length (fields_of act)) w)

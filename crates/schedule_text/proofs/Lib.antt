@@ -1,5 +1,4 @@
 pub mod Lengths
-pub mod Tags
 pub mod Shows
 pub mod Held
 pub mod RoundTrips

@@ -1,7 +1,7 @@
 -- The table holds by computation.
 use mathlib.Core.Path.{refl}
 use Rattle.text.specs.Text.{digits, decimal, signed}
-use Rattle.words.specs.Words.{belongs, run, pieces, words_of, same}
+use Rattle.words.specs.Words.{belongs, run, pieces, words_of}
 use Rattle.words.specs.Numbers.{all_digits, number_in, signed_in, number_among}
 use Rattle.model.specs.Questions.{unless, first_no}
 use Rattle.records.specs.Codec.{reads}
@@ -13,7 +13,7 @@ use Rattle.schedule_text.specs.Texts.{ended, read_words, read_line, read_lines, 
 use Rattle.schedule_text.specs.LineForLine.{LineForLine}
 
 pub line_for-line : LineForLine
-unfolding digits decimal signed belongs run pieces words_of same all_digits number_in signed_in number_among unless first_no reads is_kind kind_of is_ballot_kind ballot_kind_of kind_row_of fields_in ballot_fields event_fields fields_of rows row_for row_of slot_in field_of with_field value_in shown left_out spaced line_of ended read_words read_line read_lines read_text write_records write_text
+unfolding digits decimal signed belongs run pieces words_of all_digits number_in signed_in number_among unless first_no reads is_kind kind_of is_ballot_kind ballot_kind_of kind_row_of fields_in ballot_fields event_fields fields_of rows row_for row_of slot_in field_of with_field value_in shown left_out spaced line_of ended read_words read_line read_lines read_text write_records write_text
 line_for-line = record {
   lock = (refl, refl);
   lock-own = (refl, refl);

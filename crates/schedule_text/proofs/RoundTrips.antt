@@ -5,20 +5,19 @@ use mathlib.Core.List.{List, [], ◌∷◌, ◌++◌}
 use native.Mathlib.Omega.{arith}
 use lib.ListN.{take, drop, get_or, length-drop, take-append-drop}
 use lib.Seq.{drop-drop}
+use Rattle.std.specs.Prelude.{Some, None, Ok, Err}
 use Rattle.words.specs.Words.{run, pieces, lines_of, uncommented, words_of}
 use Rattle.model.specs.declared.Act.{Act}
 use Rattle.records.specs.Bytes.{AllBytes}
 use Rattle.event_record.specs.Events.{fields_of, read_event, record_bytes}
 use Rattle.event_record.specs.declared.Fields.{Fields}
-use Rattle.event_record.specs.declared.ReadEvent.{ReadEvent}
-use Rattle.event_record.specs.declared.ReadEvent.TheVariants.{Read, Refused}
+use Rattle.event_record.specs.Events.{ReadEvent}
+use Rattle.std.specs.Prelude.{Ok, Err}
 use Rattle.event_record.proofs.RoundTrips.{promises}
 use Rattle.schedule_reader.specs.Pieces.{piece_at, record_at}
 use Rattle.schedule_text.specs.Forms.{row_of, slot_in, line_of}
-use Rattle.schedule_text.specs.Texts.{ended, read_words, read_line, Result, made, refused, after, onward, read_lines, read_text, written, write_records, count, write_text}
+use Rattle.schedule_text.specs.Texts.{LineRead, unexpected, ended, read_words, read_line, Turn, made, refused, after, onward, read_lines, read_text, written, write_records, count, write_text}
 use Rattle.schedule_text.specs.BothWays.{BothWays}
-use Rattle.schedule_text.specs.declared.LineRead.{LineRead}
-use Rattle.schedule_text.specs.declared.LineRead.TheVariants.{Blank, Record, Unexpected}
 use Rattle.schedule_text.proofs.Shows.{shows, line-back}
 use Rattle.schedule_text.proofs.Held.{held, bytes-taken, bytes_left}
 
@@ -41,13 +40,13 @@ fewer : (n : ℕ) (s : List ℕ) → suc n ≡ count s → n ≡ count (drop 10 
 fewer n s e = rw (length-drop 10 s) (omega arith)
 
 -- what a written line of a made text was
-split-made : (x : List ℕ) (r : Result) (t : List ℕ) → after x r ≡ made t → (u : List ℕ) × (r ≡ made u) × (t ≡ x ++ u)
+split-made : (x : List ℕ) (r : Turn) (t : List ℕ) → after x r ≡ made t → (u : List ℕ) × (r ≡ made u) × (t ≡ x ++ u)
 split-made x (made u) t e = (u, refl, sym (same-made e))
 split-made x (refused k q) t e = absurd (not_made e)
 
-one-read : (r : ReadEvent) (k : ℕ) (rest : Result) (t : List ℕ) → written r k rest ≡ made t → (act : Act) × (r ≡ Read act) × (after (line_of (fields_of act)) rest ≡ made t)
-one-read (Read act) k rest t e = (act, refl, e)
-one-read (Refused q) k rest t e = absurd (not_made e)
+one-read : (r : ReadEvent) (k : ℕ) (rest : Turn) (t : List ℕ) → written r k rest ≡ made t → (act : Act) × (r ≡ Ok act) × (after (line_of (fields_of act)) rest ≡ made t)
+one-read (Ok act) k rest t e = (act, refl, e)
+one-read (Err q) k rest t e = absurd (not_made e)
 
 back : (n k j : ℕ) (s t : List ℕ) → n ≡ count s → AllBytes s → write_records k n s ≡ made t → read_lines j (lines_of t) ≡ made s
 unfolding write_records
@@ -72,12 +71,12 @@ same-refusal {k} {q} {j} {p} e = let a : k ≡ j = cc in let b : q ≡ p = cc in
 made-not : {k q : ℕ} {t : List ℕ} → made t ≡ refused k q → ⊥
 made-not e = not_made (sym e)
 
-rest-refused : (x : List ℕ) (r : Result) (k q : ℕ) → after x r ≡ refused k q → r ≡ refused k q
+rest-refused : (x : List ℕ) (r : Turn) (k q : ℕ) → after x r ≡ refused k q → r ≡ refused k q
 rest-refused x (made u) k q e = absurd (made-not e)
 rest-refused x (refused j p) k q e = e
 
 abbrev RecordRefused : ℕ → ℕ → List ℕ → ℕ → ℕ → Type 0
-RecordRefused k n s i q = (k ≤ i) × (i < k + n) × (read_event (take 10 (drop ((i - k) * 10) s)) ≡ Refused q)
+RecordRefused k n s i q = (k ≤ i) × (i < k + n) × (read_event (take 10 (drop ((i - k) * 10) s)) ≡ Err q)
 
 record-refused : (n k : ℕ) (s : List ℕ) (i q : ℕ) → write_records k n s ≡ refused i q → RecordRefused k n s i q
 unfolding write_records
@@ -85,12 +84,12 @@ record-refused zero k s i q e = absurd (made-not e)
 record-refused (suc n) k s i q e = by_record (λ f. record-refused n (suc k) (drop 10 s) i q f) (read_event (take 10 s)) refl
   where
     by_record : (write_records (suc k) n (drop 10 s) ≡ refused i q → RecordRefused (suc k) n (drop 10 s) i q) → (r : ReadEvent) → read_event (take 10 s) ≡ r → RecordRefused k (suc n) s i q
-    by_record later (Refused p) f =
+    by_record later (Err p) f =
         let g : refused k p ≡ refused i q = sym (ap (λ (r : ReadEvent). written r k (write_records (suc k) n (drop 10 s))) f) ∙ e in
         let h = same-refusal g in
         let z : (i - k) * 10 ≡ 0 = omega (arith, h.0) in
-        (omega (arith, h.0), omega (arith, h.0), rw z (f ∙ ap Refused h.1))
-    by_record later (Read act) f =
+        (omega (arith, h.0), omega (arith, h.0), rw z (f ∙ ap Err h.1))
+    by_record later (Ok act) f =
         let g : after (line_of (fields_of act)) (write_records (suc k) n (drop 10 s)) ≡ refused i q = sym (ap (λ (r : ReadEvent). written r k (write_records (suc k) n (drop 10 s))) f) ∙ e in
         let ih = later (rest-refused (line_of (fields_of act)) (write_records (suc k) n (drop 10 s)) i q g) in
         let m : 10 + (i - suc k) * 10 ≡ (i - k) * 10 = omega (arith, ih.0) in
@@ -99,7 +98,7 @@ record-refused (suc n) k s i q e = by_record (λ f. record-refused n (suc k) (dr
 
 -- the line that a refusal names
 abbrev LineRefused : ℕ → List (List ℕ) → ℕ → ℕ → Type 0
-LineRefused k ls j i = (k ≤ j) × (read_line (uncommented (get_or ls (j - k) [])) ≡ Unexpected i)
+LineRefused k ls j i = (k ≤ j) × (read_line (uncommented (get_or ls (j - k) [])) ≡ unexpected i)
 
 line_refused : (k : ℕ) (ls : List (List ℕ)) (j i : ℕ) → read_lines k ls ≡ refused j i → LineRefused k ls j i
 unfolding read_lines
@@ -112,59 +111,59 @@ line_refused k (l ∷ ls) j i e = by-line (λ f. line_refused (suc k) ls j i f) 
         (omega (arith, ih.0), rw m ih.1)
 
     by-line : (read_lines (suc k) ls ≡ refused j i → LineRefused (suc k) ls j i) → (r : LineRead) → read_line (uncommented l) ≡ r → LineRefused k (l ∷ ls) j i
-    by-line rest Blank f = later (rest (sym (ap (λ (r : LineRead). onward r k (read_lines (suc k) ls)) f) ∙ e))
-    by-line rest (Record x) f = later (rest (rest-refused (record_bytes x) (read_lines (suc k) ls) j i (sym (ap (λ (r : LineRead). onward r k (read_lines (suc k) ls)) f) ∙ e)))
-    by-line rest (Unexpected p) f =
-        let g : refused k p ≡ refused j i = sym (ap (λ (r : LineRead). onward r k (read_lines (suc k) ls)) f) ∙ e in
+    by-line rest (Ok None) f = later (rest (sym (ap (λ (r : LineRead). onward r k (read_lines (suc k) ls)) f) ∙ e))
+    by-line rest (Ok (Some x)) f = later (rest (rest-refused (record_bytes x) (read_lines (suc k) ls) j i (sym (ap (λ (r : LineRead). onward r k (read_lines (suc k) ls)) f) ∙ e)))
+    by-line rest (Err u) f =
+        let g : refused k u.0 ≡ refused j i = sym (ap (λ (r : LineRead). onward r k (read_lines (suc k) ls)) f) ∙ e in
         let h = same-refusal g in
         let z : j - k ≡ 0 = omega (arith, h.0) in
-        (omega (arith, h.0), rw z (f ∙ ap Unexpected h.1))
+        (omega (arith, h.0), rw z (f ∙ ap unexpected h.1))
 
 -- a line of no form is refused, if none before it is
-not_unexpected : {q : ℕ} → Blank ≡ Unexpected q → ⊥
+not_unexpected : {q : ℕ} → Ok None ≡ unexpected q → ⊥
 not_unexpected e = let z : ◌≡◌ {A = ℕ} 0 1 = cc in omega arith
 
-not-read : {x : Fields} {q : ℕ} → Record x ≡ Unexpected q → ⊥
+not-read : {x : Fields} {q : ℕ} → Ok (Some x) ≡ unexpected q → ⊥
 not-read e = let z : ◌≡◌ {A = ℕ} 0 1 = cc in omega arith
 
-no_words : read_line (uncommented []) ≡ Blank
+no_words : read_line (uncommented []) ≡ Ok None
 unfolding run pieces words_of read_line read_words row_of slot_in ended
 no_words = refl
 
 abbrev FirstRefused : ℕ → List (List ℕ) → ℕ → Type 0
 FirstRefused k ls j = (m i : ℕ) × (read_lines k ls ≡ refused (k + m) i) × (m ≤ j)
 
-first-refused : (k : ℕ) (ls : List (List ℕ)) (j q : ℕ) → read_line (uncommented (get_or ls j [])) ≡ Unexpected q → FirstRefused k ls j
+first-refused : (k : ℕ) (ls : List (List ℕ)) (j q : ℕ) → read_line (uncommented (get_or ls j [])) ≡ unexpected q → FirstRefused k ls j
 unfolding read_lines
 first-refused k [] j q e = absurd (not_unexpected (sym no_words ∙ e))
 first-refused k (l ∷ ls) zero q e = (0, q, ap (λ (r : LineRead). onward r k (read_lines (suc k) ls)) e ∙ ap (λ (n : ℕ). refused n q) (omega arith), omega arith)
 first-refused k (l ∷ ls) (suc j) q e = by-line (first-refused (suc k) ls j q e) (read_line (uncommented l)) refl
   where
-    here : (p : ℕ) → read_line (uncommented l) ≡ Unexpected p → FirstRefused k (l ∷ ls) (suc j)
+    here : (p : ℕ) → read_line (uncommented l) ≡ unexpected p → FirstRefused k (l ∷ ls) (suc j)
     here p f = (0, p, ap (λ (r : LineRead). onward r k (read_lines (suc k) ls)) f ∙ ap (λ (n : ℕ). refused n p) (omega arith), omega arith)
 
     by-line : FirstRefused (suc k) ls j → (r : LineRead) → read_line (uncommented l) ≡ r → FirstRefused k (l ∷ ls) (suc j)
-    by-line ih (Unexpected p) f = here p f
-    by-line ih Blank f =
+    by-line ih (Err u) f = here u.0 f
+    by-line ih (Ok None) f =
         (suc ih.0, ih.1, ap (λ (r : LineRead). onward r k (read_lines (suc k) ls)) f ∙ ih.2 ∙ ap (λ (n : ℕ). refused n ih.1) (omega arith), omega (arith, ih.3))
-    by-line ih (Record x) f =
+    by-line ih (Ok (Some x)) f =
         (suc ih.0, ih.1, ap (λ (r : LineRead). onward r k (read_lines (suc k) ls)) f ∙ ap (after (record_bytes x)) ih.2 ∙ ap (λ (n : ℕ). refused n ih.1) (omega arith), omega (arith, ih.3))
 
-refused_record : (s : List ℕ) (k q : ℕ) → write_text s ≡ refused k q → (k < count s) × (record_at s (k * 10) ≡ Refused q)
+refused_record : (s : List ℕ) (k q : ℕ) → write_text s ≡ refused k q → (k < count s) × (record_at s (k * 10) ≡ Err q)
 unfolding write_text piece_at
 refused_record s k q e =
     let w = record-refused (count s) 0 s k q e in
     let z : k - 0 ≡ k = omega arith in
     (omega (arith, w.1), ap (λ (j : ℕ). read_event (take 10 (drop (j * 10) s))) (sym z) ∙ w.2)
 
-refused-line : (t : List ℕ) (k i : ℕ) → read_text t ≡ refused (suc k) i → read_line (uncommented (get_or (lines_of t) k [])) ≡ Unexpected i
+refused-line : (t : List ℕ) (k i : ℕ) → read_text t ≡ refused (suc k) i → read_line (uncommented (get_or (lines_of t) k [])) ≡ unexpected i
 unfolding read_text
 refused-line t k i e =
     let w = line_refused 1 (lines_of t) (suc k) i e in
     let z : suc k - 1 ≡ k = omega arith in
     ap (λ (j : ℕ). read_line (uncommented (get_or (lines_of t) j []))) (sym z) ∙ w.1
 
-first-line : (t : List ℕ) (j q : ℕ) → read_line (uncommented (get_or (lines_of t) j [])) ≡ Unexpected q → (k i : ℕ) × (read_text t ≡ refused (suc k) i) × (k ≤ j)
+first-line : (t : List ℕ) (j q : ℕ) → read_line (uncommented (get_or (lines_of t) j [])) ≡ unexpected q → (k i : ℕ) × (read_text t ≡ refused (suc k) i) × (k ≤ j)
 unfolding read_text
 first-line t j q e =
     let w = first-refused 1 (lines_of t) j q e in

@@ -7,9 +7,10 @@ use native.Mathlib.Omega.{arith}
 use borrow.Author.Tests.{ltb-true}
 use lib.Dec.{ltb}
 use lib.ListN.{length}
+use Rattle.std.specs.Prelude.{Some, Ok}
 use Rattle.ground.specs.Tests.{and_l, and_r}
 use Rattle.text.specs.Text.{decimal, signed, line}
-use Rattle.words.specs.Words.{belongs, pieces, lines_of, words_of, nth_word, same}
+use Rattle.words.specs.Words.{belongs, pieces, lines_of, words_of, nth_word}
 use Rattle.words.specs.Numbers.{number_among}
 use Rattle.words.specs.NumberLaws.{number-back, signed_back}
 use Rattle.words.specs.Joined.{all_of, Plain, AllPlain, joined, words_back, all_shown, line_first, decimal-plain, signed-plain}
@@ -23,10 +24,7 @@ use Rattle.model.specs.declared.BallotKind.TheVariants.{Prepare, Promise, Accept
 use Rattle.event_record.specs.Events.{fields, ballot_fields, event_fields, fields_of, record_bytes}
 use Rattle.event_record.specs.declared.Fields.{Fields}
 use Rattle.schedule_text.specs.Forms.{verbs, telegrams, willings, decisions, own, row_of, slot_in, field_of, with_field, value_in, shown, left_out, spaced, line_of}
-use Rattle.schedule_text.specs.Texts.{unused, ended, read_words, read_line, after, onward, read_lines}
-use Rattle.words.specs.declared.Found.TheVariants.{Value}
-use Rattle.schedule_text.specs.declared.LineRead.{LineRead}
-use Rattle.schedule_text.specs.declared.LineRead.TheVariants.{Record}
+use Rattle.schedule_text.specs.Texts.{LineRead, unused, ended, read_words, read_line, after, onward, read_lines}
 
 -- what a record's bytes hold
 pub record Held (x : Fields) : Type 0 where
@@ -40,7 +38,7 @@ pub record Shows (x : Fields) : Type 0 where
   pub others : List (List ℕ)
   pub text : line_of x ≡ line (first ∷ others)
   pub plain : AllPlain (first ∷ others)
-  pub back : read_words 0 unused (first ∷ others) ≡ Record x
+  pub back : read_words 0 unused (first ∷ others) ≡ Ok (Some x)
 
 -- a name is a word that can stand on a line, by computation
 plain_name : List ℕ → Bool
@@ -61,105 +59,105 @@ plain_name_lem w t =
 -- a name of some, and the number that it is read as
 record Named (first : ℕ) (names : List ℕ) (k v : ℕ) : Type 0 where
   plain : Plain (nth_word names k)
-  back : number_among first (words_of names) (nth_word names k) ≡ Value v
+  back : number_among first (words_of names) (nth_word names k) ≡ Some v
 
-named : (first : ℕ) (names : List ℕ) (k v : ℕ) → plain_name (nth_word names k) ≡ true → number_among first (words_of names) (nth_word names k) ≡ Value v → Named first names k v
+named : (first : ℕ) (names : List ℕ) (k v : ℕ) → plain_name (nth_word names k) ≡ true → number_among first (words_of names) (nth_word names k) ≡ Some v → Named first names k v
 named first names k v p b = record { plain = plain_name_lem (nth_word names k) p; back = b }
 
 verb_0 : Named 0 verbs 0 0
-unfolding words_of pieces belongs number_among same all_of plain_name
+unfolding words_of pieces belongs number_among all_of plain_name
 verb_0 = named 0 verbs 0 0 refl refl
 
 verb_1 : Named 0 verbs 1 1
-unfolding words_of pieces belongs number_among same all_of plain_name
+unfolding words_of pieces belongs number_among all_of plain_name
 verb_1 = named 0 verbs 1 1 refl refl
 
 verb_2 : Named 0 verbs 2 2
-unfolding words_of pieces belongs number_among same all_of plain_name
+unfolding words_of pieces belongs number_among all_of plain_name
 verb_2 = named 0 verbs 2 2 refl refl
 
 verb_3 : Named 0 verbs 3 3
-unfolding words_of pieces belongs number_among same all_of plain_name
+unfolding words_of pieces belongs number_among all_of plain_name
 verb_3 = named 0 verbs 3 3 refl refl
 
 verb_4 : Named 0 verbs 4 4
-unfolding words_of pieces belongs number_among same all_of plain_name
+unfolding words_of pieces belongs number_among all_of plain_name
 verb_4 = named 0 verbs 4 4 refl refl
 
 verb_5 : Named 0 verbs 5 5
-unfolding words_of pieces belongs number_among same all_of plain_name
+unfolding words_of pieces belongs number_among all_of plain_name
 verb_5 = named 0 verbs 5 5 refl refl
 
 verb_6 : Named 0 verbs 6 6
-unfolding words_of pieces belongs number_among same all_of plain_name
+unfolding words_of pieces belongs number_among all_of plain_name
 verb_6 = named 0 verbs 6 6 refl refl
 
 verb_7 : Named 0 verbs 7 7
-unfolding words_of pieces belongs number_among same all_of plain_name
+unfolding words_of pieces belongs number_among all_of plain_name
 verb_7 = named 0 verbs 7 7 refl refl
 
 verb_8 : Named 0 verbs 8 8
-unfolding words_of pieces belongs number_among same all_of plain_name
+unfolding words_of pieces belongs number_among all_of plain_name
 verb_8 = named 0 verbs 8 8 refl refl
 
 verb_9 : Named 0 verbs 9 9
-unfolding words_of pieces belongs number_among same all_of plain_name
+unfolding words_of pieces belongs number_among all_of plain_name
 verb_9 = named 0 verbs 9 9 refl refl
 
 verb_10 : Named 0 verbs 10 10
-unfolding words_of pieces belongs number_among same all_of plain_name
+unfolding words_of pieces belongs number_among all_of plain_name
 verb_10 = named 0 verbs 10 10 refl refl
 
 telegram_0 : Named 1 telegrams 0 1
-unfolding words_of pieces belongs number_among same all_of plain_name
+unfolding words_of pieces belongs number_among all_of plain_name
 telegram_0 = named 1 telegrams 0 1 refl refl
 
 telegram_1 : Named 1 telegrams 1 2
-unfolding words_of pieces belongs number_among same all_of plain_name
+unfolding words_of pieces belongs number_among all_of plain_name
 telegram_1 = named 1 telegrams 1 2 refl refl
 
 telegram_2 : Named 1 telegrams 2 3
-unfolding words_of pieces belongs number_among same all_of plain_name
+unfolding words_of pieces belongs number_among all_of plain_name
 telegram_2 = named 1 telegrams 2 3 refl refl
 
 telegram_3 : Named 1 telegrams 3 4
-unfolding words_of pieces belongs number_among same all_of plain_name
+unfolding words_of pieces belongs number_among all_of plain_name
 telegram_3 = named 1 telegrams 3 4 refl refl
 
 telegram_4 : Named 1 telegrams 4 5
-unfolding words_of pieces belongs number_among same all_of plain_name
+unfolding words_of pieces belongs number_among all_of plain_name
 telegram_4 = named 1 telegrams 4 5 refl refl
 
 telegram_5 : Named 1 telegrams 5 6
-unfolding words_of pieces belongs number_among same all_of plain_name
+unfolding words_of pieces belongs number_among all_of plain_name
 telegram_5 = named 1 telegrams 5 6 refl refl
 
 telegram_6 : Named 1 telegrams 6 7
-unfolding words_of pieces belongs number_among same all_of plain_name
+unfolding words_of pieces belongs number_among all_of plain_name
 telegram_6 = named 1 telegrams 6 7 refl refl
 
 telegram_7 : Named 1 telegrams 7 8
-unfolding words_of pieces belongs number_among same all_of plain_name
+unfolding words_of pieces belongs number_among all_of plain_name
 telegram_7 = named 1 telegrams 7 8 refl refl
 
 willing_name_0 : Named 0 willings 0 0
-unfolding words_of pieces belongs number_among same all_of plain_name
+unfolding words_of pieces belongs number_among all_of plain_name
 willing_name_0 = named 0 willings 0 0 refl refl
 
 willing_name_1 : Named 0 willings 1 1
-unfolding words_of pieces belongs number_among same all_of plain_name
+unfolding words_of pieces belongs number_among all_of plain_name
 willing_name_1 = named 0 willings 1 1 refl refl
 
 decision_0 : Named 0 decisions 0 0
-unfolding words_of pieces belongs number_among same all_of plain_name
+unfolding words_of pieces belongs number_among all_of plain_name
 decision_0 = named 0 decisions 0 0 refl refl
 
 decision_1 : Named 0 decisions 1 1
-unfolding words_of pieces belongs number_among same all_of plain_name
+unfolding words_of pieces belongs number_among all_of plain_name
 decision_1 = named 0 decisions 1 1 refl refl
 
 own_name_0 : Named 1 own 0 1
-unfolding words_of pieces belongs number_among same all_of plain_name
+unfolding words_of pieces belongs number_among all_of plain_name
 own_name_0 = named 1 own 0 1 refl refl
 
 lock : (n f : ℕ) → n < 256 → f < 256 → Shows (fields 0 n f 0 0)

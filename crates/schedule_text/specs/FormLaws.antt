@@ -1,10 +1,9 @@
 -- Laws of the table of forms: past it there is no form, and what a word stands for fits the field.
-use Rattle.std.specs.Prelude.{ℕ, ◌-◌, ◌^◌, ◌≤◌, ◌<◌, ◌≡◌, refl, List, length}
+use Rattle.std.specs.Prelude.{ℕ, ◌-◌, ◌^◌, ◌≤◌, ◌≡◌, refl, Some, List, length}
 use Rattle.std.proofs.Common.{arith}
 use Rattle.std.proofs.Math.ListN.{get_or-eq_default}
 use Rattle.words.specs.Words.{belongs, pieces, words_of}
 use Rattle.words.specs.NumberLaws.{not-above, signed_in_32, among-names}
-use Rattle.words.specs.declared.Found.TheVariants.{Value}
 use Rattle.schedule_text.specs.Forms.{verbs, telegrams, willings, decisions, own, row, rows, row_of, room, value_in}
 use Rattle.schedule_text.specs.declared.Slot.{Slot}
 use Rattle.schedule_text.specs.declared.Slot.TheVariants.{Verb, A, B, Number, Target, Willing, Word, Telegram, Own, End}
@@ -34,7 +33,7 @@ count-own : length (words_of own) ≡ 1
 unfolding words_of pieces belongs
 count-own = refl
 
-pub fits_field : (s : Slot) (w : List ℕ) (v : ℕ) → Value v ≡ value_in s w → v ≤ room s
+pub fits_field : (s : Slot) (w : List ℕ) (v : ℕ) → Some v ≡ value_in s w → v ≤ room s
 unfolding value_in room
 fits_field Verb w v e = let h = among-names 0 (words_of verbs) w v e in omega (arith, count-verbs)
 fits_field A w v e = not-above 255 w v e
@@ -46,10 +45,3 @@ fits_field Word w v e = let h = among-names 0 (words_of decisions) w v e in omeg
 fits_field Telegram w v e = let h = among-names 1 (words_of telegrams) w v e in omega (arith, count-telegrams)
 fits_field Own w v e = let h = among-names 1 (words_of own) w v e in omega (arith, count-own)
 fits_field End w v e = let z : ◌≡◌ {A = ℕ} 0 1 = cc in absurd (omega arith)
-
--- a number in the room of a byte, or of four
-pub in-byte : (s : Slot) (v : ℕ) → room s ≡ 255 → v ≤ room s → v < 2 ^ 8
-in-byte s v e h = omega arith
-
-pub in_four : (s : Slot) (v : ℕ) → room s ≡ 2 ^ 32 - 1 → v ≤ room s → v < 2 ^ 32
-in_four s v e h = omega arith

@@ -1,11 +1,9 @@
 -- The line of an act: one table of forms, by which lines are read and written. A line has a first word for the kind (`Verb`) and then, by the kind, up to four
 -- places (`Slot`); each shows one field of the act's record, as a number or as one of some names.
-use Rattle.std.specs.Prelude.{ℕ, ◌-◌, ◌^◌, Bool, true, false, cond, List, [], ◌∷◌, ◌++◌, eqb, leb, get_or}
+use Rattle.std.specs.Prelude.{ℕ, ◌-◌, ◌^◌, Bool, true, false, cond, Option, None, List, [], ◌∷◌, ◌++◌, eqb, leb, get_or}
 use Rattle.text.specs.Text.{ascii, decimal, signed}
 use Rattle.words.specs.Words.{nth_word}
 use Rattle.words.specs.Numbers.{number_in, signed_in, name_in}
-use Rattle.words.specs.declared.Found.{Found}
-use Rattle.words.specs.declared.Found.TheVariants.{Nothing}
 use Rattle.event_record.specs.Events.{fields}
 use Rattle.event_record.specs.declared.Fields.{Fields}
 use Rattle.schedule_text.specs.declared.Slot.{Slot}
@@ -99,7 +97,7 @@ room Own = 255
 room End = 255
 
 -- what a word stands for there
-unfoldable pub value_in : Slot → List ℕ → Found
+unfoldable pub value_in : Slot → List ℕ → Option ℕ
 value_in Verb w = name_in 0 verbs w
 value_in A w = number_in 255 w
 value_in B w = number_in 255 w
@@ -109,7 +107,7 @@ value_in Willing w = name_in 0 willings w
 value_in Word w = name_in 0 decisions w
 value_in Telegram w = name_in 1 telegrams w
 value_in Own w = name_in 1 own w
-value_in End w = Nothing
+value_in End w = None
 
 -- and the word for a number
 unfoldable pub shown : Slot → ℕ → List ℕ

@@ -1,14 +1,25 @@
 // The table of forms.
-ghost use Rattle.std.specs.Prelude.{◌≡◌, ◌++◌, ◌-◌, ◌≤◌};
+ghost use Rattle.std.specs.Prelude.{◌≡◌, ◌++◌, ◌≤◌};
 ghost use Rattle.text.specs.Text.{ascii};
-ghost use Rattle.text.specs.Writing.{Put};
+ghost use Rattle.text.specs.Writers.{Wrote};
 ghost use Rattle.words.specs.Words.{nth_word};
 ghost use Rattle.schedule_text.specs.Forms.{row, delivery, row_of, slot_in, field_of, with_field, room, value_in, shown, spaced, rest_of, line_of};
 
 use crate::{Row, Slot};
 use event_record::Fields;
-use text::{put_byte, put_bytes, put_field, put_signed_field};
-use words::{Found, name_in, nth_span, number_in, signed_in};
+use text::Writer;
+use words::{name_in, nth_word, number_in, signed_in};
+
+// The documents' words, in the sequence of their numbers.
+const VERBS: &[u8] = b"lock order vote deliver bell arbiter stop save restore back ballot";
+
+const TELEGRAMS: &[u8] = b"vote acknowledgement help-call help-answer ask promise put taken";
+
+const WILLINGS: &[u8] = b"unwilling willing";
+
+const DECISIONS: &[u8] = b"stay move";
+
+const OWN: &[u8] = b"own-arbiter";
 
 fn row(first: Slot, second: Slot, third: Slot, fourth: Slot) -> Row
     ensures { result ≡ row first second third fourth }
@@ -30,6 +41,7 @@ fn delivery(c: u8) -> Row
     row(Slot::Telegram, Slot::Number, Slot::A, Slot::B)
 }
 
+#[tactic(auto, unfolding(crate::specs::Forms::row_of))]
 pub(crate) fn row_of(kind: u8, c: u8) -> Row
     ensures { result ≡ row_of kind c }
 {
@@ -49,49 +61,36 @@ pub(crate) fn row_of(kind: u8, c: u8) -> Row
     }
 }
 
+#[tactic(auto, unfolding(crate::specs::Forms::slot_in))]
 pub(crate) fn slot_in(row: Row, i: usize) -> Slot
     ensures { result ≡ slot_in row i }
 {
-    if i == 0 {
-        return Slot::Verb;
+    match i {
+        0 => Slot::Verb,
+        1 => row.first,
+        2 => row.second,
+        3 => row.third,
+        4 => row.fourth,
+        _ => Slot::End,
     }
-    if i == 1 {
-        let s = row.first;
-        return s;
-    }
-    if i == 2 {
-        let s = row.second;
-        return s;
-    }
-    if i == 3 {
-        let s = row.third;
-        return s;
-    }
-    if i == 4 {
-        let s = row.fourth;
-        return s;
-    }
-    Slot::End
 }
 
 // The field that a place shows.
+#[tactic(auto, unfolding(crate::specs::Forms::field_of))]
 fn field_of(slot: Slot, x: Fields) -> u32
     ensures { result ≡ field_of slot x }
 {
     match slot {
-        Slot::Verb => x.kind as u32,
-        Slot::A => x.a as u32,
-        Slot::B => x.b as u32,
-        Slot::Number => x.value,
-        Slot::Target => x.value,
-        Slot::Willing => x.b as u32,
-        Slot::Word => x.b as u32,
-        Slot::Telegram => x.c as u32,
-        Slot::Own => x.c as u32,
+        Slot::Verb => u32::from(x.kind),
+        Slot::A => u32::from(x.a),
+        Slot::B | Slot::Willing | Slot::Word => u32::from(x.b),
+        Slot::Telegram | Slot::Own => u32::from(x.c),
+        Slot::Number | Slot::Target => x.value,
         Slot::End => 0,
     }
 }
 
+#[tactic(auto, unfolding(crate::specs::Forms::room, crate::specs::Forms::with_field))]
 pub(crate) fn with_field(slot: Slot, v: usize, x: Fields) -> Fields
     requires { v ≤ room slot }
     ensures { result ≡ with_field slot v x }
@@ -99,148 +98,94 @@ pub(crate) fn with_field(slot: Slot, v: usize, x: Fields) -> Fields
     match slot {
         Slot::Verb => Fields { kind: v as u8, ..x },
         Slot::A => Fields { a: v as u8, ..x },
-        Slot::B => Fields { b: v as u8, ..x },
-        Slot::Number => Fields {
+        Slot::B | Slot::Willing | Slot::Word => Fields { b: v as u8, ..x },
+        Slot::Telegram | Slot::Own => Fields { c: v as u8, ..x },
+        Slot::Number | Slot::Target => Fields {
             value: v as u32,
             ..x
         },
-        Slot::Target => Fields {
-            value: v as u32,
-            ..x
-        },
-        Slot::Willing => Fields { b: v as u8, ..x },
-        Slot::Word => Fields { b: v as u8, ..x },
-        Slot::Telegram => Fields { c: v as u8, ..x },
-        Slot::Own => Fields { c: v as u8, ..x },
         Slot::End => x,
     }
 }
 
 // What a word stands for at a place.
-pub(crate) fn value_in(slot: Slot, w: &[u8]) -> Found
+#[tactic(auto, unfolding(crate::specs::Forms::value_in))]
+pub(crate) fn value_in(slot: Slot, w: &[u8]) -> Option<usize>
     ensures { result ≡ value_in slot w.now }
 {
     match slot {
-        Slot::Verb => name_in(
-            0,
-            b"lock order vote deliver bell arbiter stop save restore back ballot",
-            w,
-        ),
-        Slot::A => number_in(255, w),
-        Slot::B => number_in(255, w),
+        Slot::Verb => name_in(0, VERBS, w),
+        Slot::A | Slot::B => number_in(255, w),
         Slot::Number => number_in(0xFFFF_FFFF, w),
         Slot::Target => signed_in(w),
-        Slot::Willing => name_in(0, b"unwilling willing", w),
-        Slot::Word => name_in(0, b"stay move", w),
-        Slot::Telegram => name_in(
-            1,
-            b"vote acknowledgement help-call help-answer ask promise put taken",
-            w,
-        ),
-        Slot::Own => name_in(1, b"own-arbiter", w),
-        Slot::End => Found::Nothing,
+        Slot::Willing => name_in(0, WILLINGS, w),
+        Slot::Word => name_in(0, DECISIONS, w),
+        Slot::Telegram => name_in(1, TELEGRAMS, w),
+        Slot::Own => name_in(1, OWN, w),
+        Slot::End => None,
     }
-}
-
-// One of some names.
-fn put_name(out: &mut [u8], at: usize, names: &[u8], k: usize) -> usize
-    ensures { Put out.old out.new at result (nth_word names.now k) }
-{
-    let span = nth_span(names, k);
-    let from = span.from;
-    let to = span.to;
-    put_bytes(&mut *out, at, &names[from..to])
 }
 
 // A space and one of some names.
-fn put_spaced_name(out: &mut [u8], at: usize, names: &[u8], k: usize) -> usize
-    ensures { Put out.old out.new at result (ascii " " ++ nth_word names.now k) }
+fn put_spaced_name(w: &mut Writer, names: &[u8], k: usize)
+    ensures { Wrote w.old w.new (ascii " " ++ nth_word names.now k) }
 {
-    let next = put_byte(&mut *out, at, b' ');
-    put_name(&mut *out, next, names, k)
-}
-
-// A number less one; 0 has none.
-fn one_less(v: u32) -> usize
-    ensures { result ≡ v - 1 }
-{
-    if v == 0 {
-        return 0;
-    }
-    (v - 1) as usize
+    w.byte(b' ');
+    w.bytes(nth_word(names, k))
 }
 
 // The arbiter of a lock: nothing is said of one that is not among its controllers.
-fn put_own(out: &mut [u8], at: usize, x: Fields) -> usize
-    ensures { Put out.old out.new at result (spaced Slot.Own x) }
+#[tactic(auto, unfolding(crate::specs::Forms::field_of, crate::specs::Forms::left_out, crate::specs::Forms::shown, crate::specs::Forms::spaced))]
+fn put_own(w: &mut Writer, x: Fields)
+    ensures { Wrote w.old w.new (spaced Slot.Own x) }
 {
     if x.c == 0 {
-        return at;
+        return w.bytes(b"");
     }
-    put_spaced_name(&mut *out, at, b"own-arbiter", one_less(x.c as u32))
+    put_spaced_name(w, OWN, usize::from(x.c).saturating_sub(1))
 }
 
 // A space and what stands at a place.
-fn put_spaced(out: &mut [u8], at: usize, slot: Slot, x: Fields) -> usize
-    ensures { Put out.old out.new at result (spaced slot x) }
+#[tactic(auto, unfolding(crate::specs::Forms::field_of, crate::specs::Forms::left_out, crate::specs::Forms::shown, crate::specs::Forms::spaced))]
+fn put_spaced(w: &mut Writer, slot: Slot, x: Fields)
+    ensures { Wrote w.old w.new (spaced slot x) }
 {
     let v = field_of(slot, x);
     match slot {
-        Slot::Verb => put_spaced_name(
-            &mut *out,
-            at,
-            b"lock order vote deliver bell arbiter stop save restore back ballot",
-            v as usize,
-        ),
-        Slot::A => put_field(&mut *out, at, v),
-        Slot::B => put_field(&mut *out, at, v),
-        Slot::Number => put_field(&mut *out, at, v),
-        Slot::Target => put_signed_field(&mut *out, at, v),
-        Slot::Willing => put_spaced_name(&mut *out, at, b"unwilling willing", v as usize),
-        Slot::Word => put_spaced_name(&mut *out, at, b"stay move", v as usize),
-        Slot::Telegram => put_spaced_name(
-            &mut *out,
-            at,
-            b"vote acknowledgement help-call help-answer ask promise put taken",
-            one_less(v),
-        ),
-        Slot::Own => put_own(&mut *out, at, x),
-        Slot::End => at,
+        Slot::Verb => put_spaced_name(w, VERBS, v as usize),
+        Slot::A | Slot::B | Slot::Number => w.field(v),
+        Slot::Target => w.signed_field(v),
+        Slot::Willing => put_spaced_name(w, WILLINGS, v as usize),
+        Slot::Word => put_spaced_name(w, DECISIONS, v as usize),
+        Slot::Telegram => put_spaced_name(w, TELEGRAMS, (v as usize).saturating_sub(1)),
+        Slot::Own => put_own(w, x),
+        Slot::End => w.bytes(b""),
     }
 }
 
 // The first word of a line.
-fn put_verb(out: &mut [u8], at: usize, kind: u8) -> usize
-    ensures { Put out.old out.new at result (shown Slot.Verb kind) }
+fn put_verb(w: &mut Writer, kind: u8)
+    ensures { Wrote w.old w.new (shown Slot.Verb kind) }
 {
-    put_name(
-        &mut *out,
-        at,
-        b"lock order vote deliver bell arbiter stop save restore back ballot",
-        kind as usize,
-    )
+    w.bytes(nth_word(VERBS, usize::from(kind)))
 }
 
 // What follows the first word.
-pub fn put_rest(out: &mut [u8], at: usize, x: Fields) -> usize
-    ensures { Put out.old out.new at result (rest_of x) }
+pub fn put_rest(w: &mut Writer, x: Fields)
+    ensures { Wrote w.old w.new (rest_of x) }
 {
     let row = row_of(x.kind, x.c);
-    let first = row.first;
-    let second = row.second;
-    let third = row.third;
-    let fourth = row.fourth;
-    let next = put_spaced(&mut *out, at, first, x);
-    let next = put_spaced(&mut *out, next, second, x);
-    let next = put_spaced(&mut *out, next, third, x);
-    let next = put_spaced(&mut *out, next, fourth, x);
-    put_byte(&mut *out, next, b'\n')
+    put_spaced(w, row.first, x);
+    put_spaced(w, row.second, x);
+    put_spaced(w, row.third, x);
+    put_spaced(w, row.fourth, x);
+    w.byte(b'\n')
 }
 
 // The line of a record.
-pub(crate) fn put_line(out: &mut [u8], at: usize, x: Fields) -> usize
-    ensures { Put out.old out.new at result (line_of x) }
+pub(crate) fn put_line(w: &mut Writer, x: Fields)
+    ensures { Wrote w.old w.new (line_of x) }
 {
-    let next = put_verb(&mut *out, at, x.kind);
-    put_rest(&mut *out, next, x)
+    put_verb(w, x.kind);
+    put_rest(w, x)
 }

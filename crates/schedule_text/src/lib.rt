@@ -8,7 +8,6 @@ mod writing;
 ghost use Rattle.schedule_text.specs.BothWays.{BothWays};
 ghost use Rattle.schedule_text.specs.LineForLine.{LineForLine};
 
-use event_record::Fields;
 pub use forms::put_rest;
 pub use reading::read;
 pub use writing::write;
@@ -38,19 +37,13 @@ pub(crate) struct Row {
     pub fourth: Slot,
 }
 
-// What a line stands for: nothing, the fields of a record; or which of its words was not expected.
-#[derive(Clone, Copy)]
-pub(crate) enum LineRead {
-    Blank,
-    Record(Fields),
-    Unexpected(usize),
-}
+// Which word of a line was not expected.
+#[derive(Clone, Copy, Debug, PartialEq, Eq)]
+pub(crate) struct Unexpected(pub usize);
 
-// How many bytes were written; or what was refused, and for which fault: line and word of a text, record and question of a schedule; or too little room. In
-// both of these nothing was written.
-#[derive(Clone, Copy)]
-pub enum Turned {
-    Done(usize),
+// Why nothing was written: something was refused, for a fault in it (line and word of a text, record and question of a schedule); or there is too little room.
+#[derive(Clone, Copy, Debug, PartialEq, Eq)]
+pub enum TurnError {
     Refused { at: usize, by: usize },
     NoRoom,
 }

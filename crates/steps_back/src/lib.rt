@@ -2,10 +2,12 @@
 #![tactic(auto)]
 
 ghost use Rattle.std.specs.Prelude.{◌≡◌};
-ghost use Rattle.model.specs.Questions.{number};
+ghost use Rattle.model.specs.Refusals.{reply_of};
 ghost use Rattle.steps_back.specs.Claim.{StepsBack};
 ghost use Rattle.steps_back.specs.Memory.{most_remembered, back_reply};
 ghost use Rattle.steps_back.specs.Trials.{BackTrialsHold};
+
+use model::{Refusal, ask};
 
 // What holds of every list of acts.
 pub fn steps_back()
@@ -33,15 +35,11 @@ pub fn most_remembered() -> usize
     MOST_REMEMBERED
 }
 
-// The questions of a step back: is the lock set up, and is an event remembered? The number of the first "no", or 0.
-pub fn back_question(locked: bool, some: bool) -> u8
-    ensures { result ≡ number (back_reply locked some) }
+// The questions of a step back: is the lock set up, and is an event remembered?
+#[tactic(auto, unfolding(model::specs::Questions::first_no, model::specs::Questions::unless))]
+pub fn back_question(locked: bool, some: bool) -> Result<(), Refusal>
+    ensures { reply_of result ≡ back_reply locked some }
 {
-    if !locked {
-        return 5;
-    }
-    if !some {
-        return 26;
-    }
-    0
+    ask(locked, Refusal::LockSetUp)?;
+    ask(some, Refusal::Remembered)
 }

@@ -12,36 +12,19 @@ const STOPPED: u8 = 8;
 fn is_present(row: Row) -> bool
     ensures { result ≡ is_present row }
 {
-    if row.stage == STOPPED {
-        return false;
-    }
-    true
-}
-
-// Is this controller not stopped, or one before it?
-fn some_with(row: Row, some: bool) -> bool
-    ensures { result ≡ (is_present row || some) }
-{
-    if is_present(row) {
-        return true;
-    }
-    some
+    row.stage != STOPPED
 }
 
 // Is a controller left that is not stopped?
 fn any_present(end: Summary) -> bool
     ensures { result ≡ any_present end }
 {
-    let n = end.n as usize;
-    let rows = end.rows;
-    let mut some = false;
-    let mut i: usize = 0;
-    while i < n {
-        let row = row_at(rows, i);
-        some = some_with(row, some);
-        i += 1;
+    for i in 0..end.n as usize {
+        if is_present(row_at(end.rows, i)) {
+            return true;
+        }
     }
-    some
+    false
 }
 
 // Is this controller stopped, or did it end Move, or Stay?
@@ -51,37 +34,22 @@ fn ended_if(moving: bool, row: Row) -> bool
     if !is_present(row) {
         return true;
     }
-    let outcome = row.outcome;
     if moving {
-        return is_move(outcome);
+        return is_move(row.outcome);
     }
-    is_stay(outcome)
-}
-
-// The same of this one, and of all before it.
-fn all_with(moving: bool, row: Row, all: bool) -> bool
-    ensures { result ≡ (ended_if moving row && all) }
-{
-    if ended_if(moving, row) {
-        return all;
-    }
-    false
+    is_stay(row.outcome)
 }
 
 // Did every controller not stopped end Move, or Stay?
 fn all_ended(moving: bool, end: Summary) -> bool
     ensures { result ≡ all_ended moving end }
 {
-    let n = end.n as usize;
-    let rows = end.rows;
-    let mut all = true;
-    let mut i: usize = 0;
-    while i < n {
-        let row = row_at(rows, i);
-        all = all_with(moving, row, all);
-        i += 1;
+    for i in 0..end.n as usize {
+        if !ended_if(moving, row_at(end.rows, i)) {
+            return false;
+        }
     }
-    all
+    true
 }
 
 pub fn ending_of(end: Summary) -> Ending

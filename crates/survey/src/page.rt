@@ -1,53 +1,54 @@
 // The four lines, in a lent buffer.
 ghost use Rattle.std.specs.Prelude.{◌≡◌, ◌∷◌, []};
 ghost use Rattle.text.specs.Text.{decimal, line};
+ghost use Rattle.text.specs.Writers.{Wrote};
 ghost use Rattle.text.specs.Writing.{Put, fitted, fitted_length};
 ghost use Rattle.survey.specs.Page.{endings_line, messages_line, page};
 
 use crate::{Endings, Survey};
 use bench_report::MessageCounts;
-use text::{put_byte, put_field, put_number, write_bytes};
+use text::{Writer, write_bytes};
 
 // No page is longer: eleven numbers of ten digits, each with a space or the line's end after it.
 pub const LONGEST_PAGE: usize = 11 * 11;
 
-fn put_endings(out: &mut [u8], at: usize, e: Endings) -> usize
-    ensures { Put out.old out.new at result (endings_line e) }
+fn put_endings(w: &mut Writer, e: Endings)
+    ensures { Wrote w.old w.new (endings_line e) }
 {
-    let next = put_number(&mut *out, at, e.moved);
-    let next = put_field(&mut *out, next, e.stayed);
-    let next = put_field(&mut *out, next, e.rest);
-    put_byte(&mut *out, next, b'\n')
+    w.number(e.moved);
+    w.field(e.stayed);
+    w.field(e.rest);
+    w.byte(b'\n')
 }
 
-fn put_messages(out: &mut [u8], at: usize, m: MessageCounts) -> usize
-    ensures { Put out.old out.new at result (messages_line m) }
+fn put_messages(w: &mut Writer, m: MessageCounts)
+    ensures { Wrote w.old w.new (messages_line m) }
 {
-    let next = put_number(&mut *out, at, m.vote);
-    let next = put_field(&mut *out, next, m.ack);
-    let next = put_field(&mut *out, next, m.help);
-    let next = put_field(&mut *out, next, m.helped);
-    put_byte(&mut *out, next, b'\n')
+    w.number(m.vote);
+    w.field(m.ack);
+    w.field(m.help);
+    w.field(m.helped);
+    w.byte(b'\n')
 }
 
 // A line of two numbers.
-fn put_two(out: &mut [u8], at: usize, a: u32, b: u32) -> usize
-    ensures { Put out.old out.new at result (line (decimal a ∷ decimal b ∷ [])) }
+fn put_two(w: &mut Writer, a: u32, b: u32)
+    ensures { Wrote w.old w.new (line (decimal a ∷ decimal b ∷ [])) }
 {
-    let next = put_number(&mut *out, at, a);
-    let next = put_field(&mut *out, next, b);
-    put_byte(&mut *out, next, b'\n')
+    w.number(a);
+    w.field(b);
+    w.byte(b'\n')
 }
 
 fn put_page(out: &mut [u8], r: Survey, k: u32) -> usize
     ensures { Put out.old out.new 0 result (page r k) }
 {
-    let endings = r.endings;
-    let messages = r.messages;
-    let next = put_endings(&mut *out, 0, endings);
-    let next = put_messages(&mut *out, next, messages);
-    let next = put_two(&mut *out, next, r.most.sent, r.most.number);
-    put_two(&mut *out, next, r.sum, k)
+    let mut w = Writer::new(out);
+    put_endings(&mut w, r.endings);
+    put_messages(&mut w, r.messages);
+    put_two(&mut w, r.most.sent, r.most.number);
+    put_two(&mut w, r.sum, k);
+    w.at
 }
 
 // Writes the page of a report over k schedules to the front of the buffer and answers its length; 0, and nothing written, if it does not fit.

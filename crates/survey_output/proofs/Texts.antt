@@ -6,30 +6,25 @@ use native.Mathlib.Omega.{arith}
 use lib.Dec.{eqb}
 use lib.ListN.{length}
 use Rattle.ground.specs.Tests.{by_cond}
-use Rattle.model.specs.Questions.{Reply, accepted, refused, number}
-use Rattle.model.specs.QuestionLaws.{reply-accepted, reply-refused}
+use Rattle.model.specs.Questions.{Reply, accepted, refused}
 use Rattle.records.specs.Bytes.{byte, number2, number4}
 use Rattle.text.specs.Text.{refusal}
 use Rattle.text.specs.Lengths.{refusal-length}
 use Rattle.survey.specs.Surveys.{survey_of}
-use Rattle.survey.specs.Questions.{asked, refusal_of}
+use Rattle.survey.specs.Questions.{refusal_of}
 use Rattle.survey.specs.Page.{page}
 use Rattle.survey.proofs.Widths.{page-length}
 use Rattle.survey_output.specs.Schedules.{end_of}
 use Rattle.survey_output.specs.Output.{page_or_refusal, output_for, output_of, longest_output, AllFit}
 
-module _ (n f count s k q : ℕ) (e : q ≡ number (refusal_of n f count s k)) where
-  pub refused-output : (q ≡ 0 → ⊥) → output_for n f count s k ≡ refusal q
-  unfolding output_for refusal_of
-  refused-output h = rw (reply-refused (asked n f count s k) q e h)
-
-  pub not-refused : q ≡ 0 → refusal_of n f count s k ≡ accepted
-  unfolding refusal_of
-  not-refused z = reply-accepted (asked n f count s k) q refl e z
-
-  pub page-output : q ≡ 0 → output_for n f count s k ≡ page (survey_of (end_of n f count) s k) k
+module _ (n f count s k : ℕ) where
+  pub refused-output : (q : ℕ) → refused q ≡ refusal_of n f count s k → output_for n f count s k ≡ refusal q
   unfolding output_for
-  page-output z = rw (not-refused z)
+  refused-output q e = rw (← e)
+
+  pub page-output : accepted ≡ refusal_of n f count s k → output_for n f count s k ≡ page (survey_of (end_of n f count) s k) k
+  unfolding output_for
+  page-output e = rw (← e)
 
 for-length : (n f count s k : ℕ) → length (output_for n f count s k) ≤ longest_output
 unfolding output_for

@@ -24,12 +24,10 @@ const RECORD: usize = 10;
 fn write_for(out: &mut [u8], n: u8, f: u8, count: u32, s: u32, k: u32) -> usize
     ensures { WrittenWhole (output_for n f count s k) out.old out.new result }
 {
-    let refusal = refusal_of(n, f, count, s, k);
-    if refusal != 0 {
-        return write_refusal(&mut *out, refusal as u32);
+    match refusal_of(n, f, count, s, k) {
+        Err(q) => write_refusal(&mut *out, u32::from(u8::from(q))),
+        Ok(()) => write_page(&mut *out, survey_of(n, f, count, s, k), k),
     }
-    let survey = survey_of(n, f, count, s, k);
-    write_page(&mut *out, survey, k)
 }
 
 // Writes the program's whole output for an input to the front of the buffer and answers its length; 0, and nothing written, if it does not fit.

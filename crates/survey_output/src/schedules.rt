@@ -15,7 +15,8 @@ pub(crate) fn end_in(file: &mut [u8], n: u8, f: u8, count: u32, number: u32) -> 
     requires { (refusal_of n f count number ≡ accepted) × (length file.old ≡ event_length * records_in n count) }
     ensures { result ≡ end_of n f count number }
 {
-    generate(n, f, count, number, &mut *file);
+    // it is not refused, by the `requires`
+    let _ = generate(n, f, count, number, &mut *file);
     let mut answers = [0u8; MOST_ANSWERS];
     let r = run(file, &mut answers);
     r.summary

@@ -110,12 +110,10 @@ fn survey_in(file: &mut [u8], n: u8, f: u8, count: u32, s: u32, k: u32) -> Surve
     ensures { result ≡ survey_of (end_of n f count) s k }
 {
     let mut r = nothing(s);
-    let mut done: u32 = 0;
-    while done < k {
+    for done in 0..k {
         let number = s + done;
         let end = end_in(&mut *file, n, f, count, number);
         r = with_one(r, number, end);
-        done += 1;
     }
     r
 }

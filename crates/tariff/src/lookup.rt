@@ -38,13 +38,10 @@ const TARIFF: [Band; BANDS] = [
 pub(crate) fn full_charge(length: u32) -> u32
     ensures { result ≡ full_charge tariff length }
 {
-    let mut i: usize = 0;
-    while i < BANDS {
-        let band = TARIFF[i];
+    for band in &TARIFF {
         if length <= band.limit {
             return band.charge;
         }
-        i += 1;
     }
     0
 }

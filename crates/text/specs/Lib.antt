@@ -5,3 +5,4 @@ pub mod Writing
 pub mod TextLaws
 pub mod Lengths
 pub mod WritingLaws
+pub mod Writers

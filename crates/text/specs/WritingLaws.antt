@@ -138,3 +138,7 @@ line-put text {line} {end} h p =
     let l : length (replicate {A = ℕ} 22 0) ≡ 22 = length-replicate {A = ℕ} 22 0 in
     let w = read-front (omega (arith, l)) p in
     rw (le-leb end 22 (omega (arith, w.0))) w.1
+
+-- the same of the buffer and the place under other names
+pub put-moved : {l l' m m' : List ℕ} {i i' j : ℕ} {t : List ℕ} → l ≡ l' → m ≡ m' → i ≡ i' → Put l m i j t → Put l' m' i' j t
+put-moved e f g p = rw (e, f, g) at p

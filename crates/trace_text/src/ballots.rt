@@ -1,6 +1,6 @@
 // What was sent in the ballot of an event.
 ghost use Rattle.std.specs.Prelude.{◌≡◌};
-ghost use Rattle.text.specs.Writing.{Put};
+ghost use Rattle.text.specs.Writers.{Wrote};
 ghost use Rattle.trace.specs.Lines.{text};
 ghost use Rattle.trace.specs.Shown.{new_in, sent_from, sent_in, in_ballot, ballot_sent, ballots};
 
@@ -10,6 +10,7 @@ use bench_turns::ballot_of;
 use ground::LIMIT;
 use model::{BallotEvent, BallotKind, Event, different_controllers, is_ballot};
 use protocol::{BALLOTS, BallotRow, Ballots};
+use text::Writer;
 
 fn is_new_in(kind: BallotKind, n: u8, b: u8, i: u8, j: u8, old: BallotRow, new: BallotRow) -> bool
     ensures { result ≡ new_in kind n b i j old new }
@@ -24,20 +25,17 @@ fn is_new_in(kind: BallotKind, n: u8, b: u8, i: u8, j: u8, old: BallotRow, new: 
 }
 
 fn put_sent_from(
-    out: &mut [u8],
-    at: usize,
+    w: &mut Writer,
     kind: BallotKind,
     n: u8,
     b: u8,
     i: u8,
     old: BallotRow,
     new: BallotRow,
-) -> usize
-    ensures { Put out.old out.new at result (text (sent_from kind n b i old new)) }
+)
+    ensures { Wrote w.old w.new (text (sent_from kind n b i old new)) }
 {
-    let mut next = at;
-    let mut k: usize = 0;
-    while k < LIMIT {
+    for k in 0..LIMIT {
         let j = k as u8 + 1;
         let event = BallotEvent::Carry {
             from: i,
@@ -45,90 +43,62 @@ fn put_sent_from(
             kind,
             ballot: b as u32,
         };
-        next = put_told_if(
-            &mut *out,
-            next,
-            is_new_in(kind, n, b, i, j, old, new),
-            b"sent",
-            Event::OfBallots { event },
-        );
-        k += 1;
+        let is_new = is_new_in(kind, n, b, i, j, old, new);
+        put_told_if(w, is_new, b"sent", Event::OfBallots { event });
     }
-    next
 }
 
-fn put_sent_in(
-    out: &mut [u8],
-    at: usize,
-    kind: BallotKind,
-    n: u8,
-    b: u8,
-    old: BallotRow,
-    new: BallotRow,
-) -> usize
-    ensures { Put out.old out.new at result (text (sent_in kind n b old new)) }
+fn put_sent_in(w: &mut Writer, kind: BallotKind, n: u8, b: u8, old: BallotRow, new: BallotRow)
+    ensures { Wrote w.old w.new (text (sent_in kind n b old new)) }
 {
-    let mut next = at;
-    let mut k: usize = 0;
-    while k < LIMIT {
-        next = put_sent_from(&mut *out, next, kind, n, b, k as u8 + 1, old, new);
-        k += 1;
+    for k in 0..LIMIT {
+        put_sent_from(w, kind, n, b, k as u8 + 1, old, new);
     }
-    next
 }
 
-fn put_in_ballot(out: &mut [u8], at: usize, n: u8, b: u8, old: BallotRow, new: BallotRow) -> usize
-    ensures { Put out.old out.new at result (text (in_ballot n b old new)) }
+fn put_in_ballot(w: &mut Writer, n: u8, b: u8, old: BallotRow, new: BallotRow)
+    ensures { Wrote w.old w.new (text (in_ballot n b old new)) }
 {
-    let next = put_sent_in(&mut *out, at, BallotKind::Prepare, n, b, old, new);
-    let next = put_sent_in(&mut *out, next, BallotKind::Promise, n, b, old, new);
-    let next = put_sent_in(&mut *out, next, BallotKind::Accept, n, b, old, new);
-    put_sent_in(&mut *out, next, BallotKind::Accepted, n, b, old, new)
+    put_sent_in(w, BallotKind::Prepare, n, b, old, new);
+    put_sent_in(w, BallotKind::Promise, n, b, old, new);
+    put_sent_in(w, BallotKind::Accept, n, b, old, new);
+    put_sent_in(w, BallotKind::Accepted, n, b, old, new)
 }
 
 fn put_ballot_sent(
-    out: &mut [u8],
-    at: usize,
+    w: &mut Writer,
     e: BallotEvent,
     n: u8,
     old: [BallotRow; BALLOTS],
     new: [BallotRow; BALLOTS],
-) -> usize
-    ensures { Put out.old out.new at result (text (ballot_sent e n old new)) }
+)
+    ensures { Wrote w.old w.new (text (ballot_sent e n old new)) }
 {
     let b = ballot_of(e);
     if !is_ballot(b) {
-        return at;
+        return w.bytes(b"");
     }
     let k = (b - 1) as usize;
     let was = old[k];
     let is = new[k];
-    put_in_ballot(&mut *out, at, n, b as u8, was, is)
+    put_in_ballot(w, n, b as u8, was, is)
 }
 
 // Only an event of a ballot sends in one.
-pub(crate) fn put_ballots(
-    out: &mut [u8],
-    at: usize,
-    e: Event,
-    n: u8,
-    old: Ballots,
-    new: Ballots,
-) -> usize
-    ensures { Put out.old out.new at result (text (ballots e n old new)) }
+#[tactic(auto, unfolding(trace::specs::Shown::ballots, trace::specs::Lines::text))]
+pub(crate) fn put_ballots(w: &mut Writer, e: Event, n: u8, old: Ballots, new: Ballots)
+    ensures { Wrote w.old w.new (text (ballots e n old new)) }
 {
-    let rows = old.rows;
-    let new_rows = new.rows;
     match e {
-        Event::Lock { .. } => at,
-        Event::Order { .. } => at,
-        Event::Cast { .. } => at,
-        Event::Deliver { .. } => at,
-        Event::Timeout { .. } => at,
-        Event::Decide { .. } => at,
-        Event::Stop { .. } => at,
-        Event::Save { .. } => at,
-        Event::Restore { .. } => at,
-        Event::OfBallots { event } => put_ballot_sent(&mut *out, at, event, n, rows, new_rows),
+        Event::OfBallots { event } => put_ballot_sent(w, event, n, old.rows, new.rows),
+        Event::Lock { .. }
+        | Event::Order { .. }
+        | Event::Cast { .. }
+        | Event::Deliver { .. }
+        | Event::Timeout { .. }
+        | Event::Decide { .. }
+        | Event::Stop { .. }
+        | Event::Save { .. }
+        | Event::Restore { .. } => w.bytes(b""),
     }
 }

@@ -1,6 +1,6 @@
 // The C lines that changed.
 ghost use Rattle.std.specs.Prelude.{◌≡◌, not};
-ghost use Rattle.text.specs.Writing.{Put};
+ghost use Rattle.text.specs.Writers.{Wrote};
 ghost use Rattle.bench_summary.specs.Summary.{summary_of};
 ghost use Rattle.trace.specs.Lines.{Shows, text, when};
 ghost use Rattle.trace.specs.Shown.{same_row, unchanged, changed_rows, changed};
@@ -8,8 +8,8 @@ ghost use Rattle.trace.specs.Shown.{same_row, unchanged, changed_rows, changed};
 use bench_report::{Row, put_controller, row_at};
 use bench_summary::summary_of;
 use ground::LIMIT;
-use model::outcome_number;
 use protocol::Bench;
+use text::Writer;
 
 fn same_row(r: Row, s: Row) -> bool
     ensures { result ≡ same_row r s }
@@ -19,49 +19,37 @@ fn same_row(r: Row, s: Row) -> bool
     }
     let o = r.outcome;
     let p = s.outcome;
-    if outcome_number(o) != outcome_number(p) {
+    if u8::from(o) != u8::from(p) {
         return false;
     }
     r.position == s.position
 }
 
 // The C line of controller k, unless it had the same before.
-fn put_row(out: &mut [u8], at: usize, n: u8, k: u32, old: Row, new: Row) -> usize
-    ensures { Put out.old out.new at result (text (when (not (unchanged n k old new)) (Shows k new))) }
+fn put_row(w: &mut Writer, n: u8, k: u32, old: Row, new: Row)
+    ensures { Wrote w.old w.new (text (when (not (unchanged n k old new)) (Shows k new))) }
 {
     if k <= n as u32 {
         if same_row(old, new) {
-            return at;
+            return w.bytes(b"");
         }
-        return put_controller(&mut *out, at, k, new);
+        return put_controller(w, k, new);
     }
-    put_controller(&mut *out, at, k, new)
+    put_controller(w, k, new)
 }
 
-fn put_rows(
-    out: &mut [u8],
-    at: usize,
-    old_n: u8,
-    old: [Row; LIMIT],
-    n: u8,
-    new: [Row; LIMIT],
-) -> usize
-    ensures { Put out.old out.new at result (text (changed_rows old_n old n new)) }
+fn put_rows(w: &mut Writer, old_n: u8, old: [Row; LIMIT], n: u8, new: [Row; LIMIT])
+    ensures { Wrote w.old w.new (text (changed_rows old_n old n new)) }
 {
-    let end = n as usize;
-    let mut next = at;
-    let mut i: usize = 0;
-    while i < end {
+    for i in 0..n as usize {
         let was = row_at(old, i);
         let is = row_at(new, i);
-        next = put_row(&mut *out, next, old_n, i as u32 + 1, was, is);
-        i += 1;
+        put_row(w, old_n, i as u32 + 1, was, is);
     }
-    next
 }
 
-pub(crate) fn put_changes(out: &mut [u8], at: usize, old: Bench, new: Bench) -> usize
-    ensures { Put out.old out.new at result (text (changed (summary_of old) (summary_of new))) }
+pub(crate) fn put_changes(w: &mut Writer, old: Bench, new: Bench)
+    ensures { Wrote w.old w.new (text (changed (summary_of old) (summary_of new))) }
 {
     let before = old.stations;
     let after = new.stations;
@@ -69,5 +57,5 @@ pub(crate) fn put_changes(out: &mut [u8], at: usize, old: Bench, new: Bench) -> 
     let is = summary_of(new.shared, after);
     let rows = was.rows;
     let new_rows = is.rows;
-    put_rows(&mut *out, at, was.n, rows, is.n, new_rows)
+    put_rows(w, was.n, rows, is.n, new_rows)
 }

@@ -6,7 +6,7 @@ mod changes;
 mod lines;
 mod sent;
 
-ghost use Rattle.text.specs.Writing.{Put};
+ghost use Rattle.text.specs.Writers.{Wrote};
 ghost use Rattle.trace.specs.Lines.{text};
 ghost use Rattle.trace.specs.Shown.{given, told, came_of, shown};
 
@@ -16,76 +16,59 @@ use lines::{put_answered, put_told, put_undone};
 use model::{Act, Event};
 use protocol::Bench;
 use sent::{put_all_sent, put_words};
+use text::Writer;
 
 // The word that an event gives.
-fn put_given(out: &mut [u8], at: usize, e: Event) -> usize
-    ensures { Put out.old out.new at result (text (given e)) }
+#[tactic(auto, unfolding(trace::specs::Shown::given, trace::specs::Lines::text))]
+fn put_given(w: &mut Writer, e: Event)
+    ensures { Wrote w.old w.new (text (given e)) }
 {
     match e {
-        Event::Lock { .. } => at,
-        Event::Order { .. } => at,
-        Event::Cast { .. } => at,
-        Event::Deliver { .. } => at,
-        Event::Timeout { .. } => at,
-        Event::Decide { id, to_move } => put_told(
-            &mut *out,
-            at,
-            b"given",
-            Event::Decide { id, to_move },
-        ),
-        Event::Stop { .. } => at,
-        Event::Save { .. } => at,
-        Event::Restore { .. } => at,
-        Event::OfBallots { .. } => at,
+        Event::Decide { id, to_move } => put_told(w, b"given", Event::Decide { id, to_move }),
+        Event::Lock { .. }
+        | Event::Order { .. }
+        | Event::Cast { .. }
+        | Event::Deliver { .. }
+        | Event::Timeout { .. }
+        | Event::Stop { .. }
+        | Event::Save { .. }
+        | Event::Restore { .. }
+        | Event::OfBallots { .. } => w.bytes(b""),
     }
 }
 
 // What an accepted event sent, and the words put and given.
-fn put_event(out: &mut [u8], at: usize, e: Event, old: Bench, new: Bench) -> usize
-    ensures { Put out.old out.new at result (text (told e old new)) }
+fn put_event(w: &mut Writer, e: Event, old: Bench, new: Bench)
+    ensures { Wrote w.old w.new (text (told e old new)) }
 {
-    let before = old.stations;
-    let after = new.stations;
-    let old_ballots = old.ballots;
-    let new_ballots = new.ballots;
-    let next = put_all_sent(&mut *out, at, before, after);
-    let next = put_ballots(&mut *out, next, e, new.shared.n, old_ballots, new_ballots);
-    let next = put_words(&mut *out, next, before, after);
-    put_given(&mut *out, next, e)
+    put_all_sent(w, old.stations, new.stations);
+    put_ballots(w, e, new.shared.n, old.ballots, new.ballots);
+    put_words(w, old.stations, new.stations);
+    put_given(w, e)
 }
 
 // What came of an accepted act, with the index of the event that it undid.
-fn put_came(out: &mut [u8], at: usize, undone: u32, act: Act, old: Bench, new: Bench) -> usize
-    ensures { Put out.old out.new at result (text (came_of undone act old new)) }
+fn put_came(w: &mut Writer, undone: u32, act: Act, old: Bench, new: Bench)
+    ensures { Wrote w.old w.new (text (came_of undone act old new)) }
 {
     match act {
         Act::Play(e) => {
-            let next = put_changes(&mut *out, at, old, new);
-            put_event(&mut *out, next, e, old, new)
+            put_changes(w, old, new);
+            put_event(w, e, old, new)
         }
         Act::Back => {
-            let next = put_undone(&mut *out, at, undone);
-            put_changes(&mut *out, next, old, new)
+            put_undone(w, undone);
+            put_changes(w, old, new)
         }
     }
 }
 
 // What is shown of the act with index k: its answer, and what came of it, by the bench before it and the bench after it.
-pub fn put_shown(
-    out: &mut [u8],
-    at: usize,
-    k: u32,
-    undone: u32,
-    act: Act,
-    answer: u8,
-    old: Bench,
-    new: Bench,
-) -> usize
-    ensures { Put out.old out.new at result (text (shown k undone act answer old new)) }
+pub fn put_shown(w: &mut Writer, k: u32, undone: u32, act: Act, answer: u8, old: Bench, new: Bench)
+    ensures { Wrote w.old w.new (text (shown k undone act answer old new)) }
 {
-    let next = put_answered(&mut *out, at, k, answer);
-    if answer != 0 {
-        return next;
+    put_answered(w, k, answer);
+    if answer == 0 {
+        put_came(w, undone, act, old, new);
     }
-    put_came(&mut *out, next, undone, act, old, new)
 }

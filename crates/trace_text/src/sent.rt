@@ -1,6 +1,6 @@
 // What was sent and put: messages and words that are there now and were not before.
 ghost use Rattle.std.specs.Prelude.{◌≡◌, not, ◌&&◌};
-ghost use Rattle.text.specs.Writing.{Put};
+ghost use Rattle.text.specs.Writers.{Wrote};
 ghost use Rattle.ground.specs.Mask.{has};
 ghost use Rattle.model.specs.Numbers.{is_none};
 ghost use Rattle.trace.specs.Lines.{text};
@@ -12,6 +12,7 @@ use bench_turns::proposal_of;
 use ground::{LIMIT, has};
 use model::{Event, Kind, Outcome, is_move, is_none};
 use protocol::Station;
+use text::Writer;
 
 fn is_new(old: u32, new: u32, k: u8) -> bool
     ensures { result ≡ is_new (has old k) (has new k) }
@@ -23,55 +24,36 @@ fn is_new(old: u32, new: u32, k: u8) -> bool
 }
 
 // The messages of one kind from i.
-fn put_sent_to(out: &mut [u8], at: usize, kind: Kind, i: u8, old: u32, new: u32) -> usize
-    ensures { Put out.old out.new at result (text (sent_to kind i old new)) }
+fn put_sent_to(w: &mut Writer, kind: Kind, i: u8, old: u32, new: u32)
+    ensures { Wrote w.old w.new (text (sent_to kind i old new)) }
 {
-    let mut next = at;
-    let mut j: usize = 0;
-    while j < LIMIT {
+    for j in 0..LIMIT {
         let to = j as u8 + 1;
         let e = Event::Deliver { from: i, to, kind };
-        next = put_told_if(&mut *out, next, is_new(old, new, to), b"sent", e);
-        j += 1;
+        put_told_if(w, is_new(old, new, to), b"sent", e);
     }
-    next
 }
 
 // The messages of one kind.
-fn put_sent(
-    out: &mut [u8],
-    at: usize,
-    kind: Kind,
-    old: [Station; LIMIT],
-    new: [Station; LIMIT],
-) -> usize
-    ensures { Put out.old out.new at result (text (sent_of kind old new)) }
+fn put_sent(w: &mut Writer, kind: Kind, old: [Station; LIMIT], new: [Station; LIMIT])
+    ensures { Wrote w.old w.new (text (sent_of kind old new)) }
 {
-    let mut next = at;
-    let mut i: usize = 0;
-    while i < LIMIT {
+    for i in 0..LIMIT {
         let s = old[i];
         let t = new[i];
         let before = receivers(kind, s.sent);
         let now = receivers(kind, t.sent);
-        next = put_sent_to(&mut *out, next, kind, i as u8 + 1, before, now);
-        i += 1;
+        put_sent_to(w, kind, i as u8 + 1, before, now);
     }
-    next
 }
 
-pub(crate) fn put_all_sent(
-    out: &mut [u8],
-    at: usize,
-    old: [Station; LIMIT],
-    new: [Station; LIMIT],
-) -> usize
-    ensures { Put out.old out.new at result (text (sent old new)) }
+pub(crate) fn put_all_sent(w: &mut Writer, old: [Station; LIMIT], new: [Station; LIMIT])
+    ensures { Wrote w.old w.new (text (sent old new)) }
 {
-    let next = put_sent(&mut *out, at, Kind::Vote, old, new);
-    let next = put_sent(&mut *out, next, Kind::Ack, old, new);
-    let next = put_sent(&mut *out, next, Kind::Help, old, new);
-    put_sent(&mut *out, next, Kind::Helped, old, new)
+    put_sent(w, Kind::Vote, old, new);
+    put_sent(w, Kind::Ack, old, new);
+    put_sent(w, Kind::Help, old, new);
+    put_sent(w, Kind::Helped, old, new)
 }
 
 fn is_word_new(old: Outcome, new: Outcome) -> bool
@@ -84,25 +66,16 @@ fn is_word_new(old: Outcome, new: Outcome) -> bool
 }
 
 // The words put.
-pub(crate) fn put_words(
-    out: &mut [u8],
-    at: usize,
-    old: [Station; LIMIT],
-    new: [Station; LIMIT],
-) -> usize
-    ensures { Put out.old out.new at result (text (put old new)) }
+pub(crate) fn put_words(w: &mut Writer, old: [Station; LIMIT], new: [Station; LIMIT])
+    ensures { Wrote w.old w.new (text (put old new)) }
 {
-    let mut next = at;
-    let mut i: usize = 0;
-    while i < LIMIT {
+    for i in 0..LIMIT {
         let before = proposal_of(old[i]);
         let now = proposal_of(new[i]);
         let e = Event::Decide {
             id: i as u8 + 1,
             to_move: is_move(now),
         };
-        next = put_told_if(&mut *out, next, is_word_new(before, now), b"put", e);
-        i += 1;
+        put_told_if(w, is_word_new(before, now), b"put", e);
     }
-    next
 }

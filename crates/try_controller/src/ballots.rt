@@ -1,10 +1,11 @@
 // Ballots (document 02, U14): what the controller under trial has promised, accepted and counted, and what each command asks of it there.
-use crate::command::{byte, is_ballot_message, number, outcome_at};
+use crate::command::{byte, is_ballot_message, outcome_at};
 use ballot_rules::{new_acceptor, new_tally, unanswered};
 use controller::{open, receive_ballot};
 use controller_state::lower;
 use model::{BallotKind, BallotMessage};
 use protocol::{Acceptor, BALLOTS, BallotAnswer, Controller, Identity, Tally};
+use records::number4;
 use votes::empty_set;
 
 // Its part in the ballots of an order: does its lock settle the word by them (own), what has it promised and accepted, and what has it counted
@@ -91,7 +92,7 @@ fn message_at(s: &[u8]) -> BallotMessage {
         f: byte(s, 3),
         from: byte(s, 4),
         to: byte(s, 5),
-        order: number(s, 8),
+        order: number4(s, 8),
         votes: empty_set(),
         ballot: byte(s, 20),
         last: byte(s, 21),

@@ -1,35 +1,13 @@
 // The commands: what each asks of the controller, by its first byte.
-ghost use Rattle.std.specs.Prelude.{◌≡◌, ◌<◌};
-
 use controller::{decide, receive, renew, restore, save, stop, timeout, vote};
 use controller_state::{becomes, fresh, passed_over};
 use model::{Checkpoint, Kind, Message, Outcome};
-use protocol::{Answer, Controller, Identity, Saved};
+use protocol::{Answer, Controller, Identity};
+use records::{byte_after, number4};
 use votes::VoteSet;
 
 pub(crate) fn byte(s: &[u8], i: usize) -> u8 {
-    if i < s.len() {
-        return s[i];
-    }
-    0
-}
-
-fn wide(x: u8) -> u32
-    ensures { (result ≡ x) × (result < 256) }
-{
-    x as u32
-}
-
-// Four bytes from i on, big-endian.
-pub(crate) fn number(s: &[u8], i: usize) -> u32 {
-    if 20 < i {
-        return 0;
-    }
-    let a = wide(byte(s, i));
-    let b = wide(byte(s, i + 1));
-    let c = wide(byte(s, i + 2));
-    let d = wide(byte(s, i + 3));
-    ((a * 256 + b) * 256 + c) * 256 + d
+    byte_after(s, i, 0)
 }
 
 // Is this a message? It has a kind from 1 to 8 and, if that is one of ballots, a word.
@@ -69,8 +47,8 @@ fn kind_at(s: &[u8]) -> Kind {
 
 fn message_at(s: &[u8]) -> Message {
     let votes = VoteSet {
-        known: number(s, 12),
-        willing: number(s, 16),
+        known: number4(s, 12),
+        willing: number4(s, 16),
     };
     Message {
         kind: kind_at(s),
@@ -78,7 +56,7 @@ fn message_at(s: &[u8]) -> Message {
         f: byte(s, 3),
         from: byte(s, 4),
         to: byte(s, 5),
-        order: number(s, 8),
+        order: number4(s, 8),
         votes,
     }
 }
@@ -98,8 +76,8 @@ fn checkpoint_at(s: &[u8], me: Identity) -> Checkpoint {
         n: me.n,
         f: me.f,
         outcome: outcome_at(s, 1),
-        order: number(s, 4),
-        position: number(s, 8),
+        order: number4(s, 4),
+        position: number4(s, 8),
     }
 }
 
@@ -110,10 +88,10 @@ pub(crate) fn identity_after(s: &[u8], me: Identity) -> Identity {
             n: byte(s, 1),
             f: byte(s, 2),
             id: byte(s, 3),
-            order: number(s, 4),
+            order: number4(s, 4),
         },
         1 => Identity {
-            order: number(s, 4),
+            order: number4(s, 4),
             ..me
         },
         _ => me,
@@ -121,19 +99,19 @@ pub(crate) fn identity_after(s: &[u8], me: Identity) -> Identity {
 }
 
 // The checkpoint that a command asks for.
-pub(crate) fn saved_by(s: &[u8], me: Identity, c: Controller) -> Saved {
+pub(crate) fn saved_by(s: &[u8], me: Identity, c: Controller) -> Option<Checkpoint> {
     if byte(s, 0) == 7 {
         return save(me, c);
     }
-    Saved::Nothing
+    None
 }
 
 // A checkpoint is made or, of a stopped controller, none.
 fn saving(me: Identity, c: Controller) -> Answer {
-    match save(me, c) {
-        Saved::Nothing => passed_over(c),
-        Saved::Newest(_) => becomes(c),
+    if save(me, c).is_some() {
+        return becomes(c);
     }
+    passed_over(c)
 }
 
 // What ends, saves and restores it.
@@ -166,7 +144,7 @@ pub(crate) fn answer_to(s: &[u8], me: Identity, c: Controller, taken: bool) -> A
     match byte(s, 0) {
         0 => becomes(fresh()),
         1 => becomes(renew(c)),
-        2 => vote(me, byte(s, 1) == 1, number(s, 4), c),
+        2 => vote(me, byte(s, 1) == 1, number4(s, 4), c),
         3 => received(s, me, c, taken),
         4 => timeout(me, c),
         10 => called(taken, c),

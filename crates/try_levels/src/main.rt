@@ -3,33 +3,23 @@
 #![tactic(auto)]
 
 use levels_text::ROOM;
-use streams::{read_input, write_output};
+use streams::{Failed, read_input, rounds, write_output};
 
 const PAIR: usize = 16;
 
 // Answers the next pair, and whether there may be another.
-fn round(rt: &HostRuntime) -> bool {
+fn round(rt: &HostRuntime) -> Result<bool, Failed> {
     let mut pair = [0u8; PAIR];
-    let got = read_input(rt, &mut pair);
-    if got.failed {
-        return false;
-    }
-    let n = got.count;
+    let n = read_input(rt, &mut pair)?;
     if n == 0 {
-        return false;
+        return Ok(false);
     }
     let mut text = [0u8; ROOM];
     let length = levels_text::render(&pair[..n], &mut text);
-    if !write_output(rt, &text[..length]) {
-        return false;
-    }
-    n == PAIR
+    write_output(rt, &text[..length])?;
+    Ok(n == PAIR)
 }
 
-// A proved loop has to end, so the rounds are counted down, from a number that no input uses up.
 fn main(rt: HostRuntime) {
-    let mut rounds: u64 = 4294967296;
-    while rounds > 0 && round(&rt) {
-        rounds -= 1;
-    }
+    rounds(1 << 32, || round(&rt));
 }

@@ -2,31 +2,21 @@
 // another implementation.
 #![tactic(auto)]
 
-use streams::{read_input, write_output};
+use streams::{Failed, read_input, rounds, write_output};
 
-// The next sequence; how many acts it has, or 0 where reading or writing failed.
-fn sequence(rt: &HostRuntime) -> usize {
-    let mut input = [0u8; 40];
-    let got = read_input(rt, &mut input);
-    if got.failed {
-        return 0;
-    }
-    let n = got.count;
+const ACTS: usize = 40;
+
+// Runs the next sequence, and whether there may be another.
+fn sequence(rt: &HostRuntime) -> Result<bool, Failed> {
+    let mut input = [0u8; ACTS];
+    let n = read_input(rt, &mut input)?;
     // 22 bytes an act
-    let mut text = [0u8; 880];
+    let mut text = [0u8; 22 * ACTS];
     let length = line_output::render(&input[..n], &mut text);
-    if !write_output(rt, &text[..length]) {
-        return 0;
-    }
-    n
+    write_output(rt, &text[..length])?;
+    Ok(n == ACTS)
 }
 
 fn main(rt: HostRuntime) {
-    let mut k: u32 = 0;
-    while k < 1000000 {
-        if sequence(&rt) < 40 {
-            return;
-        }
-        k += 1;
-    }
+    rounds(1_000_000, || sequence(&rt));
 }

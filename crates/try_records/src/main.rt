@@ -8,23 +8,16 @@ mod line;
 mod reading;
 mod writing;
 
-ghost use Rattle.std.specs.Prelude.{◌≡◌, length};
-
 use line::Line;
+use streams::{Failed, read_input, rounds};
 
 const FRAME: usize = 40;
 
 const CHUNK: usize = 40960;
 
-fn wide(x: u8) -> usize {
-    x as usize
-}
-
-fn line_of(frame: &[u8]) -> Line
-    requires { length frame.now ≡ 40 }
-{
+fn line_of(frame: &[u8; FRAME]) -> Line {
     let what = frame[0];
-    let size = wide(frame[1]);
+    let size = usize::from(frame[1]);
     if 32 < size {
         return writing::unlisted();
     }
@@ -36,37 +29,24 @@ fn line_of(frame: &[u8]) -> Line
     writing::line_of(what, &frame[2..], &mut out[..size])
 }
 
-// The frames of a chunk, one after the other; whether all lines were taken.
-fn run(rt: &HostRuntime, s: &[u8]) -> bool {
-    let mut at = 0;
-    while FRAME <= s.len() - at {
-        let end = at + FRAME;
-        if !line::print(rt, line_of(&s[at..end])) {
-            return false;
-        }
-        at = end;
+// The frames of a chunk, one after the other.
+fn run(rt: &HostRuntime, s: &[u8]) -> Result<(), Failed> {
+    let mut rest = s;
+    while let Some((frame, after)) = rest.split_first_chunk::<FRAME>() {
+        line_of(frame).print(rt)?;
+        rest = after;
     }
-    true
+    Ok(())
 }
 
 // Reads and runs as many frames as there are at once, and answers whether there may be more.
-fn round(rt: &HostRuntime) -> bool {
+fn round(rt: &HostRuntime) -> Result<bool, Failed> {
     let mut buf = [0u8; CHUNK];
-    let got = streams::read_input(rt, &mut buf);
-    if got.failed {
-        return false;
-    }
-    let n = got.count;
-    if !run(rt, &buf[..n]) {
-        return false;
-    }
-    n == CHUNK
+    let n = read_input(rt, &mut buf)?;
+    run(rt, &buf[..n])?;
+    Ok(n == CHUNK)
 }
 
-// A proved loop has to end, so the rounds are counted down, from a number that no input uses up.
 fn main(rt: HostRuntime) {
-    let mut rounds: u64 = 4294967296;
-    while rounds > 0 && round(&rt) {
-        rounds -= 1;
-    }
+    rounds(1 << 32, || round(&rt));
 }

@@ -1,52 +1,43 @@
 // The lines of frames that read: `R q`, or `=` and the fields.
-use crate::line::{Line, begin, put_number};
-use checkpoint_record::ReadCheckpoint;
-use event_record::ReadEvent;
-use message_record::ReadTelegram;
-use model::{BallotMessage, Message, Telegram};
+use crate::line::Line;
+use model::{BallotMessage, Message, Telegram, answer_number};
 
 fn refused(q: u8) -> Line {
-    put_number(begin(b'R'), q as u32)
+    Line::new(b'R').number(u32::from(q))
 }
 
 // What every telegram has. The kind is its number.
 fn head_line(kind: u8, n: u8, f: u8, from: u8, to: u8, order: u32) -> Line {
-    let mut line = begin(b'=');
-    line = put_number(line, kind as u32);
-    line = put_number(line, n as u32);
-    line = put_number(line, f as u32);
-    line = put_number(line, from as u32);
-    line = put_number(line, to as u32);
-    put_number(line, order)
+    Line::new(b'=')
+        .number(u32::from(kind))
+        .number(u32::from(n))
+        .number(u32::from(f))
+        .number(u32::from(from))
+        .number(u32::from(to))
+        .number(order)
 }
 
 fn message_line(m: Message) -> Line {
     let kind = m.kind;
     let set = m.votes;
-    let line = head_line(model::kind_number(kind), m.n, m.f, m.from, m.to, m.order);
-    put_number(put_number(line, set.known), set.willing)
+    let line = head_line(u8::from(kind), m.n, m.f, m.from, m.to, m.order);
+    line.number(set.known).number(set.willing)
 }
 
 // The four bytes more of a ballot, but the last.
 fn put_more(line: Line, ballot: u8, last: u8, word: u8) -> Line {
-    let next = put_number(put_number(line, ballot as u32), last as u32);
-    put_number(next, word as u32)
+    line.number(u32::from(ballot))
+        .number(u32::from(last))
+        .number(u32::from(word))
 }
 
 fn ballot_line(b: BallotMessage) -> Line {
     let kind = b.kind;
     let set = b.votes;
     let word = b.word;
-    let line = head_line(
-        model::ballot_kind_number(kind),
-        b.n,
-        b.f,
-        b.from,
-        b.to,
-        b.order,
-    );
-    let next = put_number(put_number(line, set.known), set.willing);
-    put_more(next, b.ballot, b.last, model::outcome_number(word))
+    let line = head_line(u8::from(kind), b.n, b.f, b.from, b.to, b.order);
+    let next = line.number(set.known).number(set.willing);
+    put_more(next, b.ballot, b.last, u8::from(word))
 }
 
 fn fields_line(t: Telegram) -> Line {
@@ -58,39 +49,39 @@ fn fields_line(t: Telegram) -> Line {
 
 fn telegram_line(s: &[u8]) -> Line {
     let read = message_bytes::read_telegram(s);
-    let ReadTelegram::Read(t) = read else {
-        return refused(message_record::answer_of(read));
+    let Ok(t) = read else {
+        return refused(answer_number(read));
     };
     fields_line(t)
 }
 
 fn checkpoint_line(s: &[u8]) -> Line {
     let read = checkpoint_record::read_checkpoint(s);
-    let ReadCheckpoint::Read(p) = read else {
-        return refused(checkpoint_record::answer_of(read));
+    let Ok(p) = read else {
+        return refused(answer_number(read));
     };
     let outcome = p.outcome;
-    let mut line = begin(b'=');
-    line = put_number(line, p.id as u32);
-    line = put_number(line, p.n as u32);
-    line = put_number(line, p.f as u32);
-    line = put_number(line, model::outcome_number(outcome) as u32);
-    line = put_number(line, p.order);
-    put_number(line, p.position)
+    Line::new(b'=')
+        .number(u32::from(p.id))
+        .number(u32::from(p.n))
+        .number(u32::from(p.f))
+        .number(u32::from(u8::from(outcome)))
+        .number(p.order)
+        .number(p.position)
 }
 
 fn event_line(s: &[u8]) -> Line {
     let read = event_record::read_event(s);
-    let ReadEvent::Read(act) = read else {
-        return refused(event_record::answer_of(read));
+    let Ok(act) = read else {
+        return refused(answer_number(read));
     };
     let x = event_record::fields_of(act);
-    let mut line = begin(b'=');
-    line = put_number(line, x.kind as u32);
-    line = put_number(line, x.a as u32);
-    line = put_number(line, x.b as u32);
-    line = put_number(line, x.c as u32);
-    put_number(line, x.value)
+    Line::new(b'=')
+        .number(u32::from(x.kind))
+        .number(u32::from(x.a))
+        .number(u32::from(x.b))
+        .number(u32::from(x.c))
+        .number(x.value)
 }
 
 pub(crate) fn line_of(what: u8, s: &[u8]) -> Line {

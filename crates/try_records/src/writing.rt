@@ -1,34 +1,33 @@
 // The lines of frames that write: `W q` and the whole buffer afterwards, in hexadecimal.
 ghost use Rattle.std.specs.Prelude.{◌≡◌, length};
 
-use crate::line::{Line, begin, put, put_hex, put_number};
-use event_record::ReadEvent;
-use model::{BallotMessage, Checkpoint, Message, Telegram};
+use crate::line::Line;
+use model::{
+    BallotKind, BallotMessage, Checkpoint, Kind, Message, Outcome, Telegram, answer_number,
+};
 use records::number4;
 use votes::VoteSet;
 
 // A frame whose kind, outcome or fields are no listed values: there is nothing to write.
 pub(crate) fn unlisted() -> Line {
-    begin(b'?')
+    Line::new(b'?')
 }
 
 fn written(q: u8, out: &[u8]) -> Line {
-    let mut line = put(put_number(begin(b'W'), q as u32), b' ');
-    let mut i = 0;
-    while i < out.len() {
-        line = put_hex(line, out[i]);
-        i += 1;
+    let mut line = Line::new(b'W').number(u32::from(q)).byte(b' ');
+    for b in out {
+        line = line.hex(*b);
     }
     line
 }
 
 fn telegram_line(t: Telegram, out: &mut [u8]) -> Line {
-    let q = message_bytes::write_telegram(out, t);
+    let q = answer_number(message_bytes::write_telegram(out, t));
     written(q, out)
 }
 
 // Kinds 1 to 4 have no ballot, last and word.
-fn message_line(x: &[u8], out: &mut [u8]) -> Line
+fn message_line(kind: Kind, x: &[u8], out: &mut [u8]) -> Line
     requires { length x.now ≡ 38 }
 {
     if number4(x, 17) / 256 != 0 {
@@ -39,7 +38,7 @@ fn message_line(x: &[u8], out: &mut [u8]) -> Line
         willing: number4(x, 13),
     };
     let m = Message {
-        kind: records::kind_of(x[0]),
+        kind,
         n: x[1],
         f: x[2],
         from: x[3],
@@ -51,7 +50,7 @@ fn message_line(x: &[u8], out: &mut [u8]) -> Line
 }
 
 // Kinds 5 to 8 have an empty vote set.
-fn ballot_line(x: &[u8], out: &mut [u8]) -> Line
+fn ballot_line(kind: BallotKind, x: &[u8], out: &mut [u8]) -> Line
     requires { length x.now ≡ 38 }
 {
     let votes = VoteSet {
@@ -64,11 +63,11 @@ fn ballot_line(x: &[u8], out: &mut [u8]) -> Line
     if votes.willing != 0 {
         return unlisted();
     }
-    if !records::is_outcome(x[19]) {
+    let Ok(word) = Outcome::try_from(x[19]) else {
         return unlisted();
-    }
+    };
     let b = BallotMessage {
-        kind: records::ballot_kind_of(x[0]),
+        kind,
         n: x[1],
         f: x[2],
         from: x[3],
@@ -77,7 +76,7 @@ fn ballot_line(x: &[u8], out: &mut [u8]) -> Line
         votes,
         ballot: x[17],
         last: x[18],
-        word: records::outcome_of(x[19]),
+        word,
     };
     telegram_line(Telegram::OfBallot(b), out)
 }
@@ -85,11 +84,11 @@ fn ballot_line(x: &[u8], out: &mut [u8]) -> Line
 fn of_kind(x: &[u8], out: &mut [u8]) -> Line
     requires { length x.now ≡ 38 }
 {
-    if records::is_kind(x[0]) {
-        return message_line(x, out);
+    if let Ok(kind) = Kind::try_from(x[0]) {
+        return message_line(kind, x, out);
     }
-    if records::is_ballot_kind(x[0]) {
-        return ballot_line(x, out);
+    if let Ok(kind) = BallotKind::try_from(x[0]) {
+        return ballot_line(kind, x, out);
     }
     unlisted()
 }
@@ -97,18 +96,18 @@ fn of_kind(x: &[u8], out: &mut [u8]) -> Line
 fn checkpoint_line(x: &[u8], out: &mut [u8]) -> Line
     requires { length x.now ≡ 38 }
 {
-    if !records::is_outcome(x[3]) {
+    let Ok(outcome) = Outcome::try_from(x[3]) else {
         return unlisted();
-    }
+    };
     let p = Checkpoint {
         id: x[0],
         n: x[1],
         f: x[2],
-        outcome: records::outcome_of(x[3]),
+        outcome,
         order: number4(x, 4),
         position: number4(x, 8),
     };
-    let q = checkpoint_record::write_checkpoint(out, p);
+    let q = answer_number(checkpoint_record::write_checkpoint(out, p));
     written(q, out)
 }
 
@@ -117,10 +116,10 @@ fn event_line(x: &[u8], out: &mut [u8]) -> Line
     requires { length x.now ≡ 38 }
 {
     let record = [0x4Cu8, 0x45, x[0], x[1], x[2], x[3], x[4], x[5], x[6], x[7]];
-    let ReadEvent::Read(act) = event_record::read_event(&record) else {
+    let Ok(act) = event_record::read_event(&record) else {
         return unlisted();
     };
-    let q = event_record::write_event(out, act);
+    let q = answer_number(event_record::write_event(out, act));
     written(q, out)
 }
 

@@ -10,21 +10,20 @@ use bench_report::{
 use bench_ring::{PLACES, Ring, place_before, ring_after};
 use bench_state::new_bench;
 use bench_summary::summary_of;
-use event_record::ReadEvent;
-use model::Event;
+use model::{Act, Event, Refusal};
 use protocol::Bench;
 use schedule_reader::record_at;
 use streams::{read_input, write_output};
 
 // One record played; one that reading refuses leaves the bench as it is, and what is remembered.
-fn played(b: Bench, remembers: bool, newest: Bench, r: ReadEvent) -> Acted {
+fn played(b: Bench, remembers: bool, newest: Bench, r: Result<Act, Refusal>) -> Acted {
     match r {
-        ReadEvent::Refused(answer) => Acted {
-            answer,
+        Ok(a) => act(b, remembers, newest, a),
+        Err(q) => Acted {
+            answer: u8::from(q),
             bench: b,
             recall: Recall::Same,
         },
-        ReadEvent::Read(a) => act(b, remembers, newest, a),
     }
 }
 
@@ -55,15 +54,14 @@ fn render(s: &[u8], out: &mut [u8]) -> usize
     write_report(&mut *out, &answers[..k], summary_of(b.shared, stations))
 }
 
+// stays (no plainer): `streams::print_rendered` asks which text is rendered, and `render`, which is compared and not proved, has no definition of it
 fn main(rt: HostRuntime) {
     // one byte more than a schedule may have, so that a longer one is known by it
     let mut input = [0u8; LONGEST_SCHEDULE + 1];
-    let got = read_input(&rt, &mut input);
-    if got.failed {
+    let Ok(n) = read_input(&rt, &mut input) else {
         return;
-    }
-    let n = got.count;
+    };
     let mut text = [0u8; LONGEST_OUTPUT];
     let length = render(&input[..n], &mut text);
-    write_output(&rt, &text[..length]);
+    let _ = write_output(&rt, &text[..length]);
 }

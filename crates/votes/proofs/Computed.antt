@@ -12,15 +12,17 @@ use Rattle.votes.specs.VoteSets.{empty}
 use Rattle.votes.specs.Joining.{join, join_all}
 use Rattle.votes.proofs.JoinLaws.{join-past, join_absorbs}
 use Rattle.votes.specs.declared.VoteSet.{VoteSet}
-use Rattle.votes.specs.declared.Joined.{Joined}
-use Rattle.votes.specs.declared.Joined.TheVariants.{Agreed, Contradiction}
+use Rattle.votes.specs.Joining.{Joined}
+use Rattle.std.specs.Prelude.{Ok, Err}
+use Rattle.votes.specs.declared.JoinError.{JoinError}
+use Rattle.votes.specs.declared.JoinError.TheVariants.{Contradiction}
 
 -- one sender more: left out, or joined
 pub skipped : (k from : ℕ) (l : List VoteSet) (j : Joined) → has from (k + 1) ≡ false → join_all k from l ≡ j → join_all (k + 1) from l ≡ j
 unfolding join_all
 skipped k from l j e q = let z : k + 1 ≡ suc k = omega arith in rw (z, rw z at e) q
 
-pub added : (k from : ℕ) (l : List VoteSet) (w : VoteSet) (j : Joined) → has from (k + 1) ≡ true → join_all k from l ≡ Agreed w → j ≡ join w (nth empty l (suc k)) → join_all (k + 1) from l ≡ j
+pub added : (k from : ℕ) (l : List VoteSet) (w : VoteSet) (j : Joined) → has from (k + 1) ≡ true → join_all k from l ≡ Ok w → j ≡ join w (nth empty l (suc k)) → join_all (k + 1) from l ≡ j
 unfolding join_all
 added k from l w j e q r = let z : k + 1 ≡ suc k = omega arith in rw (z, rw z at e, q) (sym r)
 
@@ -32,7 +34,7 @@ joined-all m n from l e = elim (dec_le m n) [
 ]
 
 -- a contradiction among the first k of them is one among all
-pub contradicted-all : (k m n from : ℕ) (l : List VoteSet) → length l ≡ n → k ≤ min m n → join_all k from l ≡ Contradiction → join_all m from l ≡ Contradiction
-contradicted-all k m n from l e h q =
+pub contradicted-all : (k m n from : ℕ) (l : List VoteSet) (e : JoinError) → length l ≡ n → k ≤ min m n → join_all k from l ≡ Err e → join_all m from l ≡ Err e
+contradicted-all k m n from l Contradiction e h q =
     let z : min m n ≡ (min m n - k) + k = omega arith in
     sym (joined-all m n from l e) ∙ (ap (λ (x : ℕ). join_all x from l) z ∙ join_absorbs (min m n - k) k from l q)

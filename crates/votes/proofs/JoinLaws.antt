@@ -21,8 +21,9 @@ use Rattle.votes.specs.Joining.{disputed, contradicts, join, agreed_or, join_nex
 use Rattle.votes.specs.Tallies.{union_list, sets_of}
 use Rattle.votes.specs.Contradictions.{WellFormed, AllWellFormed, Differ}
 use Rattle.votes.specs.declared.VoteSet.{VoteSet}
-use Rattle.votes.specs.declared.Joined.{Joined}
-use Rattle.votes.specs.declared.Joined.TheVariants.{Agreed, Contradiction}
+use Rattle.votes.specs.Joining.{Joined}
+use Rattle.std.specs.Prelude.{Ok, Err}
+use Rattle.votes.specs.declared.JoinError.TheVariants.{Contradiction}
 
 -- the element -------------------------------------------------------------------------
 
@@ -98,11 +99,11 @@ module _ (s t : VoteSet) where
   contradicts_swap = rw (and_comm s.known t.known, xor_comm s.willing t.willing)
 
   -- where two vote sets agree, their join is the union
-  pub join-agreed : contradicts s t ≡ false → join s t ≡ Agreed (union s t)
+  pub join-agreed : contradicts s t ≡ false → join s t ≡ Ok (union s t)
   unfolding join
   join-agreed e = rw e
 
-  pub join-refused : contradicts s t ≡ true → join s t ≡ Contradiction
+  pub join-refused : contradicts s t ≡ true → join s t ≡ Err Contradiction
   unfolding join
   join-refused e = rw e
 
@@ -121,7 +122,7 @@ module _ (s t : VoteSet) where
 pub empty-agrees : (s : VoteSet) → contradicts empty s ≡ false
 empty-agrees s = at_agree empty s (λ k p q. none_has k p)
 
-agreed-is : (s t : VoteSet) → Agreed s ≡ Agreed t → s ≡ t
+agreed-is : (s t : VoteSet) → ◌≡◌ {A = Joined} (Ok s) (Ok t) → s ≡ t
 agreed-is s t e = cc
 
 -- the whole ---------------------------------------------------------------------------
@@ -171,19 +172,19 @@ union-contradicts s t u a b e = same_test (contradicts (union s t) u) (contradic
       ]
     ]
 
-pub monotone : (s t u w : VoteSet) → WellFormed s → WellFormed t → join s t ≡ Agreed w → contradicts w u ≡ (contradicts s u || contradicts t u)
+pub monotone : (s t u w : VoteSet) → WellFormed s → WellFormed t → join s t ≡ Ok w → contradicts w u ≡ (contradicts s u || contradicts t u)
 monotone s t u w a b e = elim (split (contradicts s t)) [
   | inl x ↦ absurd (never (sym (join-refused s t x) ∙ e))
   | inr x ↦ ap (λ (y : VoteSet). contradicts y u) (sym (agreed-is (union s t) w (sym (join-agreed s t x) ∙ e))) ∙ union-contradicts s t u a b x
 ]
   where
-    never : Contradiction ≡ Agreed w → ⊥
+    never : (Err Contradiction) ≡ Ok w → ⊥
     never z = let y : ◌≡◌ {A = ℕ} 0 1 = cc in omega arith
 
 -- lists -------------------------------------------------------------------------------
 
 -- a contradiction stays one
-from_contradiction : (sets : List VoteSet) → join_from Contradiction sets ≡ Contradiction
+from_contradiction : (sets : List VoteSet) → join_from (Err Contradiction) sets ≡ Err Contradiction
 unfolding join_from
 from_contradiction [] = refl
 from_contradiction (s ∷ sets) = from_contradiction sets
@@ -207,16 +208,16 @@ empty-agrees-all (s ∷ sets) = rw (empty-agrees s, empty-agrees-all sets)
 
 -- from any vote set on, the join is there exactly when the vote set and the rest agree pairwise
 from-any : (w : VoteSet) (sets : List VoteSet) → WellFormed w → AllWellFormed sets
-    → join_from (Agreed w) sets ≡ cond (agrees_with w sets && pairwise sets) (Agreed (union w (union_list sets))) Contradiction
+    → join_from (Ok w) sets ≡ cond (agrees_with w sets && pairwise sets) (Ok (union w (union_list sets))) (Err Contradiction)
 unfolding join_from agrees_with pairwise union_list
-from-any w [] a b = ap Agreed (sym (union-empty w))
+from-any w [] a b = ap Ok (sym (union-empty w))
 from-any w (s ∷ sets) a b = elim (split (contradicts w s)) [
   | inl e ↦ rw (join-refused w s e, e) (from_contradiction sets)
   | inr e ↦ rw (join-agreed w s e, e)
       (from-any (union w s) sets (union-within w s a b.0) b.1 ∙ rw (union-agrees w s a b.0 e sets, union_assoc w s (union_list sets), and_assoc (agrees_with w sets) (agrees_with s sets) (pairwise sets)))
 ]
 
-pub list-is : (sets : List VoteSet) → AllWellFormed sets → join_list sets ≡ cond (pairwise sets) (Agreed (union_list sets)) Contradiction
+pub list-is : (sets : List VoteSet) → AllWellFormed sets → join_list sets ≡ cond (pairwise sets) (Ok (union_list sets)) (Err Contradiction)
 list-is sets a = from-any empty sets (unfold within in refl) a ∙ rw (empty-agrees-all sets, union_comm empty (union_list sets), union-empty (union_list sets))
 
 -- senders -----------------------------------------------------------------------------
@@ -231,7 +232,7 @@ pub senders-list : (m from : ℕ) (l : List VoteSet) → join_list (sets_of m fr
 unfolding sets_of join_all join_from
 senders-list zero from l = refl
 senders-list (suc m) from l =
-    from-append (Agreed empty) (sets_of m from l) (cond (has from (suc m)) (nth empty l (suc m) ∷ []) []) ∙ rw (senders-list m from l) (last (has from (suc m)))
+    from-append (Ok empty) (sets_of m from l) (cond (has from (suc m)) (nth empty l (suc m) ∷ []) []) ∙ rw (senders-list m from l) (last (has from (suc m)))
   where
     last : (b : Bool) → join_from (join_all m from l) (cond b (nth empty l (suc m) ∷ []) []) ≡ cond b (join_next (join_all m from l) (nth empty l (suc m))) (join_all m from l)
     last true = refl
@@ -239,8 +240,8 @@ senders-list (suc m) from l =
 
 -- a vote set that knows nobody adds nothing
 next-empty : (j : Joined) → join_next j empty ≡ j
-next-empty (Agreed s) = join-agreed s empty (contradicts_swap s empty ∙ empty-agrees s) ∙ ap Agreed (union-empty s)
-next-empty Contradiction = refl
+next-empty (Ok s) = join-agreed s empty (contradicts_swap s empty ∙ empty-agrees s) ∙ ap Ok (union-empty s)
+next-empty (Err Contradiction) = refl
 
 further : (d n from : ℕ) (l : List VoteSet) → length l ≤ n → join_all (d + n) from l ≡ join_all n from l
 unfolding join_all
@@ -256,11 +257,11 @@ pub join-past : (m n from : ℕ) (l : List VoteSet) → length l ≤ n → n ≤
 join-past m n from l h k = let e : m ≡ (m - n) + n = omega arith in ap (λ (x : ℕ). join_all x from l) e ∙ further (m - n) n from l h
 
 -- a contradiction among the first senders is one among all
-pub join_absorbs : (d m from : ℕ) (l : List VoteSet) → join_all m from l ≡ Contradiction → join_all (d + m) from l ≡ Contradiction
+pub join_absorbs : (d m from : ℕ) (l : List VoteSet) → join_all m from l ≡ Err Contradiction → join_all (d + m) from l ≡ Err Contradiction
 unfolding join_all
 join_absorbs zero m from l e = rw zero-add e
 join_absorbs (suc d) m from l e =
-    rw (suc-add, join_absorbs d m from l e) (by_cond (λ (j : Joined). j ≡ Contradiction) (has from (suc (d + m))) Contradiction Contradiction (λ _. refl) (λ _. refl))
+    rw (suc-add, join_absorbs d m from l e) (by_cond (λ (j : Joined). j ≡ (Err Contradiction)) (has from (suc (d + m))) (Err Contradiction) (Err Contradiction) (λ _. refl) (λ _. refl))
 
 list-append : (a b : List VoteSet) → union_list (a ++ b) ≡ union (union_list a) (union_list b)
 unfolding union_list
@@ -277,8 +278,8 @@ senders-union (suc m) from l =
     last true = ap (union (union_all m from l)) (union-empty (nth empty l (suc m)))
     last false = union-empty (union_all m from l)
 
-pub senders_are : (m from : ℕ) (l : List VoteSet) → AllWellFormed (sets_of m from l) → join_all m from l ≡ cond (pairwise (sets_of m from l)) (Agreed (union_all m from l)) Contradiction
-senders_are m from l a = sym (senders-list m from l) ∙ list-is (sets_of m from l) a ∙ ap (λ (s : VoteSet). cond (pairwise (sets_of m from l)) (Agreed s) Contradiction) (senders-union m from l)
+pub senders_are : (m from : ℕ) (l : List VoteSet) → AllWellFormed (sets_of m from l) → join_all m from l ≡ cond (pairwise (sets_of m from l)) (Ok (union_all m from l)) (Err Contradiction)
+senders_are m from l a = sym (senders-list m from l) ∙ list-is (sets_of m from l) a ∙ ap (λ (s : VoteSet). cond (pairwise (sets_of m from l)) (Ok s) (Err Contradiction)) (senders-union m from l)
 
 -- Vote sets of which a fact is known that joins keep, and by which two of them agree: their join is there, and is the union.
 module _ (P : VoteSet → Type 0) (none : P empty) (both : (s t : VoteSet) → P s → P t → P (union s t)) (agree : (s t : VoteSet) → P s → P t → contradicts s t ≡ false) where
@@ -287,7 +288,7 @@ module _ (P : VoteSet → Type 0) (none : P empty) (both : (s t : VoteSet) → P
   all_fact zero from l h = none
   all_fact (suc m) from l h = by_cond P (has from (suc m)) _ _ (λ e. both _ _ (all_fact m from l h) (h (suc m) e)) (λ e. all_fact m from l h)
 
-  pub all-agreed : (m from : ℕ) (l : List VoteSet) → ((j : ℕ) → has from j ≡ true → P (nth empty l j)) → join_all m from l ≡ Agreed (union_all m from l)
+  pub all-agreed : (m from : ℕ) (l : List VoteSet) → ((j : ℕ) → has from j ≡ true → P (nth empty l j)) → join_all m from l ≡ Ok (union_all m from l)
   unfolding join_all union_all
   all-agreed zero from l h = refl
   all-agreed (suc m) from l h = elim (split (has from (suc m))) [

@@ -19,8 +19,9 @@ use Rattle.votes.specs.Tallies.{sets_of}
 use Rattle.votes.specs.Contradictions.{AllWellFormed, Contradictions}
 use Rattle.votes.proofs.JoinLaws.{at_agree, contradict-differ, differ-contradicts, contradicts_swap, join-refused, join-agreed, join_swap, monotone, list-is, senders_are}
 use Rattle.votes.specs.declared.VoteSet.{VoteSet}
-use Rattle.votes.specs.declared.Joined.{Joined}
-use Rattle.votes.specs.declared.Joined.TheVariants.{Agreed, Contradiction}
+use Rattle.votes.specs.Joining.{Joined}
+use Rattle.std.specs.Prelude.{Ok, Err}
+use Rattle.votes.specs.declared.JoinError.TheVariants.{Contradiction}
 
 abbrev In : VoteSet → List VoteSet → Type 0
 In s [] = ⊥
@@ -105,16 +106,16 @@ only-members m from l m' from' l' a a' f g = senders_are m from l a ∙ same ∙
     over : (m from : ℕ) (l : List VoteSet) (m' from' : ℕ) (l' : List VoteSet) → ((s : VoteSet) → Among m' from' l' s → Among m from l s) → pairwise (sets_of m from l) ≡ true → pairwise (sets_of m' from' l') ≡ true
     over m from l m' from' l' g e = in_pair (sets_of m' from' l') (λ s t i j. pair_in (sets_of m from l) e s t (senders_in from l s m (g s (in_senders from' l' s m' i))) (senders_in from l t m (g t (in_senders from' l' t m' j))))
 
-    same : cond (pairwise (sets_of m from l)) (Agreed (union_all m from l)) Contradiction ≡ cond (pairwise (sets_of m' from' l')) (Agreed (union_all m' from' l')) Contradiction
-    same = ap (λ (b : Bool). cond b (Agreed (union_all m from l)) Contradiction) (same_test _ _ (over m from l m' from' l' g) (over m' from' l' m from l f))
-        ∙ ap (λ (u : VoteSet). cond (pairwise (sets_of m' from' l')) (Agreed u) Contradiction) (all_same m from l m' from' l' f g)
+    same : cond (pairwise (sets_of m from l)) (Ok (union_all m from l)) (Err Contradiction) ≡ cond (pairwise (sets_of m' from' l')) (Ok (union_all m' from' l')) (Err Contradiction)
+    same = ap (λ (b : Bool). cond b (Ok (union_all m from l)) (Err Contradiction)) (same_test _ _ (over m from l m' from' l' g) (over m' from' l' m from l f))
+        ∙ ap (λ (u : VoteSet). cond (pairwise (sets_of m' from' l')) (Ok u) (Err Contradiction)) (all_same m from l m' from' l' f g)
 
 -- a join in the papers' terms
-number_of : (b : Bool) (s : VoteSet) → joined_number (cond b (Agreed s) Contradiction) ≡ cond b 0 24
+number_of : (b : Bool) (s : VoteSet) → joined_number (cond b (Ok s) (Err Contradiction)) ≡ cond b 0 24
 number_of true s = refl
 number_of false s = refl
 
-values_of : (b : Bool) (s : VoteSet) → joined_values (cond b (Agreed s) Contradiction) ≡ cond b (s ∷ []) []
+values_of : (b : Bool) (s : VoteSet) → joined_values (cond b (Ok s) (Err Contradiction)) ≡ cond b (s ∷ []) []
 values_of true s = refl
 values_of false s = refl
 

@@ -6,7 +6,8 @@ use Rattle.votes.specs.VoteSets.{knows, wills, union, union_all, Among}
 use Rattle.votes.specs.Tallies.{union_list, sets_of}
 use Rattle.votes.specs.Joining.{contradicts, join, joined_number, joined_values, join_list, join_all, pairwise}
 use Rattle.votes.specs.declared.VoteSet.{VoteSet}
-use Rattle.votes.specs.declared.Joined.TheVariants.{Agreed, Contradiction}
+use Rattle.std.specs.Prelude.{Ok, Err}
+use Rattle.votes.specs.declared.JoinError.TheVariants.{Contradiction}
 
 -- "A *sheet* has two sets of controllers: known, and willing (within known)"; and each of a list is one
 abbrev pub WellFormed : VoteSet → Type 0
@@ -33,11 +34,11 @@ pub record Contradictions : Type 0 where
   pub refused : (s t : VoteSet) → contradicts s t ≡ true → (joined_number (join s t) ≡ 24) × (joined_values (join s t) ≡ [])
   pub agreed : (s t : VoteSet) → contradicts s t ≡ false → (joined_number (join s t) ≡ 0) × (joined_values (join s t) ≡ (union s t ∷ []))
   -- what contradicts a part contradicts the whole, and nothing else does
-  pub monotone : (s t u w : VoteSet) → WellFormed s → WellFormed t → join s t ≡ Agreed w → contradicts w u ≡ (contradicts s u || contradicts t u)
+  pub monotone : (s t u w : VoteSet) → WellFormed s → WellFormed t → join s t ≡ Ok w → contradicts w u ≡ (contradicts s u || contradicts t u)
   -- the join of a list, and that of the vote sets of any set of senders of 1..m, is there exactly when its members agree pairwise
-  pub any-list : (sets : List VoteSet) → AllWellFormed sets → join_list sets ≡ cond (pairwise sets) (Agreed (union_list sets)) Contradiction
+  pub any-list : (sets : List VoteSet) → AllWellFormed sets → join_list sets ≡ cond (pairwise sets) (Ok (union_list sets)) (Err Contradiction)
   pub any_senders : (m from : ℕ) (l : List VoteSet) → AllWellFormed (sets_of m from l)
-      → join_all m from l ≡ cond (pairwise (sets_of m from l)) (Agreed (union_all m from l)) Contradiction
+      → join_all m from l ≡ cond (pairwise (sets_of m from l)) (Ok (union_all m from l)) (Err Contradiction)
   -- in the papers' terms: 0 and the union, or 24 and none
   pub numbers : (m from : ℕ) (l : List VoteSet) → AllWellFormed (sets_of m from l) → joined_number (join_all m from l) ≡ cond (pairwise (sets_of m from l)) 0 24
   pub values : (m from : ℕ) (l : List VoteSet) → AllWellFormed (sets_of m from l) → joined_values (join_all m from l) ≡ cond (pairwise (sets_of m from l)) (union_all m from l ∷ []) []

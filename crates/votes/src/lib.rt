@@ -13,32 +13,24 @@ mod tallies;
 pub use tallies::{one_pass, tallied_with, tallied_word, tally_all};
 
 // A vote set: the controllers whose vote is known, and those of them known to be willing. Bit k - 1 is controller k.
-#[derive(Clone, Copy)]
+#[derive(Clone, Copy, Debug, PartialEq, Eq)]
 pub struct VoteSet {
     pub known: u32,
     pub willing: u32,
 }
 
-// What joining answers (document 02, U7): the join, or that the vote sets contradict each other.
-#[derive(Clone, Copy)]
-pub enum Joined {
-    Agreed(VoteSet),
+// Why vote sets have no join (document 02, U7): they contradict each other.
+#[derive(Clone, Copy, Debug, PartialEq, Eq)]
+pub enum JoinError {
     Contradiction,
 }
 
 // What one pass over vote sets that agree gives: their join, whether it is complete, and whether it is unanimous.
-#[derive(Clone, Copy)]
+#[derive(Clone, Copy, Debug, PartialEq, Eq)]
 pub struct Tally {
     pub votes: VoteSet,
     pub complete: bool,
     pub unanimous: bool,
-}
-
-// What one pass over vote sets answers: that, or that the vote sets contradict each other.
-#[derive(Clone, Copy)]
-pub enum Tallied {
-    Counted(Tally),
-    Contradicting,
 }
 
 // The vote set that knows nobody.
@@ -56,13 +48,10 @@ pub fn single(k: u8, willing: bool) -> VoteSet
     ensures { result ≡ single k willing }
 {
     let known = insert(0, k);
-    if willing {
-        return VoteSet {
-            known,
-            willing: known,
-        };
+    VoteSet {
+        known,
+        willing: if willing { known } else { 0 },
     }
-    VoteSet { known, willing: 0 }
 }
 
 // Is a controller that both vote sets know willing in just one of them?
@@ -73,26 +62,23 @@ pub fn contradicts(s: VoteSet, t: VoteSet) -> bool
 }
 
 // What either of two vote sets knows; or that they contradict each other.
-pub fn join(s: VoteSet, t: VoteSet) -> Joined
+pub fn join(s: VoteSet, t: VoteSet) -> Result<VoteSet, JoinError>
     ensures { result ≡ join s t }
 {
     if contradicts(s, t) {
-        return Joined::Contradiction;
+        return Err(JoinError::Contradiction);
     }
-    Joined::Agreed(VoteSet {
+    Ok(VoteSet {
         known: s.known | t.known,
         willing: s.willing | t.willing,
     })
 }
 
 // The join, or another vote set where there is none.
-pub fn agreed_or(other: VoteSet, joined: Joined) -> VoteSet
+pub fn agreed_or(other: VoteSet, joined: Result<VoteSet, JoinError>) -> VoteSet
     ensures { result ≡ agreed_or other joined }
 {
-    match joined {
-        Joined::Agreed(s) => s,
-        Joined::Contradiction => other,
-    }
+    joined.unwrap_or(other)
 }
 
 // Is the vote of each of 1..n known? (document 01: the sheet is full)
@@ -106,32 +92,20 @@ pub fn complete(s: VoteSet, n: u8) -> bool
 pub fn unanimous(s: VoteSet, n: u8) -> bool
     ensures { result ≡ unanimous n s }
 {
-    if full_to(s.known, n) {
-        return full_to(s.willing, n);
-    }
-    false
+    full_to(s.known, n) && full_to(s.willing, n)
 }
 
 // The join of the vote sets of those senders of 1..m that are in a set, or that two of them contradict each other. Only as many as the limit have a vote set.
-pub(crate) fn join_all(m: u8, from: u32, sets: [VoteSet; LIMIT]) -> Joined
+pub(crate) fn join_all(m: u8, from: u32, sets: [VoteSet; LIMIT]) -> Result<VoteSet, JoinError>
     ensures { result ≡ join_all m from sets }
 {
     let mut joined = empty_set();
-    let end = up_to_limit(m);
-    let mut k: u8 = 0;
-    while k < end {
-        let at = k as usize;
-        let s = sets[at];
-        k += 1;
-        if !has(from, k) {
-            continue;
+    for k in 0..up_to_limit(m) {
+        if has(from, k + 1) {
+            joined = join(joined, sets[k as usize])?;
         }
-        let Joined::Agreed(next) = join(joined, s) else {
-            return Joined::Contradiction;
-        };
-        joined = next;
     }
-    Joined::Agreed(joined)
+    Ok(joined)
 }
 
 // When two vote sets contradict each other; and that the join of any list of vote sets is there exactly when they agree pairwise, as a contract.

@@ -3,7 +3,7 @@ use Rattle.std.specs.Prelude.{ℕ, zero, suc, ◌+◌, ◌-◌, ◌≤◌, ◌<�
 use Rattle.std.proofs.Common.{sym, ◌∙◌, ap, add-zero, add-one, arith, le-leb, le-ltb, lt-ltb, length-drop, drop-drop, take_all, get_or-drop}
 use Rattle.std.proofs.Math.Decide.{dec_lt}
 use Rattle.std.proofs.lemmas.Bool.{lt-leb}
-use Rattle.words.specs.Words.{run, lines_of, end_of_run, part, span, line_at, nth_line}
+use Rattle.words.specs.Words.{run, lines_of, end_of_run, part, span, line_at, line_span, nth_line}
 use Rattle.words.specs.WordLaws.{run_short, all_one, one_then, after_none, after_one, part_none}
 use Rattle.words.specs.declared.Class.TheVariants.{Line}
 
@@ -52,12 +52,12 @@ unfolding line_at
 line_on s k = ap (line_at s) (sym (add-one k))
 
 module _ (s : List ℕ) (k : ℕ) where
-  pub line_nowhere : length s < line_at s k → span (length s) (length s) ≡ nth_line s k
-  unfolding nth_line
+  pub line_nowhere : length s < line_at s k → span (length s) (length s) ≡ line_span s k
+  unfolding line_span
   line_nowhere h = rw (lt-ltb (length s) (line_at s k) h)
 
-  pub line-here : line_at s k ≤ length s → span (line_at s k) (end_of_run Line s (line_at s k)) ≡ nth_line s k
-  unfolding nth_line
+  pub line-here : line_at s k ≤ length s → span (line_at s k) (end_of_run Line s (line_at s k)) ≡ line_span s k
+  unfolding line_span
   line-here h = rw (le-ltb (length s) (line_at s k) h)
 
 -- the lines after the first k
@@ -72,7 +72,7 @@ lines-past s (suc k) = elim (dec_lt (length s) (line_at s k)) [
 ]
 
 -- line k stands where it is said to
-pub nth-line : (s : List ℕ) (k : ℕ) → part s (nth_line s k) ≡ get_or (lines_of s) k []
+pub nth-line : (s : List ℕ) (k : ℕ) → part s (line_span s k) ≡ nth_line s k
 nth-line s k =
     let first : get_or (lines_from s (line_at s k)) 0 [] ≡ get_or (lines_of s) k [] =
     ap (λ (ls : List (List ℕ)). get_or ls 0 []) (lines-past s k) ∙ get_or-drop k (lines_of s) 0 [] ∙ ap (λ (j : ℕ). get_or (lines_of s) j []) (add-zero k) in

@@ -1,5 +1,5 @@
 -- Laws of numbers and names in words: digit by digit, name by name; and what is written is read back.
-use Rattle.std.specs.Prelude.{ℕ, zero, suc, ◌+◌, ◌*◌, ◌-◌, ◌/◌, ◌%◌, ◌^◌, ◌≤◌, ◌<◌, ◌≡◌, true, false, ◌&&◌, eqb, ltb, length, drop, get_or}
+use Rattle.std.specs.Prelude.{ℕ, zero, suc, ◌+◌, ◌*◌, ◌-◌, ◌/◌, ◌%◌, ◌^◌, ◌≤◌, ◌<◌, ◌≡◌, true, false, ◌&&◌, Option, Some, None, eqb, ltb, length, drop, get_or, bytes_eq}
 use Rattle.std.proofs.Math.Path.{refl}
 use Rattle.std.proofs.Common.{sym, ◌∙◌, ap, arith, drop_of_length-le, length-append, drop-cons}
 use mathlib.Core.List.{List, [], ◌∷◌, ◌++◌}
@@ -10,10 +10,7 @@ use Rattle.std.proofs.Math.Dec.{leb}
 use Rattle.ground.specs.Tests.{split, by_cond, and_l, and_r, and_i}
 use Rattle.text.specs.Text.{ascii, digit, digits, decimal, signed}
 use Rattle.text.specs.TextLaws.{read, read-decimal}
-use Rattle.words.specs.Words.{same}
 use Rattle.words.specs.Numbers.{is_digit, all_digits, number_in, negated, signed_in, number_among}
-use Rattle.words.specs.declared.Found.{Found}
-use Rattle.words.specs.declared.Found.TheVariants.{Value, Nothing}
 
 -- a byte that is no digit is below them or above
 pub below-digits : (b : ℕ) → b < 48 → is_digit b ≡ false
@@ -51,17 +48,17 @@ pub read-ended : (w : List ℕ) (i v : ℕ) → length w ≤ i → read v (drop 
 read-ended w i v h = rw (drop_of_length-le w h)
 
 module _ (most : ℕ) where
-  pub no_number : (w : List ℕ) → length w ≡ 0 → Nothing ≡ number_in most w
+  pub no_number : (w : List ℕ) → length w ≡ 0 → None ≡ number_in most w
   unfolding number_in
   no_number [] e = refl
   no_number (b ∷ w) e = absurd (omega arith)
 
-  pub not-digits : (w : List ℕ) → all_digits w ≡ false → Nothing ≡ number_in most w
+  pub not-digits : (w : List ℕ) → all_digits w ≡ false → None ≡ number_in most w
   unfolding number_in
   not-digits [] f = refl
   not-digits (b ∷ w) f = rw f
 
-  pub too-high : (w : List ℕ) → most < read 0 w → Nothing ≡ number_in most w
+  pub too-high : (w : List ℕ) → most < read 0 w → None ≡ number_in most w
   unfolding number_in
   too-high [] h = refl
   too-high (b ∷ w) h = elim (split (all_digits (b ∷ w))) [
@@ -69,25 +66,25 @@ module _ (most : ℕ) where
     | inr f ↦ rw f
   ]
 
-  pub a-number : (w : List ℕ) → 0 < length w → all_digits w ≡ true → read 0 w ≤ most → Value (read 0 w) ≡ number_in most w
+  pub a-number : (w : List ℕ) → 0 < length w → all_digits w ≡ true → read 0 w ≤ most → Some (read 0 w) ≡ number_in most w
   unfolding number_in
   a-number [] l t h = absurd (omega arith)
   a-number (b ∷ w) l t h = rw (t, le-leb (read 0 (b ∷ w)) most h)
 
   -- no number is above the highest
-  abbrev Within : Found → Type 0
-  Within (Value v) = v ≤ most
-  Within Nothing = Unit
+  abbrev Within : Option ℕ → Type 0
+  Within (Some v) = v ≤ most
+  Within None = Unit
 
   within : (w : List ℕ) → Within (number_in most w)
   unfolding number_in
   within [] = tt
   within (b ∷ w) =
-      by_cond Within (all_digits (b ∷ w) && leb (read 0 (b ∷ w)) most) (Value (read 0 (b ∷ w))) Nothing
+      by_cond Within (all_digits (b ∷ w) && leb (read 0 (b ∷ w)) most) (Some (read 0 (b ∷ w))) None
       (λ t. leb-true _ _ (and_r (all_digits (b ∷ w)) (leb (read 0 (b ∷ w)) most) t))
       (λ _. tt)
 
-  pub not-above : (w : List ℕ) (v : ℕ) → Value v ≡ number_in most w → v ≤ most
+  pub not-above : (w : List ℕ) (v : ℕ) → Some v ≡ number_in most w → v ≤ most
   not-above w v e = let h = within w in rw (← e) at h
 
 -- with a sign
@@ -101,21 +98,21 @@ unfolding signed_in
 a_sign [] l e = absurd (omega arith)
 a_sign (b ∷ w) l e = rw (eq-eqb b 45 e)
 
-pub no_signed : (w : List ℕ) → length w ≡ 0 → Nothing ≡ signed_in w
+pub no_signed : (w : List ℕ) → length w ≡ 0 → None ≡ signed_in w
 unfolding signed_in
 no_signed [] e = refl
 no_signed (b ∷ w) e = absurd (omega arith)
 
-abbrev In32 : Found → Type 0
-In32 (Value v) = v < 2 ^ 32
-In32 Nothing = Unit
+abbrev In32 : Option ℕ → Type 0
+In32 (Some v) = v < 2 ^ 32
+In32 None = Unit
 
 negated_in_32 : (most : ℕ) (w : List ℕ) → In32 (negated (number_in most w))
 negated_in_32 most w = go (number_in most w)
   where
-    go : (x : Found) → In32 (negated x)
-    go Nothing = tt
-    go (Value v) = by_cond (λ (y : ℕ). y < 2 ^ 32) (eqb v 0) 0 (2 ^ 32 - v) (λ _. omega arith) (λ f. below v f)
+    go : (x : Option ℕ) → In32 (negated x)
+    go None = tt
+    go (Some v) = by_cond (λ (y : ℕ). y < 2 ^ 32) (eqb v 0) 0 (2 ^ 32 - v) (λ _. omega arith) (λ f. below v f)
       where
         below : (v : ℕ) → eqb v 0 ≡ false → 2 ^ 32 - v < 2 ^ 32
         below zero f = let z : true ≡ false = f in absurd (true_no z)
@@ -132,43 +129,43 @@ in_32 (b ∷ w) =
     (λ _. negated_in_32 (2 ^ 31) w)
     (λ _. small (number_in (2 ^ 31 - 1) (b ∷ w)) (λ v e. not-above (2 ^ 31 - 1) (b ∷ w) v e))
   where
-    small : (x : Found) → ((v : ℕ) → Value v ≡ x → v ≤ 2 ^ 31 - 1) → In32 x
-    small Nothing h = tt
-    small (Value v) h = let q : v ≤ 2 ^ 31 - 1 = h v refl in omega arith
+    small : (x : Option ℕ) → ((v : ℕ) → Some v ≡ x → v ≤ 2 ^ 31 - 1) → In32 x
+    small None h = tt
+    small (Some v) h = let q : v ≤ 2 ^ 31 - 1 = h v refl in omega arith
 
-pub signed_in_32 : (w : List ℕ) (v : ℕ) → Value v ≡ signed_in w → v < 2 ^ 32
+pub signed_in_32 : (w : List ℕ) (v : ℕ) → Some v ≡ signed_in w → v < 2 ^ 32
 signed_in_32 w v e = let h = in_32 w in rw (← e) at h
 
 -- names, one by one
-pub named_here : (k : ℕ) (name w : List ℕ) (names : List (List ℕ)) → same name w ≡ true → number_among k (name ∷ names) w ≡ Value k
+pub named_here : (k : ℕ) (name w : List ℕ) (names : List (List ℕ)) → bytes_eq name w ≡ true → number_among k (name ∷ names) w ≡ Some k
 unfolding number_among
 named_here k name w names t = rw t
 
-pub named-later : (k : ℕ) (name w : List ℕ) (names : List (List ℕ)) → same name w ≡ false → number_among k (name ∷ names) w ≡ number_among (k + 1) names w
+pub named-later : (k : ℕ) (name w : List ℕ) (names : List (List ℕ)) → bytes_eq name w ≡ false → number_among k (name ∷ names) w ≡ number_among (k + 1) names w
 unfolding number_among
 named-later k name w names f = rw (f, add-one k)
 
-pub not_named : (k : ℕ) (w : List ℕ) → number_among k [] w ≡ Nothing
+pub not_named : (k : ℕ) (w : List ℕ) → number_among k [] w ≡ None
 unfolding number_among
 not_named k w = refl
 
-abbrev Among : ℕ → Found → Type 0
-Among m (Value v) = v < m
-Among m Nothing = Unit
+abbrev Among : ℕ → Option ℕ → Type 0
+Among m (Some v) = v < m
+Among m None = Unit
 
 among : (k : ℕ) (names : List (List ℕ)) (w : List ℕ) → Among (k + length names) (number_among k names w)
 unfolding number_among
 among k [] w = tt
 among k (name ∷ names) w =
-    by_cond (Among (k + suc (length names))) (same name w) (Value k) (number_among (suc k) names w)
+    by_cond (Among (k + suc (length names))) (bytes_eq name w) (Some k) (number_among (suc k) names w)
     (λ _. omega arith)
     (λ _. moved (number_among (suc k) names w) (among (suc k) names w))
   where
-    moved : (x : Found) → Among (suc k + length names) x → Among (k + suc (length names)) x
-    moved Nothing h = tt
-    moved (Value v) h = omega arith
+    moved : (x : Option ℕ) → Among (suc k + length names) x → Among (k + suc (length names)) x
+    moved None h = tt
+    moved (Some v) h = omega arith
 
-pub among-names : (k : ℕ) (names : List (List ℕ)) (w : List ℕ) (v : ℕ) → Value v ≡ number_among k names w → v < k + length names
+pub among-names : (k : ℕ) (names : List (List ℕ)) (w : List ℕ) (v : ℕ) → Some v ≡ number_among k names w → v < k + length names
 among-names k names w v e = let h = among k names w in rw (← e) at h
 
 -- decimal numbers are read back
@@ -204,10 +201,10 @@ decimal-some v =
     (λ _. omega arith)
     (λ _. simp length-append (omega arith))
 
-pub number-back : (most v : ℕ) → v < 2 ^ 32 → v ≤ most → number_in most (decimal v) ≡ Value v
+pub number-back : (most v : ℕ) → v < 2 ^ 32 → v ≤ most → number_in most (decimal v) ≡ Some v
 number-back most v h m =
     let e : read 0 (decimal v) ≡ v = read-decimal v h in
-    sym (a-number most (decimal v) (decimal-some v) (decimal-digits v) (omega arith)) ∙ ap Value e
+    sym (a-number most (decimal v) (decimal-some v) (decimal-digits v) (omega arith)) ∙ ap Some e
 
 first-digit : (w : List ℕ) → 0 < length w → all_digits w ≡ true → get_or w 0 0 ≡ 45 → ⊥
 unfolding all_digits
@@ -216,17 +213,17 @@ first-digit (b ∷ w) l t e =
     let g : 48 ≤ b = leb-true 48 b (and_l (leb 48 b) (leb b 57) (and_l (is_digit b) (all_digits w) t)) in
     omega arith
 
-pub signed_back : (v : ℕ) → v < 2 ^ 32 → signed_in (signed v) ≡ Value v
+pub signed_back : (v : ℕ) → v < 2 ^ 32 → signed_in (signed v) ≡ Some v
 unfolding signed
 signed_back v h =
-    by_cond (λ (w : List ℕ). signed_in w ≡ Value v) (ltb v (2 ^ 31)) (decimal v) (ascii "-" ++ decimal (2 ^ 32 - v))
+    by_cond (λ (w : List ℕ). signed_in w ≡ Some v) (ltb v (2 ^ 31)) (decimal v) (ascii "-" ++ decimal (2 ^ 32 - v))
     (λ t. no_sign (decimal v) (decimal-some v) (first-digit (decimal v) (decimal-some v) (decimal-digits v)) ∙ number-back (2 ^ 31 - 1) v h (omega (arith, ltb-true v (2 ^ 31) t)))
     (λ f. minus (le_of f))
   where
     le_of : ltb v (2 ^ 31) ≡ false → 2 ^ 31 ≤ v
     le_of f = omega (arith, leb-false (suc v) (2 ^ 31) f)
 
-    minus : 2 ^ 31 ≤ v → signed_in (ascii "-" ++ decimal (2 ^ 32 - v)) ≡ Value v
+    minus : 2 ^ 31 ≤ v → signed_in (ascii "-" ++ decimal (2 ^ 32 - v)) ≡ Some v
     minus g =
         let n : 2 ^ 32 - v ≡ 0 → ⊥ = λ e. omega arith in
         let back : 2 ^ 32 - (2 ^ 32 - v) ≡ v = omega arith in

@@ -1,8 +1,8 @@
 -- Laws of lines and words: a run goes on or stops; pieces and words one after the other, as they are met along a text.
 use Prim.Native.Nat.{ℕ, zero, suc, ◌+◌, ◌-◌, ◌≤◌, ◌<◌}
-use Rattle.std.specs.Prelude.{◌≡◌, Bool, true, false, not, ◌&&◌, eqb, take, get_or}
+use Rattle.std.specs.Prelude.{◌≡◌, Bool, true, false, not, take, get_or}
 use Rattle.std.proofs.Math.Path.{refl, sym, ap}
-use Rattle.std.proofs.Common.{◌∙◌, add-zero, add-one, eq-eqb, ne_eqb, drop_of_length-le, length-drop, take_all, drop-cons, get_or-drop}
+use Rattle.std.proofs.Common.{◌∙◌, add-zero, add-one, drop_of_length-le, length-drop, take_all, drop-cons, get_or-drop}
 use mathlib.Core.List.{List, [], ◌∷◌}
 use Rattle.std.proofs.Math.Logic.{inl, inr}
 use native.Mathlib.Omega.{arith}
@@ -10,7 +10,7 @@ use Rattle.std.proofs.Math.Decide.{dec_lt}
 use Rattle.std.proofs.Math.ListN.{length, drop}
 use Rattle.std.proofs.Math.Seq.{drop-drop, drop-length}
 use Rattle.ground.specs.Tests.{split}
-use Rattle.words.specs.Words.{belongs, run, pieces, not_empty, words_of, end_of_run, part, span_at, Next, past, nth_span, nth_word, same}
+use Rattle.words.specs.Words.{belongs, run, pieces, not_empty, words_of, end_of_run, part, span_at, Next, past, nth_span, nth_word}
 use Rattle.words.specs.declared.Class.{Class}
 use Rattle.words.specs.declared.Class.TheVariants.{Gap, Word}
 use Rattle.words.specs.declared.Span.{Span}
@@ -210,30 +210,6 @@ nth-part s k =
           let e : (nth_span s k).from ≡ (nth_span s k).to = omega (arith, span_goes-up s (past s k)) in
           part_none s (nth_span s k) e ∙ sym (ap (λ (ws : List (List ℕ)). get_or ws 0 []) (none_left s (past s k) e)) ∙ first
     ]
-
--- two texts: of different lengths, and byte by byte
-pub other_length : (s t : List ℕ) → (length s ≡ length t → ⊥) → same s t ≡ false
-unfolding same
-other_length [] [] n = absurd (n refl)
-other_length [] (y ∷ t) n = refl
-other_length (x ∷ s) [] n = refl
-other_length (x ∷ s) (y ∷ t) n = rest (eqb x y) (other_length s t (λ e. n (ap suc e)))
-  where
-    rest : (b : Bool) → same s t ≡ false → (b && same s t) ≡ false
-    rest true f = f
-    rest false f = refl
-
-pub same_byte : (s t : List ℕ) (i : ℕ) → i < length s → i < length t → get_or s i 0 ≡ get_or t i 0 → same (drop i s) (drop i t) ≡ same (drop (i + 1) s) (drop (i + 1) t)
-unfolding same
-same_byte s t i h k e = rw (drop-cons s i 0 h, drop-cons t i 0 k, eq-eqb (get_or s i 0) (get_or t i 0) e, add-one i)
-
-pub other_byte : (s t : List ℕ) (i : ℕ) → i < length s → i < length t → (get_or s i 0 ≡ get_or t i 0 → ⊥) → same (drop i s) (drop i t) ≡ false
-unfolding same
-other_byte s t i h k n = rw (drop-cons s i 0 h, drop-cons t i 0 k, ne_eqb (get_or s i 0) (get_or t i 0) n)
-
-pub both_end : (s t : List ℕ) (i : ℕ) → length s ≤ i → length t ≤ i → same (drop i s) (drop i t) ≡ true
-unfolding same
-both_end s t i h k = rw (drop_of_length-le s h, drop_of_length-le t k)
 
 -- what a call of `next_word` says of the words
 module _ (s : List ℕ) (at : ℕ) {r : Span} (n : Next s at r) where

@@ -1,5 +1,5 @@
 -- Text as lines, and lines as words.
-use Rattle.std.specs.Prelude.{ℕ, zero, suc, ◌+◌, ◌-◌, ◌≤◌, ◌≡◌, Bool, true, false, cond, not, ◌&&◌, ◌||◌, List, [], ◌∷◌, eqb, ltb, length, take, drop, get_or}
+use Rattle.std.specs.Prelude.{ℕ, zero, suc, ◌+◌, ◌-◌, ◌≤◌, ◌≡◌, Bool, cond, not, ◌||◌, List, [], ◌∷◌, eqb, ltb, length, take, drop, get_or}
 use Rattle.words.specs.declared.Class.{Class}
 use Rattle.words.specs.declared.Class.TheVariants.{Gap, Word, Line, Shown}
 use Rattle.words.specs.declared.Span.{Span}
@@ -84,12 +84,8 @@ unfoldable pub line_at : List ℕ → ℕ → ℕ
 line_at s zero = 0
 line_at s (suc k) = end_of_run Line s (line_at s k) + 1
 
-unfoldable pub nth_line : List ℕ → ℕ → Span
-nth_line s k = cond (ltb (length s) (line_at s k)) (span (length s) (length s)) (span (line_at s k) (end_of_run Line s (line_at s k)))
+unfoldable pub line_span : List ℕ → ℕ → Span
+line_span s k = cond (ltb (length s) (line_at s k)) (span (length s) (length s)) (span (line_at s k) (end_of_run Line s (line_at s k)))
 
--- two texts are the same
-unfoldable pub same : List ℕ → List ℕ → Bool
-same [] [] = true
-same [] (y ∷ t) = false
-same (x ∷ s) [] = false
-same (x ∷ s) (y ∷ t) = eqb x y && same s t
+abbrev pub nth_line : List ℕ → ℕ → List ℕ
+nth_line s k = get_or (lines_of s) k []

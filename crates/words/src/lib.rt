@@ -5,7 +5,7 @@ mod meaning;
 mod scan;
 
 pub use meaning::{name_in, number_in, signed_in};
-pub use scan::{end_of_run, next_word, nth_line, nth_span, same};
+pub use scan::{end_of_run, line_span, next_word, nth_line, nth_span, nth_word, uncommented};
 
 // The bytes between words; those of a word; those of a line, before its newline; and those of a line before its comment.
 #[derive(Clone, Copy)]
@@ -21,11 +21,4 @@ pub enum Class {
 pub struct Span {
     pub from: usize,
     pub to: usize,
-}
-
-// What a word stands for, if for anything.
-#[derive(Clone, Copy)]
-pub enum Found {
-    Value(usize),
-    Nothing,
 }

@@ -1,57 +1,50 @@
-// What a word stands for.
+// What a word stands for, if for anything.
 ghost use Rattle.std.specs.Prelude.{◌≡◌, ◌^◌};
 ghost use Rattle.words.specs.Numbers.{number_in, negated, signed_in, name_in};
 
-use crate::Found;
-use crate::scan::{next_word, same};
+use crate::scan::next_word;
 
 // Digits, up to a highest number.
-pub fn number_in(most: u32, w: &[u8]) -> Found
+pub fn number_in(most: u32, w: &[u8]) -> Option<usize>
     ensures { result ≡ number_in most w.now }
 {
-    if w.len() == 0 {
-        return Found::Nothing;
+    if w.is_empty() {
+        return None;
     }
     let top = most as usize;
     let mut v: usize = 0;
-    let mut i: usize = 0;
-    while i < w.len() {
-        let b = w[i];
-        if b < b'0' {
-            return Found::Nothing;
+    for b in w {
+        if *b < b'0' {
+            return None;
         }
-        if b'9' < b {
-            return Found::Nothing;
+        if b'9' < *b {
+            return None;
         }
-        v = v * 10 + (b - b'0') as usize;
+        v = v * 10 + usize::from(*b - b'0');
         if top < v {
-            return Found::Nothing;
+            return None;
         }
-        i += 1;
     }
-    Found::Value(v)
+    Some(v)
 }
 
 // Digits after a sign: the two's complement of the number below zero.
-fn below_zero(w: &[u8]) -> Found
+fn below_zero(w: &[u8]) -> Option<usize>
     ensures { result ≡ negated (number_in (2 ^ 31) w.now) }
 {
-    let found = number_in(0x8000_0000, w);
-    let Found::Value(v) = found else {
-        return Found::Nothing;
-    };
+    let v = number_in(0x8000_0000, w)?;
     if v == 0 {
-        return Found::Value(0);
+        return Some(0);
     }
-    Found::Value(0x1_0000_0000 - v)
+    Some(0x1_0000_0000 - v)
 }
 
 // Digits, with a sign before them where the number is below zero.
-pub fn signed_in(w: &[u8]) -> Found
+pub fn signed_in(w: &[u8]) -> Option<usize>
     ensures { result ≡ signed_in w.now }
 {
-    if w.len() == 0 {
-        return Found::Nothing;
+    if w.is_empty() {
+        return None;
     }
     if w[0] == b'-' {
         return below_zero(&w[1..]);
@@ -60,23 +53,24 @@ pub fn signed_in(w: &[u8]) -> Found
 }
 
 // The number of a word among names that stand in a text, which count from a first number on.
-pub fn name_in(first: u8, names: &[u8], w: &[u8]) -> Found
+pub fn name_in(first: u8, names: &[u8], w: &[u8]) -> Option<usize>
     ensures { result ≡ name_in first names.now w.now }
 {
     let mut at: usize = 0;
-    let mut k = first as usize;
+    let mut k = usize::from(first);
+    // stays (no plainer): each turn goes on to the next word, which is no count of bytes
     while at < names.len() {
         let name = next_word(names, at);
         let from = name.from;
         let to = name.to;
         if from == to {
-            return Found::Nothing;
+            return None;
         }
-        if same(&names[from..to], w) {
-            return Found::Value(k);
+        if &names[from..to] == w {
+            return Some(k);
         }
         at = to;
         k += 1;
     }
-    Found::Nothing
+    None
 }

@@ -1,21 +1,17 @@
 // Where runs of bytes and words begin and end.
 ghost use Rattle.std.specs.Prelude.{◌≡◌, ◌≤◌, length};
-ghost use Rattle.words.specs.Words.{belongs, RunEnd, Next, nth_span, nth_line, same};
+ghost use Rattle.words.specs.Words.{belongs, uncommented, RunEnd, Next, nth_span, nth_word, line_span, nth_line};
 
 use crate::{Class, Span};
 
+#[tactic(auto, unfolding(crate::specs::Words::belongs))]
 fn is_gap(b: u8) -> bool
     ensures { result ≡ belongs Class.Gap b }
 {
-    if b == b' ' {
-        return true;
-    }
-    if b == b'\t' {
-        return true;
-    }
-    b == b'\r'
+    matches!(b, b' ' | b'\t' | b'\r')
 }
 
+#[tactic(auto, unfolding(crate::specs::Words::belongs))]
 fn belongs(class: Class, b: u8) -> bool
     ensures { result ≡ belongs class b }
 {
@@ -31,14 +27,12 @@ fn belongs(class: Class, b: u8) -> bool
 pub fn end_of_run(s: &[u8], at: usize, class: Class) -> usize
     ensures { RunEnd class s.now at result }
 {
-    let mut i = at;
-    while i < s.len() {
+    for i in at..s.len() {
         if !belongs(class, s[i]) {
             return i;
         }
-        i += 1;
     }
-    i
+    s.len().max(at)
 }
 
 // The first word from a place on.
@@ -50,59 +44,57 @@ pub fn next_word(s: &[u8], at: usize) -> Span
     Span { from, to }
 }
 
-// The word after the first k.
+// Where the word after the first k stands.
 pub fn nth_span(s: &[u8], k: usize) -> Span
     ensures { (result ≡ nth_span s.now k) × (result.from ≤ result.to) × (result.to ≤ length s.now) }
 {
     let mut at: usize = 0;
-    let mut i: usize = 0;
-    while i < k {
+    for _i in 0..k {
         let word = next_word(s, at);
         at = word.to;
-        i += 1;
     }
     next_word(s, at)
 }
 
-// From where to where line k stands, k from 0 on; where there is none, at the end.
-pub fn nth_line(s: &[u8], k: usize) -> Span
-    ensures { (result ≡ nth_line s.now k) × (result.from ≤ result.to) × (result.to ≤ length s.now) }
+// The word after the first k; none where there is none.
+pub fn nth_word(s: &[u8], k: usize) -> &[u8]
+    ensures { result.now ≡ nth_word s.now k }
 {
+    let span = nth_span(s, k);
+    &s[span.from..span.to]
+}
+
+// From where to where line k stands, k from 0 on; where there is none, at the end.
+pub fn line_span(s: &[u8], k: usize) -> Span
+    ensures { (result ≡ line_span s.now k) × (result.from ≤ result.to) × (result.to ≤ length s.now) }
+{
+    let end = s.len();
     let mut at: usize = 0;
-    let mut i: usize = 0;
-    while i < k {
-        if s.len() < at {
-            return Span {
-                from: s.len(),
-                to: s.len(),
-            };
+    for _i in 0..k {
+        if end < at {
+            return Span { from: end, to: end };
         }
         at = end_of_run(s, at, Class::Line) + 1;
-        i += 1;
     }
-    if s.len() < at {
-        return Span {
-            from: s.len(),
-            to: s.len(),
-        };
+    if end < at {
+        return Span { from: end, to: end };
     }
     let to = end_of_run(s, at, Class::Line);
     Span { from: at, to }
 }
 
-// Are two texts the same?
-pub fn same(s: &[u8], t: &[u8]) -> bool
-    ensures { result ≡ same s.now t.now }
+// Line k, k from 0 on; an empty one where there is none.
+pub fn nth_line(s: &[u8], k: usize) -> &[u8]
+    ensures { result.now ≡ nth_line s.now k }
 {
-    if s.len() != t.len() {
-        return false;
-    }
-    let mut i: usize = 0;
-    while i < s.len() {
-        if s[i] != t[i] {
-            return false;
-        }
-        i += 1;
-    }
-    true
+    let span = line_span(s, k);
+    &s[span.from..span.to]
+}
+
+// A line without its comment.
+pub fn uncommented(l: &[u8]) -> &[u8]
+    ensures { result.now ≡ uncommented l.now }
+{
+    let end = end_of_run(l, 0, Class::Shown);
+    &l[..end]
 }

@@ -1,14 +1,10 @@
-use Rattle.bench_back.proofs.ActLaws.{refused, remembered, not-remembered}
-use mathlib.Core.Path.{sym, ◌∙◌}
+use mathlib.Core.Path.{refl}
+use Rattle.model.specs.RefusalLaws.{never_zero}
+use Rattle.bench_back.proofs.ActLaws.{refused, accepted}
 use Rattle.bench_back.proofs.play.Goals as goal
 
-pub returns-then-answer-ne0 : goal.returns-then-answer-ne0
-returns-then-answer-ne0 c past = refused _ _ past _ c.step-done.ensures c.if-answer-ne0.true
+pub returns-in-Ok : goal.returns-in-Ok
+returns-in-Ok c past = accepted _ _ past _ c.in-Ok.ensures refl _ c.recall_by.ensures
 
-pub returns-then-can_be_undone : goal.returns-then-can_be_undone
-returns-then-can_be_undone c past =
-    remembered _ _ past _ c.step-done.ensures c.if-answer-ne0.false (sym c.can_be_undone.ensures ∙ c.if-can_be_undone.true)
-
-pub returns : goal.returns
-returns c past =
-    not-remembered _ _ past _ c.step-done.ensures c.if-answer-ne0.false (sym c.can_be_undone.ensures ∙ c.if-can_be_undone.false)
+pub returns-in-Err : goal.returns-in-Err
+returns-in-Err c past = rw c.from.ensures (refused _ _ past _ c.in-Err.ensures (never_zero c.in-Err.q))

@@ -13,7 +13,7 @@ returns-in-More c = (simp (c.in-More.is, c.place_after.ensures, c.one_more.ensur
 
 pub returns-in-Fewer : goal.returns-in-Fewer
 unfolding ring_after
-returns-in-Fewer c = (simp (c.in-Fewer.is, c.place_before.ensures.0, c.one_fewer.ensures), λ h. c.place_before.ensures.1 h)
+returns-in-Fewer c = (simp (c.in-Fewer.is, c.place_before.ensures.0, c.saturating_sub.ensures), λ h. c.place_before.ensures.1 h)
 
 pub returns-in-Nothing : goal.returns-in-Nothing
 unfolding ring_after

@@ -4,4 +4,4 @@ use Rattle.levels_text.proofs.render.Goals as goal
 
 pub returns : goal.returns
 unfolding output_of
-returns c = rendered _ _ (rw (← c.answer_to-w.ensures) (c.write_words.ensures.value, c.write_words.ensures.out_after))
+returns c = rendered _ _ (rw (← c.answer_to.ensures) (c.write_words.ensures.value, c.write_words.ensures.out_after))

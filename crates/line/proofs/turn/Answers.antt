@@ -10,8 +10,8 @@ pub returns-then-lock-lt1 : goal.returns-then-lock-lt1
 unfolding turn_of
 returns-then-lock-lt1 c = simp (← c.lock_after-from.ensures, ← c.first_caller-lock.ensures, lt-ltb _ _ c.if-lock-lt1.true, c.unchanged.ensures)
 
-pub bounds-calling-at : goal.bounds-calling-at
-bounds-calling-at c = omega (arith, met-high c.args.line 8 c.lock_after-from.result)
+pub bounds-line-lock : goal.bounds-line-lock
+bounds-line-lock c = omega (arith, met-high c.args.line 8 c.lock_after-from.result)
 
 pub returns : goal.returns
 unfolding turn_of put

@@ -13,7 +13,7 @@ use Rattle.votes.proofs.VoteLaws.{union-knows, union-wills}
 use Rattle.votes.specs.Joining.{join, agreed_or}
 use Rattle.votes.proofs.JoinLaws.{join-agreed}
 use Rattle.votes.specs.declared.VoteSet.{VoteSet}
-use Rattle.votes.specs.declared.Joined.{Joined}
+use Rattle.votes.specs.Joining.{Joined}
 use Rattle.model.specs.Ranges.{is_backup}
 use Rattle.model.specs.Numbers.{word_of}
 use Rattle.model.specs.declared.Kind.{Kind}

@@ -15,8 +15,8 @@ use Rattle.votes.proofs.VoteLaws.{union-knows, union-wills}
 use Rattle.votes.specs.Joining.{contradicts, join, join_all, agreed_or}
 use Rattle.votes.proofs.JoinLaws.{agree_at, at_agree, join-agreed, all_fact, all-agreed}
 use Rattle.votes.specs.declared.VoteSet.{VoteSet}
-use Rattle.votes.specs.declared.Joined.{Joined}
-use Rattle.votes.specs.declared.Joined.TheVariants.{Agreed}
+use Rattle.votes.specs.Joining.{Joined}
+use Rattle.std.specs.Prelude.{Ok}
 use Rattle.protocol.specs.declared.Acks.{Acks}
 
 module _ (w : ℕ → Bool) where
@@ -46,7 +46,7 @@ module _ (w : ℕ → Bool) where
   tell_agree s t p q = at_agree s t (λ k x y. p.word k x ∙ sym (q.word k y))
 
   -- so their join is there, and is the union
-  pub told-join : (s t : VoteSet) → Tells s → Tells t → join s t ≡ Agreed (union s t)
+  pub told-join : (s t : VoteSet) → Tells s → Tells t → join s t ≡ Ok (union s t)
   told-join s t p q = join-agreed s t (tell_agree s t p q)
 
   pub told_or : (other s t : VoteSet) → Tells s → Tells t → agreed_or other (join s t) ≡ union s t
@@ -58,7 +58,7 @@ module _ (w : ℕ → Bool) where
   pub all_tell : (m from : ℕ) (l : List VoteSet) → ((j : ℕ) → has from j ≡ true → Tells (nth empty l j)) → Tells (union_all m from l)
   all_tell = all_fact Tells empty-tells union-tells tell_agree
 
-  pub all_told : (m from : ℕ) (l : List VoteSet) → ((j : ℕ) → has from j ≡ true → Tells (nth empty l j)) → join_all m from l ≡ Agreed (union_all m from l)
+  pub all_told : (m from : ℕ) (l : List VoteSet) → ((j : ℕ) → has from j ≡ true → Tells (nth empty l j)) → join_all m from l ≡ Ok (union_all m from l)
   all_told = all-agreed Tells empty-tells union-tells tell_agree
 
 -- what is held: the own vote set, the join of the help answers, the acknowledgements

@@ -12,8 +12,8 @@ use Rattle.ground.specs.Mask.{has}
 use Rattle.ground.proofs.MaskLaws.{has-none}
 use Rattle.votes.specs.VoteSets.{union}
 use Rattle.votes.specs.Joining.{join_next, agreed_or}
-use Rattle.votes.specs.declared.Joined.{Joined}
-use Rattle.votes.specs.declared.Joined.TheVariants.{Agreed}
+use Rattle.votes.specs.Joining.{Joined}
+use Rattle.std.specs.Prelude.{Ok}
 use Rattle.model.specs.Ranges.{is_backup}
 use Rattle.protocol.specs.declared.Identity.{Identity}
 use Rattle.protocol.specs.declared.Controller.{Controller}
@@ -28,7 +28,7 @@ use Rattle.protocol.proofs.alone.Sound.{Sound, Leaves, passed_leaves, put-sound,
 
 -- the joins of what is held
 module _ (n i : ℕ) (c : Controller) (o : Sound n i c) where
-  pub acks-agreed : ack_join n c ≡ Agreed (acks_union n c)
+  pub acks-agreed : ack_join n c ≡ Ok (acks_union n c)
   unfolding ack_join
   acks-agreed = all_told o.word n c.acks.from c.acks.sets o.held.acks_tell
 

@@ -27,7 +27,6 @@ use Rattle.protocol.specs.declared.Sent.{Sent}
 use Rattle.protocol.specs.Controllers.{is_running, is_stopped, runs, phase, has_ack, cleared, advance, learn, aim, keep_ack, keep_helped, freeze, add_caller, await, propose, conclude}
 use Rattle.protocol.specs.Rules.{keeps_call, answers_call, passing_over, becomes, proposing, verdict, vote_rule, count_own, first_timeout, ack_join, propose_if_sufficient, frozen, ready, calls_help, second_timeout, help_votes}
 use Rattle.protocol.specs.declared.Identity.{Identity}
-use Rattle.protocol.specs.declared.Saved.{Saved}
 use Rattle.protocol.specs.Calls.{arrives}
 use Rattle.protocol.specs.Events.{restore_from, concerns_one}
 use Rattle.protocol.specs.Benches.{sent_after}
@@ -39,6 +38,8 @@ use Rattle.protocol.proofs.invariant.Words.{noting-runs, noting-phase}
 use Rattle.protocol.proofs.invariant.Invariant.{ack_on, acked_by}
 use Rattle.protocol.proofs.invariant.Commit.{upd_all₂}
 use Rattle.protocol.proofs.view.Kinds.{is_stop}
+use Rattle.std.specs.Prelude.{Option}
+use Rattle.model.specs.declared.Checkpoint.{Checkpoint}
 
 pub stopped-idle : (k : Condition) → is_stopped k ≡ true → is_running k ≡ false
 stopped-idle (Running p) e = absurd (false≢true e)
@@ -139,7 +140,7 @@ module _ (n f : ℕ) where
   unfolding becomes sent_after cleared
   restore-live e j o c l q = record { live = record { running = sym q; votes = λ r. absurd (no_both (runs c) r q); acks = λ r. absurd (no_both (runs c) r q); phase = λ r. absurd (no_both (runs c) r q); acked = λ h. inl (h, refl) } }
 
-  restored-live : (e : Event) (j : ℕ) (me : Identity) (s : Saved) (c : Controller) (l : Sent) → runs c ≡ false → KeptBy e j c l (restore_from me s c)
+  restored-live : (e : Event) (j : ℕ) (me : Identity) (s : Option Checkpoint) (c : Controller) (l : Sent) → runs c ≡ false → KeptBy e j c l (restore_from me s c)
   restored-live e j me s c l q = restore_cases (KeptBy e j c l) me s c (λ x z y. restore-live e j _ c l q) (passed-over-kept e j c l)
 
   abbrev pub KeptAll : Event → View → View → Type 0

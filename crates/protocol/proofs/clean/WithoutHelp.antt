@@ -28,8 +28,6 @@ use Rattle.protocol.specs.declared.Consensus.{Consensus}
 use Rattle.protocol.specs.declared.Condition.TheVariants.{Standby}
 use Rattle.protocol.specs.declared.Controller.{Controller}
 use Rattle.protocol.specs.declared.Answer.{Answer}
-use Rattle.protocol.specs.declared.Saved.{Saved}
-use Rattle.protocol.specs.declared.Saved.TheVariants.{Newest}
 use Rattle.protocol.specs.declared.Sent.{Sent}
 use Rattle.protocol.specs.Controllers.{is_stopped, phase, outcome, has_ack, has_called, cleared, advance, learn, aim, keep_ack, freeze, conclude}
 use Rattle.protocol.specs.Rules.{passing_over, becomes, verdict, vote_rule, count_own, first_timeout, ack_join, decides, sufficient, propose_if_sufficient, help_votes, frozen, ready, second_timeout}
@@ -49,6 +47,7 @@ use Rattle.protocol.proofs.counting.Sends.{sent-more}
 use Rattle.protocol.proofs.clean.Log.{In, VotesIn, AcksIn, CleanTimeout, Clean, entered, push_v, log_v}
 use Rattle.protocol.proofs.clean.Steps.{votes-more, acks-more}
 use Rattle.protocol.proofs.clean.Parts.{Good, step_good, Final, final}
+use Rattle.std.specs.Prelude.{Option, Some}
 
 not-proposed : (k : Consensus) (w : Bool) → k.move_proposed ≡ false → k.stay_proposed ≡ false → was_proposed k w ≡ false
 not-proposed k true p q = p
@@ -163,7 +162,7 @@ module _ (n f : ℕ) where
   deliver_without-help b log i j Helped s q = absurd (no_both _ s (q.no-helped i j))
 
   -- a checkpoint brings back an outcome of this order, or none
-  restored_without-help : (b : View) (log : List Event) (i : ℕ) → WithoutHelp b log → (x : Checkpoint) → b.saved i ≡ Newest x → is_stopped (b.ctl i).condition ≡ true → WithoutHelpBy (Restore i ∷ log) (becomes (cleared (Standby (cond (eqb x.order b.order) x.outcome None)) (b.ctl i)))
+  restored_without-help : (b : View) (log : List Event) (i : ℕ) → WithoutHelp b log → (x : Checkpoint) → b.saved i ≡ Some x → is_stopped (b.ctl i).condition ≡ true → WithoutHelpBy (Restore i ∷ log) (becomes (cleared (Standby (cond (eqb x.order b.order) x.outcome None)) (b.ctl i)))
   unfolding cleared
   restored_without-help b log i q x s z =
       becomes_without-help _ _ (record { waits = refl; held = λ v. by_cond (λ (o : Outcome). o ≡ word_of v → Delivered (Restore i ∷ log)) (eqb x.order b.order) x.outcome None (λ t h. more _ log (q.saved i v (ap saved_order s ∙ eqb-true _ _ t) (ap saved_outcome s ∙ h))) (λ t h. none-word v h) })
@@ -191,7 +190,7 @@ module _ (n f : ℕ) where
     no_move = q.no_move;
     no-stay = q.no-stay;
     held = λ k v h. more _ log (q.held k v h);
-    saved = upd-all (λ k (s : Saved). (v : Bool) → saved_order s ≡ b.order → saved_outcome s ≡ word_of v → Delivered (Save i ∷ log)) b.saved i (Newest (checkpoint_at n f b i)) (λ v o h. more _ log (q.held i v h)) (λ k v o h. more _ log (q.saved k v o h));
+    saved = upd-all (λ k (s : Option Checkpoint). (v : Bool) → saved_order s ≡ b.order → saved_outcome s ≡ word_of v → Delivered (Save i ∷ log)) b.saved i (Some (checkpoint_at n f b i)) (λ v o h. more _ log (q.held i v h)) (λ k v o h. more _ log (q.saved k v o h));
   }
 
   -- an order that has just begun, or a bench that has just got its lock: nothing was sent or put, and no checkpoint of the order has an outcome

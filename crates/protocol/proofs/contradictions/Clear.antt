@@ -17,7 +17,7 @@ use Rattle.votes.proofs.VoteLaws.{single-knows}
 use Rattle.votes.specs.Joining.{contradicts}
 use Rattle.votes.proofs.JoinLaws.{at_agree, join-agreed}
 use Rattle.votes.specs.declared.VoteSet.{VoteSet}
-use Rattle.votes.specs.declared.Joined.TheVariants.{Agreed}
+use Rattle.std.specs.Prelude.{Ok}
 use Rattle.model.specs.Ranges.{is_controller}
 use Rattle.model.specs.declared.Kind.{Kind}
 use Rattle.model.specs.declared.Kind.TheVariants.{Vote, Ack, Help, Helped}
@@ -109,7 +109,7 @@ module _ (G H : ℕ → Type 0) (g0 : G 0) (n f : ℕ) (small : n ≤ limit) (v 
   union-of : (s t : VoteSet) → Truthful L s → Truthful L t → JoinIsUnion s t
   union-of s t p q = join-agreed s t (true_agree L s t p q)
 
-  pub acks-union : (i : ℕ) → ack_join n (v.ctl i) ≡ Agreed (acks_union n (v.ctl i))
+  pub acks-union : (i : ℕ) → ack_join n (v.ctl i) ≡ Ok (acks_union n (v.ctl i))
   acks-union i = acks-joined n f L inv.lines i (v.ctl i) (inv.ctls i).acks_ok
 
   pub help-union : (i : ℕ) → help_votes n (v.ctl i) ≡ union (acks_union n (v.ctl i)) (v.ctl i).votes

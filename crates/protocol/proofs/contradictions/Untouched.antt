@@ -13,8 +13,8 @@ use Rattle.votes.specs.VoteSets.{empty, single, union, union_all}
 use Rattle.votes.specs.Joining.{contradicts, join, join_all, agreed_or}
 use Rattle.votes.proofs.JoinLaws.{empty-agrees, join-agreed}
 use Rattle.votes.specs.declared.VoteSet.{VoteSet}
-use Rattle.votes.specs.declared.Joined.{Joined}
-use Rattle.votes.specs.declared.Joined.TheVariants.{Agreed}
+use Rattle.votes.specs.Joining.{Joined}
+use Rattle.std.specs.Prelude.{Ok}
 use Rattle.model.specs.RangeLaws.{ranges}
 use Rattle.model.specs.declared.Kind.{Kind}
 use Rattle.model.specs.declared.BallotEvent.TheVariants.{Open, Carry}
@@ -139,7 +139,7 @@ held_at b i (inr a) = unfold view in all_agree Any Any tt b.shared.n b.shared.f 
 
 -- the joins of a bench
 record JoinsAt (b : Bench) (i : ℕ) : Type 0 where
-  acks : ack_join b.shared.n (controller b i) ≡ Agreed (acks_union b.shared.n (controller b i))
+  acks : ack_join b.shared.n (controller b i) ≡ Ok (acks_union b.shared.n (controller b i))
   help : help_votes b.shared.n (controller b i) ≡ union (acks_union b.shared.n (controller b i)) (controller b i).votes
   answer : JoinIsUnion (controller b i).helped.votes (help_votes b.shared.n (controller b i))
 

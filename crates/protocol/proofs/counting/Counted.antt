@@ -17,8 +17,6 @@ use Rattle.model.specs.declared.Event.{Event}
 use Rattle.model.specs.declared.Event.TheVariants.{Lock, Order, Cast, Deliver, Timeout, Decide, Stop, Save, Restore, OfBallots}
 use Rattle.protocol.specs.declared.Answer.{Answer}
 use Rattle.protocol.specs.declared.Identity.{Identity}
-use Rattle.protocol.specs.declared.Send.{Send}
-use Rattle.protocol.specs.declared.Send.TheVariants.{Nothing, To}
 use Rattle.protocol.specs.declared.Sent.{Sent}
 use Rattle.protocol.specs.declared.Bench.{Bench}
 use Rattle.protocol.specs.Rules.{passing_over}
@@ -40,6 +38,8 @@ use Rattle.protocol.proofs.lists.Moments.{accepted-is, lock-refused, run-append,
 use Rattle.protocol.proofs.lists.Start.{new-lock, freshes}
 use Rattle.protocol.proofs.counting.Sends.{Stays, New, new-of, rule-new, message_count_v, commit-counted, commit-kept}
 use Rattle.protocol.proofs.lists.Reach.{Reached, step-reached, reached}
+use Rattle.std.specs.Prelude.{Option, Some, None}
+use Rattle.protocol.specs.declared.Outgoing.{Outgoing}
 
 -- a bench on which nothing was sent
 pub sum-zero : (m : ℕ) (g : ℕ → ℕ) → ((k : ℕ) → g k ≡ 0) → sum_to m g ≡ 0
@@ -97,7 +97,7 @@ module _ (b : Bench) (a : Sound b) where
       → message_count_v n f (commit_v (view b) (subject e) (rule_answer n f (view b) e)) kind ≡ message_count_v n f (view b) kind + count_to n (has (receivers_of (send_of kind (rule_answer n f (view b) e).sends)))
   committed kind e c q = let p : (1 ≤ subject e) × (subject e ≤ n) = place n f (view b) e c q in commit-counted n f (view b) (subject e) (rule_answer n f (view b) e) kind p.0 p.1 (rule-new n f (view b) a.inv e q)
 
-  nothing-more : (kind : Kind) → message_count_v n f (view b) kind ≡ message_count_v n f (view b) kind + count_to n (has (receivers_of (send_of kind (record { vote = Nothing; ack = Nothing; help = Nothing; helped = Nothing }))))
+  nothing-more : (kind : Kind) → message_count_v n f (view b) kind ≡ message_count_v n f (view b) kind + count_to n (has (receivers_of (send_of kind (record { vote = None; ack = None; help = None; helped = None }))))
   nothing-more Vote = let z : count_to n (has 0) ≡ 0 = count-zero n in omega arith
   nothing-more Ack = let z : count_to n (has 0) ≡ 0 = count-zero n in omega arith
   nothing-more Help = let z : count_to n (has 0) ≡ 0 = count-zero n in omega arith
@@ -179,10 +179,10 @@ kept_from : (es more : List Event) (kind : Kind) (i j : ℕ) → opens_any (afte
 kept_from es more kind i j o h = subst (StaysSent kind i j (after es)) (sym (run-append es more new_bench)) (let s = run-kept more (after es) (reached es) o kind j i h in record { sent = s.sent; votes = s.votes })
 
 -- as many messages are listed
-messages-listed : (me : Identity) (kind : Kind) (s : Send) → length (messages_of_kind me kind s) ≡ count_to me.n (has (receivers_of s))
+messages-listed : (me : Identity) (kind : Kind) (s : Option Outgoing) → length (messages_of_kind me kind s) ≡ count_to me.n (has (receivers_of s))
 unfolding messages_of_kind
-messages-listed me kind Nothing = sym (count-zero me.n)
-messages-listed me kind (To receivers s) = length-map (members me.n receivers) (message_to me kind s) ∙ members-size me.n receivers
+messages-listed me kind None = sym (count-zero me.n)
+messages-listed me kind (Some o) = length-map (members me.n o.to) (message_to me kind o.votes) ∙ members-size me.n o.to
 
 pub sent-once : SentOnce
 sent-once = record {

@@ -24,8 +24,6 @@ use Rattle.model.specs.declared.Event.TheVariants.{Lock, Order, Cast, Deliver, T
 use Rattle.protocol.specs.declared.Controller.{Controller}
 use Rattle.protocol.specs.declared.Answer.{Answer}
 use Rattle.protocol.specs.declared.Outgoing.{Outgoing}
-use Rattle.protocol.specs.declared.Send.{Send}
-use Rattle.protocol.specs.declared.Send.TheVariants.{Nothing, To}
 use Rattle.protocol.specs.declared.Sends.{Sends}
 use Rattle.protocol.specs.declared.Sent.{Sent}
 use Rattle.protocol.specs.Controllers.{runs, phase, has_called}
@@ -40,9 +38,11 @@ use Rattle.protocol.proofs.view.View.{View, accepts, ask_l, ask_r, part}
 use Rattle.protocol.proofs.view.Performed.{commit_v, rule_answer}
 use Rattle.protocol.proofs.view.RuleCases.{restore_cases, sufficient_cases, second_cases, timeout_cases, arrives_cases}
 use Rattle.protocol.proofs.invariant.Invariant.{voted_by, acked_by, frozen_by, Inv}
+use Rattle.std.specs.Prelude.{Option, Some, None}
+use Rattle.protocol.specs.Rules.{send_to}
 
 -- what is sent of one kind goes to nobody that was sent it before, and leaves the vote set as it is, where somebody was sent it
-pub record NewOf (old : Outgoing) (s : Send) : Type 0 where
+pub record NewOf (old : Outgoing) (s : Option Outgoing) : Type 0 where
   pub fresh : (j : ℕ) → has (receivers_of s) j ≡ true → has old.to j ≡ false
   pub same : (j : ℕ) → has old.to j ≡ true → (after_send old s).votes ≡ old.votes
 
@@ -59,10 +59,10 @@ new-of l a h Ack = h.ack
 new-of l a h Help = h.help
 new-of l a h Helped = h.helped
 
-none-sent : (old : Outgoing) → NewOf old Nothing
+none-sent : (old : Outgoing) → NewOf old None
 none-sent old = record { fresh = λ j e. none_has j e; same = λ j e. refl }
 
-first-sent : (old : Outgoing) (to : ℕ) (s : VoteSet) → ((j : ℕ) → has old.to j ≡ false) → NewOf old (To to s)
+first-sent : (old : Outgoing) (to : ℕ) (s : VoteSet) → ((j : ℕ) → has old.to j ≡ false) → NewOf old (send_to to s)
 first-sent old to s h = record { fresh = λ j e. h j; same = λ j e. absurd (no_both _ e (h j)) }
 
 becomes-new : (l : Sent) (c : Controller) → New l (becomes c)
@@ -166,9 +166,9 @@ module _ (n f : ℕ) where
   rule-new b inv (Restore i) q = restore_cases (New (b.state.sent i)) _ _ (b.ctl i) (λ x z y. becomes-new _ _) (passed-new _ _)
 
   -- what is sent of a kind after an answer
-  after_send_lem : (old : Outgoing) (s : Send) (j : ℕ) → has (after_send old s).to j ≡ (has old.to j || has (receivers_of s) j)
-  after_send_lem old Nothing j = sym (rw (has-none j) (or-false (has old.to j)))
-  after_send_lem old (To r x) j = has_or old.to r j
+  after_send_lem : (old : Outgoing) (s : Option Outgoing) (j : ℕ) → has (after_send old s).to j ≡ (has old.to j || has (receivers_of s) j)
+  after_send_lem old None j = sym (rw (has-none j) (or-false (has old.to j)))
+  after_send_lem old (Some o) j = has_or old.to o.to j
 
   sent-kind : (l : Sent) (a : Sends) (kind : Kind) → of_kind kind (sent_after l a) ≡ after_send (of_kind kind l) (send_of kind a)
   unfolding sent_after

@@ -22,13 +22,14 @@ use Rattle.protocol.specs.declared.Sent.{Sent}
 use Rattle.protocol.specs.Controllers.{is_running, outcome_in, runs, phase, outcome, has_ack, cleared, advance, learn, aim, keep_ack, keep_helped, freeze, add_caller, await, propose, or_else, noting, conclude}
 use Rattle.protocol.specs.Rules.{answers_call, passing_over, becomes, proposing, verdict, vote_rule, count_own, first_timeout, ack_join, propose_if_sufficient, frozen, ready, calls_help, second_timeout, help_votes}
 use Rattle.protocol.specs.declared.Identity.{Identity}
-use Rattle.protocol.specs.declared.Saved.{Saved}
 use Rattle.protocol.specs.Calls.{arrives}
 use Rattle.protocol.specs.Events.{restore_from}
 use Rattle.protocol.specs.Benches.{sent_after}
 use Rattle.protocol.proofs.view.RuleCases.{sufficient_cases, second_cases, restore_cases, arrives_cases}
 use Rattle.protocol.proofs.view.Performed.{timeout_rule}
 use Rattle.protocol.proofs.invariant.Words.{some_word}
+use Rattle.std.specs.Prelude.{Option}
+use Rattle.model.specs.declared.Checkpoint.{Checkpoint}
 
 -- it has an outcome, or does not run
 abbrev TakenIn : Condition → Type 0
@@ -100,14 +101,14 @@ pub cleared_framed : (k : Condition) (c : Controller) (l : Sent) → is_running 
 unfolding cleared
 cleared_framed k c l e = becomes_framed c _ l (λ h r. absurd (true≢false (sym r ∙ e))) (inl refl)
 
-pub restore_framed : (me : Identity) (s : Saved) (c : Controller) (l : Sent) → Framed c l (restore_from me s c)
+pub restore_framed : (me : Identity) (s : Option Checkpoint) (c : Controller) (l : Sent) → Framed c l (restore_from me s c)
 restore_framed me s c l = restore_cases (Framed c l) me s c (λ x q e. cleared_framed (Standby _) c l refl) (passed-over_framed c l)
 
 -- a restore leaves the position, also of one that does not run
 pub record Still (c : Controller) (a : Answer) : Type 0 where
   pub position : a.controller.gate.position ≡ c.gate.position
 
-pub restore-position : (me : Identity) (s : Saved) (c : Controller) → Still c (restore_from me s c)
+pub restore-position : (me : Identity) (s : Option Checkpoint) (c : Controller) → Still c (restore_from me s c)
 unfolding passing_over becomes cleared
 restore-position me s c = restore_cases (Still c) me s c (λ x q e. record { position = refl }) (record { position = refl })
 

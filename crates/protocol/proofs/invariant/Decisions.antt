@@ -21,8 +21,6 @@ use Rattle.protocol.specs.declared.Condition.TheVariants.{Stopped}
 use Rattle.protocol.specs.declared.Controller.{Controller}
 use Rattle.protocol.specs.declared.Counts.{Counts}
 use Rattle.protocol.specs.declared.Ballots.{Ballots}
-use Rattle.protocol.specs.declared.Saved.{Saved}
-use Rattle.protocol.specs.declared.Saved.TheVariants.{Newest}
 use Rattle.protocol.specs.declared.Sent.{Sent}
 use Rattle.protocol.specs.Controllers.{is_running, phase_in, outcome_in, is_stopped, runs, phase, outcome, in_phase, cleared, noting, conclude}
 use Rattle.protocol.specs.Rules.{becomes}
@@ -38,6 +36,7 @@ use Rattle.protocol.proofs.invariant.Growth.{out_mono, ctl_mono}
 use Rattle.protocol.proofs.invariant.TrueVotes.{empty_ok}
 use Rattle.protocol.proofs.invariant.Commit.{Fits, grown-refl, becomes_fits}
 use Rattle.protocol.proofs.invariant.Arrivals.{count-zero}
+use Rattle.std.specs.Prelude.{Option, Some}
 
 -- the choice is made, or given again
 pub chosen-inv : (n f : ℕ) (b : View) (w : Bool) → Inv n f b → cond w b.state.consensus.move_proposed b.state.consensus.stay_proposed ≡ true → no_other_word b.state.consensus.decision w ≡ true → Inv n f (chosen b w)
@@ -109,8 +108,8 @@ saved-inv n f b i checkpoint p q inv = record {
   ctls = inv.ctls;
   move = inv.move;
   stay = inv.stay;
-  saved_old = upd-all (λ k (c : Saved). saved_order c ≤ b.order) b.saved i (Newest checkpoint) (omega arith) inv.saved_old;
-  saved_ok = upd-all (λ k (c : Saved). saved_order c ≡ b.order → (v : Bool) → saved_outcome c ≡ word_of v → OutcomeGrounds n f b.state.sent b.state.consensus.decision v) b.saved i (Newest checkpoint) (λ e v x. (inv.ctls i).outcome_ok v (sym q ∙ x)) inv.saved_ok;
+  saved_old = upd-all (λ k (c : Option Checkpoint). saved_order c ≤ b.order) b.saved i (Some checkpoint) (omega arith) inv.saved_old;
+  saved_ok = upd-all (λ k (c : Option Checkpoint). saved_order c ≡ b.order → (v : Bool) → saved_outcome c ≡ word_of v → OutcomeGrounds n f b.state.sent b.state.consensus.decision v) b.saved i (Some checkpoint) (λ e v x. (inv.ctls i).outcome_ok v (sym q ∙ x)) inv.saved_ok;
   chosen = inv.chosen;
 }
 
@@ -144,7 +143,7 @@ unfolding renew cleared
 renew-keeps c = by_cond (RenewKeeps c) (is_stopped c.condition) (cleared Stopped c) (cleared (in_phase 0 None) c) (λ e. record { acks = refl; position = refl }) (λ e. record { acks = refl; position = refl })
 
 -- a bench on which nothing has happened keeps the invariant, whatever checkpoints of older orders it has
-pub blank-inv : (n f o : ℕ) (w : OrderState) (ctl : ℕ → Controller) (saved : ℕ → Saved) (counts : Counts) → ((k : ℕ) → w.sent k ≡ unsent_all) → w.consensus.move_proposed ≡ false → w.consensus.stay_proposed ≡ false → w.consensus.decision ≡ None
+pub blank-inv : (n f o : ℕ) (w : OrderState) (ctl : ℕ → Controller) (saved : ℕ → Option Checkpoint) (counts : Counts) → ((k : ℕ) → w.sent k ≡ unsent_all) → w.consensus.move_proposed ≡ false → w.consensus.stay_proposed ≡ false → w.consensus.decision ≡ None
     → ((k : ℕ) → Blank (ctl k)) → ((k : ℕ) → 1 ≤ k → k ≤ n → n ≤ length (ctl k).acks.sets) → ((k : ℕ) → saved_order (saved k) ≤ o) → ((k : ℕ) → saved_order (saved k) ≡ o → saved_outcome (saved k) ≡ None)
     → (own : Bool) (bs : Ballots) → Inv n f (record { own = own; order = o; state = w; ctl = ctl; saved = saved; counts = counts; ballots = bs })
 unfolding unsent_all

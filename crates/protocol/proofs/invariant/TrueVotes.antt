@@ -16,8 +16,8 @@ use Rattle.votes.proofs.VoteLaws.{union-knows, union-wills, knows_in-all, wills_
 use Rattle.votes.specs.Joining.{contradicts, join, join_all, agreed_or}
 use Rattle.votes.proofs.JoinLaws.{at_agree, join-agreed, all-agreed}
 use Rattle.votes.specs.declared.VoteSet.{VoteSet}
-use Rattle.votes.specs.declared.Joined.{Joined}
-use Rattle.votes.specs.declared.Joined.TheVariants.{Agreed}
+use Rattle.votes.specs.Joining.{Joined}
+use Rattle.std.specs.Prelude.{Ok}
 use Rattle.protocol.specs.declared.Sent.{Sent}
 use Rattle.protocol.proofs.invariant.Invariant.{voted_by, will_by, Truthful, SentSound, AllWilling, Unwilling}
 
@@ -59,7 +59,7 @@ module _ (L : ℕ → Sent) where
   pub joined_ok : (s t : VoteSet) → Truthful L s → Truthful L t → Truthful L (agreed_or s (join s t))
   joined_ok s t p q = subst (Truthful L) (sym (joined_is s s t p q)) (union_ok s t p q)
 
-  pub all-joined : (m from : ℕ) (l : List VoteSet) → ((j : ℕ) → has from j ≡ true → Truthful L (nth empty l j)) → join_all m from l ≡ Agreed (union_all m from l)
+  pub all-joined : (m from : ℕ) (l : List VoteSet) → ((j : ℕ) → has from j ≡ true → Truthful L (nth empty l j)) → join_all m from l ≡ Ok (union_all m from l)
   all-joined = all-agreed (Truthful L) empty_ok union_ok true_agree
 
   module _ (m : ℕ) (from : ℕ) (l : List VoteSet) where

@@ -13,8 +13,8 @@ use Rattle.ground.specs.Mask.{has}
 use Rattle.ground.specs.Update.{upd}
 use Rattle.votes.specs.VoteSets.{knows, wills, union, union_all, unanimous}
 use Rattle.votes.specs.Joining.{join_next, unanimous_in, agreed_or}
-use Rattle.votes.specs.declared.Joined.{Joined}
-use Rattle.votes.specs.declared.Joined.TheVariants.{Agreed}
+use Rattle.votes.specs.Joining.{Joined}
+use Rattle.std.specs.Prelude.{Ok}
 use Rattle.votes.proofs.VoteLaws.{all-unanimous}
 use Rattle.model.specs.Numbers.{word_of, says_move, is_stay}
 use Rattle.model.specs.declared.Outcome.{Outcome}
@@ -53,7 +53,7 @@ module _ (n f : ℕ) (L : ℕ → Sent) (ok : (k : ℕ) → SentSound f L k (L k
   acks-true i c h = all_ok L n c.acks.from c.acks.sets (ack-true i c h)
 
   -- so they agree: their join is the union
-  pub acks-joined : (i : ℕ) (c : Controller) → ((j : ℕ) → has_ack c j ≡ true → HeldAck n f L i (ack_of c j) j) → ack_join n c ≡ Agreed (acks_union n c)
+  pub acks-joined : (i : ℕ) (c : Controller) → ((j : ℕ) → has_ack c j ≡ true → HeldAck n f L i (ack_of c j) j) → ack_join n c ≡ Ok (acks_union n c)
   unfolding ack_join
   acks-joined i c h = all-joined L n c.acks.from c.acks.sets (ack-true i c h)
 

@@ -19,8 +19,6 @@ use Rattle.model.specs.declared.Outcome.TheVariants.{None}
 use Rattle.model.specs.declared.Event.{Event}
 use Rattle.model.specs.declared.Event.TheVariants.{Lock}
 use Rattle.protocol.specs.declared.Station.{Station}
-use Rattle.protocol.specs.declared.Saved.{Saved}
-use Rattle.protocol.specs.declared.Saved.TheVariants.{Nothing, Newest}
 use Rattle.model.specs.declared.Checkpoint.{Checkpoint}
 use Rattle.protocol.specs.declared.Bench.{Bench}
 use Rattle.protocol.specs.Benches.{unsent_all, fresh, fresh_station, bench_of, new_bench, station, controller}
@@ -38,6 +36,7 @@ use Rattle.protocol.proofs.view.Kinds.{IsLock, locks-or_locked}
 use Rattle.protocol.proofs.view.Simulation.{view, Any, Sound}
 use Rattle.protocol.proofs.ranges.Ranges.{InRange, SentIn, AllIn, unsent_in}
 use Rattle.protocol.proofs.lists.Moments.{push, log_of, refused-step}
+use Rattle.std.specs.Prelude.{Option, Some, None}
 
 -- one lock was accepted
 pub record Opened (es : List Event) : Type 0 where
@@ -107,7 +106,7 @@ start (e ∷ es) = elim (split (is_accepted (reply new_bench e))) [
 pub record Fresh (s : Station) : Type 0 where
   pub sent : s.sent ≡ unsent_all
   pub ctl : Blank s.controller
-  pub saved : s.saved ≡ Nothing
+  pub saved : s.saved ≡ None
   pub position : s.controller.gate.position ≡ 0
 
 fresh-is : (l : List VoteSet) → Fresh (fresh_station l)
@@ -118,7 +117,7 @@ pub freshes : (locked : Bool) (n f : ℕ) (own : Bool) (k : ℕ) → Fresh (stat
 unfolding station bench_of
 freshes locked n f own = all-of_copies Fresh (fresh_station []) (fresh_station (replicate limit empty)) (fresh-is []) (fresh-is (replicate limit empty)) limit
 
-pub never-saved : {X : Type 0} (s : Saved) (p : Checkpoint) → s ≡ Nothing → s ≡ Newest p → X
+pub never-saved : {X : Type 0} (s : Option Checkpoint) (p : Checkpoint) → s ≡ None → s ≡ Some p → X
 never-saved s p e q = let z : ◌≡◌ {A = ℕ} 0 1 = cc in absurd (omega arith)
 
 -- all is in range on it

@@ -7,7 +7,7 @@ use mathlib.Core.Logic.{◌⊎◌, inl, inr}
 use Rattle.ground.specs.Tests.{no_both, by_cond}
 use Rattle.votes.specs.Joining.{unanimous_in}
 use Rattle.votes.specs.declared.VoteSet.{VoteSet}
-use Rattle.votes.specs.declared.Joined.{Joined}
+use Rattle.votes.specs.Joining.{Joined}
 use Rattle.model.specs.Ranges.{is_backup}
 use Rattle.model.specs.Numbers.{word_of, is_none}
 use Rattle.model.specs.declared.Kind.{Kind}

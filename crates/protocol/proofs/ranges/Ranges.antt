@@ -27,9 +27,6 @@ use Rattle.model.specs.declared.Event.TheVariants.{Lock, Order, Cast, Deliver, T
 use Rattle.protocol.specs.declared.Condition.{Condition}
 use Rattle.protocol.specs.declared.Controller.{Controller}
 use Rattle.protocol.specs.declared.Answer.{Answer}
-use Rattle.protocol.specs.declared.Saved.{Saved}
-use Rattle.protocol.specs.declared.Saved.TheVariants.{Newest}
-use Rattle.protocol.specs.declared.Send.{Send}
 use Rattle.protocol.specs.declared.Sent.{Sent}
 use Rattle.protocol.specs.Controllers.{is_stopped, phase_in, runs, phase, outcome, has_ack, has_called, cleared, advance, learn, aim, keep_ack, keep_helped, freeze, add_caller, await, propose, conclude}
 use Rattle.protocol.specs.Rules.{passing_over, becomes, proposing, verdict, vote_rule, count_own, first_timeout, ack_join, propose_if_sufficient, help_votes, frozen, ready, calls_help, second_timeout, answers_call}
@@ -47,6 +44,8 @@ use Rattle.protocol.proofs.invariant.Words.{noting-phase}
 use Rattle.protocol.proofs.invariant.TrueVotes.{union_ok}
 use Rattle.protocol.proofs.invariant.Waiting.{acks-true, help-is}
 use Rattle.protocol.proofs.counting.Sends.{sent-more}
+use Rattle.std.specs.Prelude.{Option, Some}
+use Rattle.protocol.specs.declared.Outgoing.{Outgoing}
 
 -- willing lies within known
 abbrev pub WithinSet : VoteSet → Type 0
@@ -152,7 +151,7 @@ module _ (G H : ℕ → Type 0) (g0 : G 0) where
       pub to : (kind : Kind) (j : ℕ) → has (of_kind kind l).to j ≡ true → (1 ≤ o) × (k ≤ n) × (j ≤ n) × (route f kind k j ≡ true)
 
     -- an answer's sends, of each kind
-    abbrev GoesTo : ℕ → Kind → Send → Type 0
+    abbrev GoesTo : ℕ → Kind → Option Outgoing → Type 0
     GoesTo k kind s = (j : ℕ) → has (receivers_of s) j ≡ true → (j ≤ n) × (route f kind k j ≡ true)
 
     record Sends_ok (k : ℕ) (a : Answer) : Type 0 where
@@ -260,8 +259,8 @@ module _ (G H : ℕ → Type 0) (g0 : G 0) where
       pub order_in : H p.order
       pub position : G p.position
 
-    abbrev SavedOk : ℕ → Saved → Type 0
-    SavedOk k s = (p : Checkpoint) → s ≡ Newest p → SavedIn k p
+    abbrev SavedOk : ℕ → Option Checkpoint → Type 0
+    SavedOk k s = (p : Checkpoint) → s ≡ Some p → SavedIn k p
 
     pub record AllIn (v : View) : Type 0 where
       pub order : H v.order
@@ -278,7 +277,7 @@ module _ (G H : ℕ → Type 0) (g0 : G 0) where
       saved = h.saved;
     }
 
-    newest : (x p : Checkpoint) → Newest x ≡ Newest p → x ≡ p
+    newest : (x p : Checkpoint) → Some x ≡ Some p → x ≡ p
     newest x p e = cc
 
     saved_in : (v : View) (i : ℕ) → 1 ≤ v.order → is_controller n i ≡ true → AllIn v → AllIn (saved_v v i (checkpoint_at n f v i))
@@ -287,7 +286,7 @@ module _ (G H : ℕ → Type 0) (g0 : G 0) where
       order = h.order;
       ctls = h.ctls;
       lines = h.lines;
-      saved = upd-all (λ k (s : Saved). SavedOk k s) v.saved i (Newest (checkpoint_at n f v i))
+      saved = upd-all (λ k (s : Option Checkpoint). SavedOk k s) v.saved i (Some (checkpoint_at n f v i))
           (λ p e. subst (SavedIn i) (newest (checkpoint_at n f v i) p e) (record { id = refl; n-is = refl; f-is = refl; one_of = m; order = open'; order_in = h.order; position = (h.ctls i).gate.position })) h.saved;
     }
 

@@ -219,7 +219,7 @@ checkpoint-passes b i p (inr a) h e =
     )
 
 -- what passes is written
-written_out : {S A R : Type 0} (k : Codec S A R) (a : A) (out : List ℕ) → length out ≡ record_length k a → first_no ((own_form k a).asked a) ≡ accepted → writes k out a ≡ bytes_of k a
+written_out : {S A : Type 0} (k : Codec S A) (a : A) (out : List ℕ) → length out ≡ record_length k a → first_no ((own_form k a).asked a) ≡ accepted → writes k out a ≡ bytes_of k a
 unfolding writes write_reply first_no unless
 written_out k a out h p = rw (eq-eqb _ _ h, p)
 

@@ -21,7 +21,7 @@ use Rattle.votes.proofs.VoteLaws.{union-knows, union-wills}
 use Rattle.votes.specs.Joining.{contradicts, agreed_or}
 use Rattle.votes.proofs.JoinLaws.{join-agreed, join-refused}
 use Rattle.votes.specs.declared.VoteSet.{VoteSet}
-use Rattle.votes.specs.declared.Joined.{Joined}
+use Rattle.votes.specs.Joining.{Joined}
 use Rattle.model.specs.RangeLaws.{ranges, member, is_member}
 use Rattle.model.specs.Routes.{route, vote_route}
 use Rattle.model.specs.declared.Kind.{Kind}

@@ -25,7 +25,6 @@ use Rattle.protocol.specs.declared.Condition.TheVariants.{Stopped}
 use Rattle.protocol.specs.declared.Controller.{Controller}
 use Rattle.protocol.specs.declared.Answer.{Answer}
 use Rattle.protocol.specs.declared.Identity.{Identity}
-use Rattle.protocol.specs.declared.Saved.TheVariants.{Newest}
 use Rattle.protocol.specs.declared.Station.{Station}
 use Rattle.protocol.specs.declared.Shared.{Shared}
 use Rattle.protocol.specs.declared.Bench.{Bench}
@@ -38,6 +37,7 @@ use Rattle.protocol.specs.Events.{concerns_one, subject, source, restore_from, a
 use Rattle.protocol.specs.Questions.{first_no}
 use Rattle.protocol.specs.Steps.{proposed_to, decided_as, station_after, answering, keeping, effect_of, perform, perform_one}
 use Rattle.protocol.proofs.view.View.{View, same_view, ballots_v, station_v, put_back_v, shared_v, opened_v, accepts, play_one_v, ask_l, ask_r}
+use Rattle.std.specs.Prelude.{Some}
 
 -- one controller's answer put back
 unfoldable pub commit_v : View → ℕ → Answer → View
@@ -75,7 +75,7 @@ chosen v move = record {
 
 -- a checkpoint kept
 unfoldable pub saved_v : View → ℕ → Checkpoint → View
-saved_v v i checkpoint = record { own = v.own; order = v.order; state = v.state; ctl = v.ctl; saved = upd v.saved i (Newest checkpoint); counts = v.counts; ballots = v.ballots }
+saved_v v i checkpoint = record { own = v.own; order = v.order; state = v.state; ctl = v.ctl; saved = upd v.saved i (Some checkpoint); counts = v.counts; ballots = v.ballots }
 
 pub upd-id : {A : Type 0} (F : ℕ → A) (i : ℕ) → upd F i (F i) ≡ F
 unfolding upd
@@ -162,7 +162,7 @@ module _ (n f : ℕ) where
     unfolding effect_of put_back_v keeping saved_v
     saved-back i p = same_view _ _ refl refl (upd-id v.state.sent i) refl (upd-id v.ctl i) (ap (upd v.saved i) save-is) refl refl
       where
-        save-is : save (identity_v v i) (v.ctl i) ≡ Newest (checkpoint_at v i)
+        save-is : save (identity_v v i) (v.ctl i) ≡ Some (checkpoint_at v i)
         save-is = unfold save checkpoint_of in rw p
 
     -- behind the questions a call is its rule

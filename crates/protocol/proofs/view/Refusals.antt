@@ -11,7 +11,6 @@ use Rattle.model.specs.declared.Event.TheVariants.{Lock, Order, Cast, Deliver, T
 use Rattle.protocol.specs.declared.Identity.{Identity}
 use Rattle.protocol.specs.declared.Controller.{Controller}
 use Rattle.protocol.specs.declared.Answer.{Answer}
-use Rattle.protocol.specs.declared.Saved.{Saved}
 use Rattle.protocol.specs.declared.Sent.{Sent}
 use Rattle.protocol.specs.declared.Station.{Station}
 use Rattle.protocol.specs.declared.Shared.{Shared}
@@ -21,6 +20,8 @@ use Rattle.protocol.specs.Calls.{valid_identity, vote, arrives, timeout, awaits_
 use Rattle.protocol.specs.Events.{restore_from, answer_to}
 use Rattle.protocol.specs.Questions.{agrees_at}
 use Rattle.protocol.proofs.view.RuleCases.{restore_cases, sufficient_cases, second_cases, arrives_cases}
+use Rattle.std.specs.Prelude.{Option}
+use Rattle.model.specs.declared.Checkpoint.{Checkpoint}
 
 pub record Unrefused (a : Answer) : Type 0 where
   pub is : is_contradicted a.reception ≡ false
@@ -62,7 +63,7 @@ stop_unrefused : (c : Controller) → Unrefused (stop c)
 unfolding stop
 stop_unrefused c = by_cond Unrefused (runs c || does_stand_by c) _ _ (λ e. becomes_unrefused _) (λ e. passed_unrefused c)
 
-restore_unrefused : (me : Identity) (x : Saved) (c : Controller) → Unrefused (restore_from me x c)
+restore_unrefused : (me : Identity) (x : Option Checkpoint) (c : Controller) → Unrefused (restore_from me x c)
 restore_unrefused me x c = restore_cases Unrefused me x c (λ p q e. becomes_unrefused _) (passed_unrefused c)
 
 abbrev pub delivers : Event → Bool

@@ -14,13 +14,12 @@ use Rattle.protocol.specs.declared.Condition.TheVariants.{Standby}
 use Rattle.protocol.specs.declared.Controller.{Controller}
 use Rattle.protocol.specs.declared.Answer.{Answer}
 use Rattle.protocol.specs.declared.Identity.{Identity}
-use Rattle.protocol.specs.declared.Saved.{Saved}
-use Rattle.protocol.specs.declared.Saved.TheVariants.{Nothing, Newest}
 use Rattle.protocol.specs.Controllers.{is_stopped, cleared, phase, has_ack, has_helped, has_called, learn, keep_ack, keep_helped, add_caller, conclude}
 use Rattle.protocol.specs.Rules.{passing_over, becomes, proposing, verdict, vote_arrives, first_timeout, ack_join, decides, sufficient, answers_join, propose_if_sufficient, help_votes, frozen, ready, calls_help, second_timeout, ack_arrives, helped_arrives, keeps_call, answers_call, help_arrives}
 use Rattle.protocol.specs.Calls.{arrives, restore}
 use Rattle.protocol.specs.Events.{restore_from}
 use Rattle.protocol.proofs.view.Performed.{timeout_rule}
+use Rattle.std.specs.Prelude.{Option, Some, None}
 
 module _ (P : Answer → Type 0) where
   -- a vote arrives in time, or late
@@ -35,11 +34,11 @@ module _ (P : Answer → Type 0) where
       (λ q. by_cond P (leb (phase c) 2) _ _ (λ e. early (leb-true _ _ e)) (λ e. late (leb-false _ _ e) q))
 
   -- a checkpoint is used by a stopped controller alone
-  pub restore_cases : (me : Identity) (s : Saved) (c : Controller) → ((x : Checkpoint) → s ≡ Newest x → is_stopped c.condition ≡ true → P (becomes (cleared (Standby (cond (eqb x.order me.order) x.outcome None)) c)))
+  pub restore_cases : (me : Identity) (s : Option Checkpoint) (c : Controller) → ((x : Checkpoint) → s ≡ Some x → is_stopped c.condition ≡ true → P (becomes (cleared (Standby (cond (eqb x.order me.order) x.outcome None)) c)))
       → P (passing_over c) → P (restore_from me s c)
   unfolding restore_from restore
-  restore_cases me Nothing c taken none = none
-  restore_cases me (Newest x) c taken none = by_cond P (is_stopped c.condition) _ _ (taken x (λ i. Newest x)) (λ e. none)
+  restore_cases me None c taken none = none
+  restore_cases me (Some x) c taken none = by_cond P (is_stopped c.condition) _ _ (taken x (λ i. Some x)) (λ e. none)
 
   module _ (n f : ℕ) where
     -- the counts suffice, and a word is put; or not

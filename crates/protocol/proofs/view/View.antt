@@ -15,8 +15,6 @@ use Rattle.model.specs.declared.Outcome.{Outcome}
 use Rattle.model.specs.declared.Outcome.TheVariants.{None}
 use Rattle.model.specs.declared.Event.{Event}
 use Rattle.protocol.specs.declared.Controller.{Controller}
-use Rattle.protocol.specs.declared.Saved.{Saved}
-use Rattle.protocol.specs.declared.Saved.TheVariants.{Nothing, Newest}
 use Rattle.protocol.specs.declared.Sent.{Sent}
 use Rattle.protocol.specs.declared.Station.{Station}
 use Rattle.protocol.specs.declared.Consensus.{Consensus}
@@ -29,6 +27,8 @@ use Rattle.protocol.specs.Benches.{unsent_all, no_consensus}
 use Rattle.protocol.specs.Events.{subject, source}
 use Rattle.protocol.specs.Questions.{Reply, is_accepted, unless, first_no, may_open, was_proposed, no_other_word, facts_of, questions_of}
 use Rattle.protocol.specs.Steps.{renewed, order_opened, effect}
+use Rattle.std.specs.Prelude.{Option, Some, None}
+use Rattle.model.specs.declared.Checkpoint.{Checkpoint}
 
 -- what one order has brought: what was sent, the consensus
 pub record OrderState : Type 0 where
@@ -40,7 +40,7 @@ pub record View : Type 0 where
   pub order : ℕ
   pub state : OrderState
   pub ctl : ℕ → Controller
-  pub saved : ℕ → Saved
+  pub saved : ℕ → Option Checkpoint
   pub counts : Counts
   pub ballots : Ballots
 
@@ -60,13 +60,13 @@ unfoldable pub new_order_state : OrderState
 new_order_state = record { sent = λ k. unsent_all; consensus = no_consensus }
 
 -- the order and the outcome on a checkpoint; 0 and none where there is none
-abbrev pub saved_order : Saved → ℕ
-saved_order Nothing = 0
-saved_order (Newest c) = c.order
+abbrev pub saved_order : Option Checkpoint → ℕ
+saved_order None = 0
+saved_order (Some c) = c.order
 
-abbrev pub saved_outcome : Saved → Outcome
-saved_outcome Nothing = None
-saved_outcome (Newest c) = c.outcome
+abbrev pub saved_outcome : Option Checkpoint → Outcome
+saved_outcome None = None
+saved_outcome (Some c) = c.outcome
 
 -- controller i's station; and the view with what an event leaves
 abbrev pub station_v : View → ℕ → Station

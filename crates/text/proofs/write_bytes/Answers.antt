@@ -6,4 +6,4 @@ pub returns-then-out-bytes : goal.returns-then-out-bytes
 returns-then-out-bytes c = let both = nothing-fitted _ _ c.if-out-bytes.true in record { value = both.0; out_after = both.1 }
 
 pub returns : goal.returns
-returns c = let both = all-fitted _ _ c.if-out-bytes.false c.put_bytes.ensures in record { value = both.0; out_after = both.1 }
+returns c = let both = all-fitted _ _ c.if-out-bytes.false c.put_front.ensures in record { value = both.0; out_after = both.1 }

@@ -2,15 +2,15 @@
 use mathlib.Core.List.{append-nil}
 use mathlib.Core.Path.{sym}
 use borrow.Author.Tests.{eq-eqb, ne_eqb}
-use Rattle.text.specs.WritingLaws.{put_then, put-text}
+use Rattle.text.proofs.Wrote.{wrote_then, wrote-text}
 use Rattle.trace.specs.Lines.{text}
 use Rattle.trace.specs.Shown.{shown}
 use Rattle.trace_text.proofs.put_shown.Goals as goal
 
-pub returns-then-answer-ne0 : goal.returns-then-answer-ne0
+pub returns-else-answer-eq0 : goal.returns-else-answer-eq0
 unfolding shown text
-returns-then-answer-ne0 c = put-text c.put_answered-next.ensures (rw (ne_eqb _ 0 c.if-answer-ne0.true) (sym (append-nil _)))
+returns-else-answer-eq0 c = wrote-text c.put_answered.ensures (rw (ne_eqb _ 0 c.if-answer-eq0.false) (sym (append-nil _)))
 
-pub returns : goal.returns
+pub returns-then-answer-eq0 : goal.returns-then-answer-eq0
 unfolding shown text
-returns c = put-text (put_then c.put_answered-next.ensures c.put_came.ensures) (rw (eq-eqb _ 0 c.if-answer-ne0.false))
+returns-then-answer-eq0 c = wrote-text (wrote_then c.put_answered.ensures c.put_came.ensures) (rw (eq-eqb _ 0 c.if-answer-eq0.true))

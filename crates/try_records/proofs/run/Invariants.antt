@@ -1,9 +1,9 @@
--- Safety alone: frame after frame, as long as whole ones are left.
-use Rattle.std.proofs.Common.{◌≤◌, ◌-◌, length}
+-- `run` ends: each frame makes what is left shorter.
+use Rattle.std.proofs.Common.{length}
 use Rattle.try_records.proofs.run.Given as goal
 
-abbrev pub invariant-loop-at : goal.invariant-loop-at
-invariant-loop-at l = l.at ≤ length l.s
+abbrev pub invariant-loop-frame : goal.invariant-loop-frame
+invariant-loop-frame l = Unit
 
-abbrev pub decreases-loop-at : goal.decreases-loop-at
-decreases-loop-at l = length l.s - l.at
+abbrev pub decreases-loop-frame : goal.decreases-loop-frame
+decreases-loop-frame l = length l.rest

@@ -6,6 +6,6 @@ pub returns-then-willing : goal.returns-then-willing
 unfolding single
 returns-then-willing c = rw (c.insert-known.ensures, c.if-willing.true)
 
-pub returns : goal.returns
+pub returns-else-willing : goal.returns-else-willing
 unfolding single
-returns c = rw (c.insert-known.ensures, c.if-willing.false)
+returns-else-willing c = rw (c.insert-known.ensures, c.if-willing.false)

@@ -17,10 +17,10 @@ unfolding owner
 some n b k e = add-one (k % n) ∙ ap (λ (x : ℕ). suc (x % n)) e
 
 pub returns-then-n-lt1 : goal.returns-then-n-lt1
-returns-then-n-lt1 c = none _ _ _ c.lower-before.ensures c.if-n-lt1.true
+returns-then-n-lt1 c = none _ _ _ c.saturating_sub-before.ensures c.if-n-lt1.true
 
 pub overflow_add-result-2 : goal.overflow_add-result-2
-overflow_add-result-2 c = let m = mod-lt c.lower-before.result c.if-n-lt1.false in omega arith
+overflow_add-result-2 c = let m = mod-lt c.saturating_sub-before.result c.if-n-lt1.false in omega arith
 
 pub returns : goal.returns
-returns c = some _ _ _ c.lower-before.ensures
+returns c = some _ _ _ c.saturating_sub-before.ensures

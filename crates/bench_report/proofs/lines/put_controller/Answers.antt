@@ -1,11 +1,8 @@
 -- `bench_report::lines::put_controller` meets its contract.
-use Rattle.text.specs.WritingLaws.{put_then, put-length}
+use Rattle.text.proofs.Wrote.{wrote_then}
 use Rattle.bench_report.proofs.lines.put_controller.Goals as goal
 
 pub returns : goal.returns
 returns c =
-    put_then c.put_byte-next.ensures (put_then c.put_field-next.ensures (put_then c.put_field-next-2.ensures
-    (put_then c.put_outcome-next.ensures (put_then c.put_signed_field-next.ensures c.put_byte.ensures))))
-
-pub shape_of-out : goal.shape_of-out
-shape_of-out c = put-length (returns c)
+    wrote_then c.byte.ensures (wrote_then c.field.ensures (wrote_then c.field-2.ensures (wrote_then c.put_outcome.ensures
+    (wrote_then c.signed_field.ensures c.byte-2.ensures))))

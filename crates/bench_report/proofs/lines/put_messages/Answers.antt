@@ -1,11 +1,8 @@
 -- `bench_report::lines::put_messages` meets its contract.
-use Rattle.text.specs.WritingLaws.{put_then, put-length}
+use Rattle.text.proofs.Wrote.{wrote_then}
 use Rattle.bench_report.proofs.lines.put_messages.Goals as goal
 
 pub returns : goal.returns
 returns c =
-    put_then c.put_byte-next.ensures (put_then c.put_field-next.ensures (put_then c.put_field-next-2.ensures
-    (put_then c.put_field-next-3.ensures (put_then c.put_field-next-4.ensures c.put_byte.ensures))))
-
-pub shape_of-out : goal.shape_of-out
-shape_of-out c = put-length (returns c)
+    wrote_then c.byte.ensures (wrote_then c.field.ensures (wrote_then c.field-2.ensures (wrote_then c.field-3.ensures
+    (wrote_then c.field-4.ensures c.byte-2.ensures))))

@@ -1,5 +1,7 @@
 -- `bench_report::lines::put_rest` meets its contract.
-use Rattle.text.specs.WritingLaws.{put-text, put_then}
+use Rattle.std.proofs.Common.{rules}
+use Rattle.text.specs.WritingLaws.{put-text, put_then, put-moved}
+use Rattle.text.proofs.Wrote.{wrote_then}
 use Rattle.bench_report.proofs.Short.{one}
 use Rattle.bench_report.proofs.lines.put_rest.Goals as goal
 
@@ -10,4 +12,4 @@ returns-then-answer-lt10 c =
 
 pub returns : goal.returns
 returns c =
-    put_then c.put_in-next.ensures.0 (put_then c.put_number-next.ensures c.put_byte.ensures)
+    put_then c.put_in-next.ensures.0 (put-moved (search rules) (search rules) (search rules) (wrote_then c.number.ensures c.byte.ensures).put)

@@ -9,6 +9,7 @@ use native.Mathlib.Omega.{arith}
 use lib.ListN.{length, get_or, set, replicate, length-replicate}
 use Rattle.ground.specs.Limit.{limit}
 use Rattle.ground.specs.Firsts.{map_first, first-none, first_more, first-all}
+use Rattle.model.specs.Questions.{number}
 use Rattle.model.specs.declared.Event.TheVariants.{OfBallots}
 use Rattle.protocol.specs.declared.Station.{Station}
 use Rattle.protocol.specs.Ballots.{ballot_limit, new_acceptor, new_row}
@@ -20,7 +21,7 @@ use Rattle.bench_run.specs.Runs.{end_of}
 use Rattle.bench_run.proofs.Local.{all_stations, new-parts, new-ballots}
 use Rattle.bench_run.proofs.Records.{start, in-room, not-read, no_room, ended, place-within, place_safe, place-all, refused-ready, refused-read, back-ready, step-back-read, due_note, step_safe, stepped-refused, stepped-taken, refused_nearer, back_nearer, note-place, note-few, noted-refused, noted-within, noted-even, noted-odd}
 use Rattle.bench_run.proofs.PlayLaws.{reading, in_place, order-size, lock-refused, lock-accepted, order-refused, order-accepted, order_quiet, cast-refused, cast-accepted, delivery-refused, vote-accepted, ack-passed-over, ack-held, ack-put, help-accepted, helped-accepted, timeout-refused, first-laid, second-accepted, decide-refused, decide-accepted, stop-refused, stop-accepted, save-refused, save-accepted, restore-refused, restore-accepted}
-use Rattle.bench_run.proofs.BallotPlay.{none-chosen, more-chosen, may_give_lem, ballot_played}
+use Rattle.bench_run.proofs.BallotPlay.{none-chosen, more-chosen, may_give_lem, turn-refused, turn-accepted}
 use Rattle.bench_run.proofs.runs.run_from.Goals as goal
 
 pub returns-then-answers-count : goal.returns-then-answers-count
@@ -158,7 +159,7 @@ loop-k-smaller-then-answer-ne0 c =
 pub loop-k-preserved-then-answer-ne0 : goal.loop-k-preserved-then-answer-ne0
 unfolding fresh_station fresh unsent_all
 loop-k-preserved-then-answer-ne0 c =
-    lock-refused _ _ _ _ _ _ _ _ _ _ _ _ (reading _ _ _ _ _ _ _ _ _ _ _ _ c.loop-k.invariant c.loop-k-test.true c.place_of-here.ensures _ c.is_pending-pending.ensures _ c.next_at-next.ensures (c.in-Play.is ∙ ap Plays c.in-Lock.is)) (c.lock_question-answer.ensures false) c.if-answer-ne0.true
+    lock-refused _ _ _ _ _ _ _ _ _ _ _ _ (reading _ _ _ _ _ _ _ _ _ _ _ _ c.loop-k.invariant c.loop-k-test.true c.place_of-here.ensures _ c.is_pending-pending.ensures _ c.next_at-next.ensures (c.in-Play.is ∙ ap Plays c.in-Lock.is)) (c.answer_number-answer.ensures ∙ ap number (c.lock_question.ensures false)) c.if-answer-ne0.true
 
 pub loop-k-smaller-in-Lock : goal.loop-k-smaller-in-Lock
 loop-k-smaller-in-Lock c =
@@ -167,7 +168,7 @@ loop-k-smaller-in-Lock c =
 pub loop-k-preserved-in-Lock : goal.loop-k-preserved-in-Lock
 unfolding fresh_station fresh unsent_all
 loop-k-preserved-in-Lock c =
-    lock-accepted _ _ _ _ _ _ _ _ _ _ _ _ (reading _ _ _ _ _ _ _ _ _ _ _ _ c.loop-k.invariant c.loop-k-test.true c.place_of-here.ensures _ c.is_pending-pending.ensures _ c.next_at-next.ensures (c.in-Play.is ∙ ap Plays c.in-Lock.is)) (c.lock_question-answer.ensures false) c.if-answer-ne0.false _ c.locked-m.ensures
+    lock-accepted _ _ _ _ _ _ _ _ _ _ _ _ (reading _ _ _ _ _ _ _ _ _ _ _ _ c.loop-k.invariant c.loop-k-test.true c.place_of-here.ensures _ c.is_pending-pending.ensures _ c.next_at-next.ensures (c.in-Play.is ∙ ap Plays c.in-Lock.is)) (c.answer_number-answer.ensures ∙ ap number (c.lock_question.ensures false)) c.if-answer-ne0.false _ c.locked-m.ensures
 
 pub bounds-answers-here-in-Order : goal.bounds-answers-here-in-Order
 bounds-answers-here-in-Order c =
@@ -185,7 +186,7 @@ loop-k-smaller-then-answer-ne0-2 c =
 pub loop-k-preserved-then-answer-ne0-2 : goal.loop-k-preserved-then-answer-ne0-2
 unfolding fresh_station fresh unsent_all
 loop-k-preserved-then-answer-ne0-2 c =
-    order-refused _ _ _ _ _ _ _ _ _ _ (reading _ _ _ _ _ _ _ _ _ _ _ _ c.loop-k.invariant c.loop-k-test.true c.place_of-here.ensures _ c.is_pending-pending.ensures _ c.next_at-next.ensures (c.in-Play.is ∙ ap Plays c.in-Order.is)) _ c.may_open.ensures c.order_question-answer.ensures c.if-answer-ne0-2.true
+    order-refused _ _ _ _ _ _ _ _ _ _ (reading _ _ _ _ _ _ _ _ _ _ _ _ c.loop-k.invariant c.loop-k-test.true c.place_of-here.ensures _ c.is_pending-pending.ensures _ c.next_at-next.ensures (c.in-Play.is ∙ ap Plays c.in-Order.is)) _ c.may_open.ensures (c.answer_number-answer-in-Order.ensures ∙ ap number c.order_question.ensures) c.if-answer-ne0-2.true
 
 pub loop-i-init : goal.loop-i-init
 loop-i-init c =
@@ -206,7 +207,7 @@ unfolding fresh_station fresh unsent_all new_row
 loop-k-preserved-then-not-m c =
     let i = c.loop-i.invariant in
     let all : c.loop-i.i ≡ min c.loop-k.m.n (length c.loop-k.stations) = order-size _ c.loop-k.stations _ _ c.order_opened-m.ensures _ _ c.up_to_limit-end.ensures i.1 (omega (arith, i.0, c.loop-i-test.false)) in
-    order_quiet _ _ _ _ _ _ _ _ _ _ (reading _ _ _ _ _ _ _ _ _ _ _ _ c.loop-k.invariant c.loop-k-test.true c.place_of-here.ensures _ c.is_pending-pending.ensures _ c.next_at-next.ensures (c.in-Play.is ∙ ap Plays c.in-Order.is)) _ c.may_open.ensures c.order_question-answer.ensures c.if-answer-ne0-2.false _ c.order_opened-m.ensures c.if-not-m.true _ (i.2 ∙ first-all renewed c.loop-k.m.n c.loop-i.i c.loop-k.stations all)
+    order_quiet _ _ _ _ _ _ _ _ _ _ (reading _ _ _ _ _ _ _ _ _ _ _ _ c.loop-k.invariant c.loop-k-test.true c.place_of-here.ensures _ c.is_pending-pending.ensures _ c.next_at-next.ensures (c.in-Play.is ∙ ap Plays c.in-Order.is)) _ c.may_open.ensures (c.answer_number-answer-in-Order.ensures ∙ ap number c.order_question.ensures) c.if-answer-ne0-2.false _ c.order_opened-m.ensures c.if-not-m.true _ (i.2 ∙ first-all renewed c.loop-k.m.n c.loop-i.i c.loop-k.stations all)
 
 pub loop-k-smaller-in-Order : goal.loop-k-smaller-in-Order
 loop-k-smaller-in-Order c =
@@ -217,7 +218,7 @@ unfolding fresh_station fresh unsent_all new_row
 loop-k-preserved-in-Order c =
     let i = c.loop-i.invariant in
     let all : c.loop-i.i ≡ min c.loop-k.m.n (length c.loop-k.stations) = order-size _ c.loop-k.stations _ _ c.order_opened-m.ensures _ _ c.up_to_limit-end.ensures i.1 (omega (arith, i.0, c.loop-i-test.false)) in
-    order-accepted _ _ _ _ _ _ _ _ _ _ (reading _ _ _ _ _ _ _ _ _ _ _ _ c.loop-k.invariant c.loop-k-test.true c.place_of-here.ensures _ c.is_pending-pending.ensures _ c.next_at-next.ensures (c.in-Play.is ∙ ap Plays c.in-Order.is)) _ c.may_open.ensures c.order_question-answer.ensures c.if-answer-ne0-2.false _ c.order_opened-m.ensures _ (i.2 ∙ first-all renewed c.loop-k.m.n c.loop-i.i c.loop-k.stations all) _ (new-ballots _ _ c.new_acceptor-acceptors-in-Order.ensures c.new_row-rows-in-Order.ensures)
+    order-accepted _ _ _ _ _ _ _ _ _ _ (reading _ _ _ _ _ _ _ _ _ _ _ _ c.loop-k.invariant c.loop-k-test.true c.place_of-here.ensures _ c.is_pending-pending.ensures _ c.next_at-next.ensures (c.in-Play.is ∙ ap Plays c.in-Order.is)) _ c.may_open.ensures (c.answer_number-answer-in-Order.ensures ∙ ap number c.order_question.ensures) c.if-answer-ne0-2.false _ c.order_opened-m.ensures _ (i.2 ∙ first-all renewed c.loop-k.m.n c.loop-i.i c.loop-k.stations all) _ (new-ballots _ _ c.new_acceptor-acceptors-in-Order.ensures c.new_row-rows-in-Order.ensures)
 
 pub bounds-answers-here-in-Cast : goal.bounds-answers-here-in-Cast
 bounds-answers-here-in-Cast c =
@@ -236,7 +237,7 @@ pub loop-k-preserved-then-answer-ne0-3 : goal.loop-k-preserved-then-answer-ne0-3
 unfolding fresh_station fresh unsent_all
 loop-k-preserved-then-answer-ne0-3 c =
     cast-refused _ _ _ _ _ _ _ _ _ _ _ c.seat-at.ensures _ c.condition_of.ensures _ _
-    (reading _ _ _ _ _ _ _ _ _ _ _ _ c.loop-k.invariant c.loop-k-test.true c.place_of-here.ensures _ c.is_pending-pending.ensures _ c.next_at-next.ensures (c.in-Play.is ∙ ap Plays c.in-Cast.is)) (c.cast_question-answer.ensures true)
+    (reading _ _ _ _ _ _ _ _ _ _ _ _ c.loop-k.invariant c.loop-k-test.true c.place_of-here.ensures _ c.is_pending-pending.ensures _ c.next_at-next.ensures (c.in-Play.is ∙ ap Plays c.in-Cast.is)) (c.answer_number-answer-in-Cast.ensures ∙ ap number (c.cast_question.ensures true))
     c.if-answer-ne0-3.true
 
 pub offset_bounds-stations-at-in-Cast-2 : goal.offset_bounds-stations-at-in-Cast-2
@@ -253,7 +254,7 @@ pub loop-k-preserved-in-Cast : goal.loop-k-preserved-in-Cast
 unfolding fresh_station fresh unsent_all
 loop-k-preserved-in-Cast c =
     cast-accepted _ _ _ _ _ _ _ _ _ _ _ c.seat-at.ensures _ c.condition_of.ensures _ _
-    (reading _ _ _ _ _ _ _ _ _ _ _ _ c.loop-k.invariant c.loop-k-test.true c.place_of-here.ensures _ c.is_pending-pending.ensures _ c.next_at-next.ensures (c.in-Play.is ∙ ap Plays c.in-Cast.is)) (c.cast_question-answer.ensures true)
+    (reading _ _ _ _ _ _ _ _ _ _ _ _ c.loop-k.invariant c.loop-k-test.true c.place_of-here.ensures _ c.is_pending-pending.ensures _ c.next_at-next.ensures (c.in-Play.is ∙ ap Plays c.in-Cast.is)) (c.answer_number-answer-in-Cast.ensures ∙ ap number (c.cast_question.ensures true))
     c.if-answer-ne0-3.false _ c.cast_turn.ensures
 
 pub bounds-answers-here-in-Deliver : goal.bounds-answers-here-in-Deliver
@@ -273,7 +274,7 @@ pub loop-k-preserved-then-answer-ne0-4 : goal.loop-k-preserved-then-answer-ne0-4
 unfolding fresh_station fresh unsent_all
 loop-k-preserved-then-answer-ne0-4 c =
     delivery-refused _ _ _ _ _ _ _ _ _ _ _ c.seat-at-in-Deliver.ensures _ c.condition_of-in-Deliver.ensures _ _ c.seat-origin.ensures _ _ c.outgoing-out.ensures
-    (reading _ _ _ _ _ _ _ _ _ _ _ _ c.loop-k.invariant c.loop-k-test.true c.place_of-here.ensures _ c.is_pending-pending.ensures _ c.next_at-next.ensures (c.in-Play.is ∙ ap Plays c.in-Deliver.is)) c.deliver_question-answer.ensures
+    (reading _ _ _ _ _ _ _ _ _ _ _ _ c.loop-k.invariant c.loop-k-test.true c.place_of-here.ensures _ c.is_pending-pending.ensures _ c.next_at-next.ensures (c.in-Play.is ∙ ap Plays c.in-Deliver.is)) (c.answer_number-answer-in-Deliver.ensures ∙ ap number c.deliver_question.ensures)
     c.if-answer-ne0-4.true
 
 pub offset_bounds-stations-at-in-Vote-2 : goal.offset_bounds-stations-at-in-Vote-2
@@ -290,7 +291,7 @@ pub loop-k-preserved-in-Vote : goal.loop-k-preserved-in-Vote
 unfolding fresh_station fresh unsent_all
 loop-k-preserved-in-Vote c =
     vote-accepted _ _ _ _ _ _ _ _ _ _ _ c.seat-at-in-Deliver.ensures _ c.condition_of-in-Deliver.ensures _ _ c.seat-origin.ensures _ _ c.outgoing-out.ensures
-    (reading _ _ _ _ _ _ _ _ _ _ _ _ c.loop-k.invariant c.loop-k-test.true c.place_of-here.ensures _ c.is_pending-pending.ensures _ c.next_at-next.ensures (c.in-Play.is ∙ ap Plays c.in-Deliver.is)) c.deliver_question-answer.ensures
+    (reading _ _ _ _ _ _ _ _ _ _ _ _ c.loop-k.invariant c.loop-k-test.true c.place_of-here.ensures _ c.is_pending-pending.ensures _ c.next_at-next.ensures (c.in-Play.is ∙ ap Plays c.in-Deliver.is)) (c.answer_number-answer-in-Deliver.ensures ∙ ap number c.deliver_question.ensures)
     c.in-Vote.is c.if-answer-ne0-4.false _ c.vote_turn.ensures
 
 pub loop-k-smaller-then-not-takes_ack : goal.loop-k-smaller-then-not-takes_ack
@@ -301,7 +302,7 @@ pub loop-k-preserved-then-not-takes_ack : goal.loop-k-preserved-then-not-takes_a
 unfolding fresh_station fresh unsent_all
 loop-k-preserved-then-not-takes_ack c =
     ack-passed-over _ _ _ _ _ _ _ _ _ _ _ c.seat-at-in-Deliver.ensures _ c.condition_of-in-Deliver.ensures _ _ c.seat-origin.ensures _ _ c.outgoing-out.ensures
-    (reading _ _ _ _ _ _ _ _ _ _ _ _ c.loop-k.invariant c.loop-k-test.true c.place_of-here.ensures _ c.is_pending-pending.ensures _ c.next_at-next.ensures (c.in-Play.is ∙ ap Plays c.in-Deliver.is)) c.deliver_question-answer.ensures
+    (reading _ _ _ _ _ _ _ _ _ _ _ _ c.loop-k.invariant c.loop-k-test.true c.place_of-here.ensures _ c.is_pending-pending.ensures _ c.next_at-next.ensures (c.in-Play.is ∙ ap Plays c.in-Deliver.is)) (c.answer_number-answer-in-Deliver.ensures ∙ ap number c.deliver_question.ensures)
     c.in-Ack.is c.if-answer-ne0-4.false _ c.condition_of-condition.ensures _ c.takes_ack.ensures (c.if-not-takes_ack.true)
 
 pub offset_bounds-stations-at-in-Ack-5 : goal.offset_bounds-stations-at-in-Ack-5
@@ -318,7 +319,7 @@ pub loop-k-preserved-then-not-waiting : goal.loop-k-preserved-then-not-waiting
 unfolding fresh_station fresh unsent_all
 loop-k-preserved-then-not-waiting c =
     ack-held _ _ _ _ _ _ _ _ _ _ _ c.seat-at-in-Deliver.ensures _ c.condition_of-in-Deliver.ensures _ _ c.seat-origin.ensures _ _ c.outgoing-out.ensures
-    (reading _ _ _ _ _ _ _ _ _ _ _ _ c.loop-k.invariant c.loop-k-test.true c.place_of-here.ensures _ c.is_pending-pending.ensures _ c.next_at-next.ensures (c.in-Play.is ∙ ap Plays c.in-Deliver.is)) c.deliver_question-answer.ensures
+    (reading _ _ _ _ _ _ _ _ _ _ _ _ c.loop-k.invariant c.loop-k-test.true c.place_of-here.ensures _ c.is_pending-pending.ensures _ c.next_at-next.ensures (c.in-Play.is ∙ ap Plays c.in-Deliver.is)) (c.answer_number-answer-in-Deliver.ensures ∙ ap number c.deliver_question.ensures)
     c.in-Ack.is c.if-answer-ne0-4.false _ c.condition_of-condition.ensures _ c.takes_ack.ensures (c.if-not-takes_ack.false) (c.if-not-waiting.true) _ _ _ c.insert.ensures c.bump.ensures refl
 
 pub offset_bounds-stations-at-in-Ack-7 : goal.offset_bounds-stations-at-in-Ack-7
@@ -335,7 +336,7 @@ pub loop-k-preserved-in-Ack : goal.loop-k-preserved-in-Ack
 unfolding fresh_station fresh unsent_all
 loop-k-preserved-in-Ack c =
     ack-put _ _ _ _ _ _ _ _ _ _ _ c.seat-at-in-Deliver.ensures _ c.condition_of-in-Deliver.ensures _ _ c.seat-origin.ensures _ _ c.outgoing-out.ensures
-    (reading _ _ _ _ _ _ _ _ _ _ _ _ c.loop-k.invariant c.loop-k-test.true c.place_of-here.ensures _ c.is_pending-pending.ensures _ c.next_at-next.ensures (c.in-Play.is ∙ ap Plays c.in-Deliver.is)) c.deliver_question-answer.ensures
+    (reading _ _ _ _ _ _ _ _ _ _ _ _ c.loop-k.invariant c.loop-k-test.true c.place_of-here.ensures _ c.is_pending-pending.ensures _ c.next_at-next.ensures (c.in-Play.is ∙ ap Plays c.in-Deliver.is)) (c.answer_number-answer-in-Deliver.ensures ∙ ap number c.deliver_question.ensures)
     c.in-Ack.is c.if-answer-ne0-4.false _ c.condition_of-condition.ensures _ c.takes_ack.ensures (c.if-not-takes_ack.false) _ _ _ c.insert.ensures c.bump.ensures refl _ c.settled_turn-t.ensures
 
 pub offset_bounds-stations-at-in-Help-2 : goal.offset_bounds-stations-at-in-Help-2
@@ -352,7 +353,7 @@ pub loop-k-preserved-in-Help : goal.loop-k-preserved-in-Help
 unfolding fresh_station fresh unsent_all
 loop-k-preserved-in-Help c =
     help-accepted _ _ _ _ _ _ _ _ _ _ _ c.seat-at-in-Deliver.ensures _ c.condition_of-in-Deliver.ensures _ _ c.seat-origin.ensures _ _ c.outgoing-out.ensures
-    (reading _ _ _ _ _ _ _ _ _ _ _ _ c.loop-k.invariant c.loop-k-test.true c.place_of-here.ensures _ c.is_pending-pending.ensures _ c.next_at-next.ensures (c.in-Play.is ∙ ap Plays c.in-Deliver.is)) c.deliver_question-answer.ensures
+    (reading _ _ _ _ _ _ _ _ _ _ _ _ c.loop-k.invariant c.loop-k-test.true c.place_of-here.ensures _ c.is_pending-pending.ensures _ c.next_at-next.ensures (c.in-Play.is ∙ ap Plays c.in-Deliver.is)) (c.answer_number-answer-in-Deliver.ensures ∙ ap number c.deliver_question.ensures)
     c.in-Help.is c.if-answer-ne0-4.false _ c.help_turn.ensures
 
 pub offset_bounds-stations-at-in-Helped-2 : goal.offset_bounds-stations-at-in-Helped-2
@@ -369,7 +370,7 @@ pub loop-k-preserved-in-Helped : goal.loop-k-preserved-in-Helped
 unfolding fresh_station fresh unsent_all
 loop-k-preserved-in-Helped c =
     helped-accepted _ _ _ _ _ _ _ _ _ _ _ c.seat-at-in-Deliver.ensures _ c.condition_of-in-Deliver.ensures _ _ c.seat-origin.ensures _ _ c.outgoing-out.ensures
-    (reading _ _ _ _ _ _ _ _ _ _ _ _ c.loop-k.invariant c.loop-k-test.true c.place_of-here.ensures _ c.is_pending-pending.ensures _ c.next_at-next.ensures (c.in-Play.is ∙ ap Plays c.in-Deliver.is)) c.deliver_question-answer.ensures
+    (reading _ _ _ _ _ _ _ _ _ _ _ _ c.loop-k.invariant c.loop-k-test.true c.place_of-here.ensures _ c.is_pending-pending.ensures _ c.next_at-next.ensures (c.in-Play.is ∙ ap Plays c.in-Deliver.is)) (c.answer_number-answer-in-Deliver.ensures ∙ ap number c.deliver_question.ensures)
     c.in-Helped.is c.if-answer-ne0-4.false _ c.outgoing-out-in-Helped.ensures _ c.helped_turn-t.ensures
 
 pub bounds-answers-here-in-Timeout : goal.bounds-answers-here-in-Timeout
@@ -389,7 +390,7 @@ pub loop-k-preserved-then-answer-ne0-5 : goal.loop-k-preserved-then-answer-ne0-5
 unfolding fresh_station fresh unsent_all
 loop-k-preserved-then-answer-ne0-5 c =
     timeout-refused _ _ _ _ _ _ _ _ _ _ _ c.seat-at-in-Timeout.ensures _ c.condition_of-condition-in-Timeout.ensures
-    (reading _ _ _ _ _ _ _ _ _ _ _ _ c.loop-k.invariant c.loop-k-test.true c.place_of-here.ensures _ c.is_pending-pending.ensures _ c.next_at-next.ensures (c.in-Play.is ∙ ap Plays c.in-Timeout.is)) c.timeout_question-answer.ensures
+    (reading _ _ _ _ _ _ _ _ _ _ _ _ c.loop-k.invariant c.loop-k-test.true c.place_of-here.ensures _ c.is_pending-pending.ensures _ c.next_at-next.ensures (c.in-Play.is ∙ ap Plays c.in-Timeout.is)) (c.answer_number-answer-in-Timeout.ensures ∙ ap number c.timeout_question.ensures)
     c.if-answer-ne0-5.true
 
 pub offset_bounds-stations-at-then-phase_in-eq1-2 : goal.offset_bounds-stations-at-then-phase_in-eq1-2
@@ -406,7 +407,7 @@ pub loop-k-preserved-then-phase_in-eq1 : goal.loop-k-preserved-then-phase_in-eq1
 unfolding fresh_station fresh unsent_all
 loop-k-preserved-then-phase_in-eq1 c =
     first-laid _ _ _ _ _ _ _ _ _ _ _ c.seat-at-in-Timeout.ensures _ c.condition_of-condition-in-Timeout.ensures
-    (reading _ _ _ _ _ _ _ _ _ _ _ _ c.loop-k.invariant c.loop-k-test.true c.place_of-here.ensures _ c.is_pending-pending.ensures _ c.next_at-next.ensures (c.in-Play.is ∙ ap Plays c.in-Timeout.is)) c.timeout_question-answer.ensures
+    (reading _ _ _ _ _ _ _ _ _ _ _ _ c.loop-k.invariant c.loop-k-test.true c.place_of-here.ensures _ c.is_pending-pending.ensures _ c.next_at-next.ensures (c.in-Play.is ∙ ap Plays c.in-Timeout.is)) (c.answer_number-answer-in-Timeout.ensures ∙ ap number c.timeout_question.ensures)
     c.if-answer-ne0-5.false _ (c.phase_in.ensures ∙ ap phase_in c.condition_of-condition-in-Timeout.ensures) c.if-phase_in-eq1.true _ c.counts_own-counts.ensures _ c.set_if.ensures _ c.from_if.ensures _ c.cnt_if.ensures _ refl _ c.first_turn.ensures
 
 pub offset_bounds-stations-at-in-Timeout-3 : goal.offset_bounds-stations-at-in-Timeout-3
@@ -423,7 +424,7 @@ pub loop-k-preserved-in-Timeout : goal.loop-k-preserved-in-Timeout
 unfolding fresh_station fresh unsent_all
 loop-k-preserved-in-Timeout c =
     second-accepted _ _ _ _ _ _ _ _ _ _ _ c.seat-at-in-Timeout.ensures _ c.condition_of-condition-in-Timeout.ensures
-    (reading _ _ _ _ _ _ _ _ _ _ _ _ c.loop-k.invariant c.loop-k-test.true c.place_of-here.ensures _ c.is_pending-pending.ensures _ c.next_at-next.ensures (c.in-Play.is ∙ ap Plays c.in-Timeout.is)) c.timeout_question-answer.ensures
+    (reading _ _ _ _ _ _ _ _ _ _ _ _ c.loop-k.invariant c.loop-k-test.true c.place_of-here.ensures _ c.is_pending-pending.ensures _ c.next_at-next.ensures (c.in-Play.is ∙ ap Plays c.in-Timeout.is)) (c.answer_number-answer-in-Timeout.ensures ∙ ap number c.timeout_question.ensures)
     c.if-answer-ne0-5.false (λ z. c.if-phase_in-eq1.false (c.phase_in.ensures ∙ ap phase_in c.condition_of-condition-in-Timeout.ensures ∙ z)) _ c.second_turn-t.ensures
 
 pub loop-i-2-init : goal.loop-i-2-init
@@ -463,7 +464,7 @@ unfolding fresh_station fresh unsent_all new_row
 loop-k-preserved-then-answer-ne0-6 c =
     let end : c.loop-i-2.i ≡ c.ballots_asked-end.result = omega (arith, c.loop-i-2.invariant.0, c.loop-i-2-test.false) in
     decide-refused _ _ _ _ _ _ _ _ _ _ _ c.seat-at-in-Decide.ensures _ c.condition_of-in-Decide.ensures _ _ (may_give_lem c.loop-k.m _ _ _ _ _ _ c.ballots_asked-end.ensures.0 end c.loop-i-2.invariant.1 c.may_give-may.ensures)
-    (reading _ _ _ _ _ _ _ _ _ _ _ _ c.loop-k.invariant c.loop-k-test.true c.place_of-here.ensures _ c.is_pending-pending.ensures _ c.next_at-next.ensures (c.in-Play.is ∙ ap Plays c.in-Decide.is)) (c.decide_question-answer.ensures false) c.if-answer-ne0-6.true
+    (reading _ _ _ _ _ _ _ _ _ _ _ _ c.loop-k.invariant c.loop-k-test.true c.place_of-here.ensures _ c.is_pending-pending.ensures _ c.next_at-next.ensures (c.in-Play.is ∙ ap Plays c.in-Decide.is)) (c.answer_number-answer-in-Decide.ensures ∙ ap number (c.decide_question.ensures false)) c.if-answer-ne0-6.true
 
 pub offset_bounds-stations-at-in-Decide-3 : goal.offset_bounds-stations-at-in-Decide-3
 offset_bounds-stations-at-in-Decide-3 c = omega (arith, c.seat-at-in-Decide.ensures.0)
@@ -480,7 +481,7 @@ unfolding fresh_station fresh unsent_all new_row
 loop-k-preserved-in-Decide c =
     let end : c.loop-i-2.i ≡ c.ballots_asked-end.result = omega (arith, c.loop-i-2.invariant.0, c.loop-i-2-test.false) in
     decide-accepted _ _ _ _ _ _ _ _ _ _ _ c.seat-at-in-Decide.ensures _ c.condition_of-in-Decide.ensures _ _ (may_give_lem c.loop-k.m _ _ _ _ _ _ c.ballots_asked-end.ensures.0 end c.loop-i-2.invariant.1 c.may_give-may.ensures)
-    (reading _ _ _ _ _ _ _ _ _ _ _ _ c.loop-k.invariant c.loop-k-test.true c.place_of-here.ensures _ c.is_pending-pending.ensures _ c.next_at-next.ensures (c.in-Play.is ∙ ap Plays c.in-Decide.is)) (c.decide_question-answer.ensures false) c.if-answer-ne0-6.false _ c.decide_turn-t.ensures
+    (reading _ _ _ _ _ _ _ _ _ _ _ _ c.loop-k.invariant c.loop-k-test.true c.place_of-here.ensures _ c.is_pending-pending.ensures _ c.next_at-next.ensures (c.in-Play.is ∙ ap Plays c.in-Decide.is)) (c.answer_number-answer-in-Decide.ensures ∙ ap number (c.decide_question.ensures false)) c.if-answer-ne0-6.false _ c.decide_turn-t.ensures
 
 pub bounds-answers-here-in-Stop : goal.bounds-answers-here-in-Stop
 bounds-answers-here-in-Stop c =
@@ -499,7 +500,7 @@ pub loop-k-preserved-then-answer-ne0-7 : goal.loop-k-preserved-then-answer-ne0-7
 unfolding fresh_station fresh unsent_all
 loop-k-preserved-then-answer-ne0-7 c =
     stop-refused _ _ _ _ _ _ _ _ _ _ _ c.seat-at-in-Stop.ensures _ c.condition_of-in-Stop.ensures
-    (reading _ _ _ _ _ _ _ _ _ _ _ _ c.loop-k.invariant c.loop-k-test.true c.place_of-here.ensures _ c.is_pending-pending.ensures _ c.next_at-next.ensures (c.in-Play.is ∙ ap Plays c.in-Stop.is)) c.present_question-answer.ensures.value
+    (reading _ _ _ _ _ _ _ _ _ _ _ _ c.loop-k.invariant c.loop-k-test.true c.place_of-here.ensures _ c.is_pending-pending.ensures _ c.next_at-next.ensures (c.in-Play.is ∙ ap Plays c.in-Stop.is)) (c.answer_number-answer-in-Stop.ensures ∙ ap number c.present_question.ensures.value)
     c.if-answer-ne0-7.true
 
 pub offset_bounds-stations-at-in-Stop-3 : goal.offset_bounds-stations-at-in-Stop-3
@@ -516,7 +517,7 @@ pub loop-k-preserved-in-Stop : goal.loop-k-preserved-in-Stop
 unfolding fresh_station fresh unsent_all
 loop-k-preserved-in-Stop c =
     stop-accepted _ _ _ _ _ _ _ _ _ _ _ c.seat-at-in-Stop.ensures _ c.condition_of-in-Stop.ensures
-    (reading _ _ _ _ _ _ _ _ _ _ _ _ c.loop-k.invariant c.loop-k-test.true c.place_of-here.ensures _ c.is_pending-pending.ensures _ c.next_at-next.ensures (c.in-Play.is ∙ ap Plays c.in-Stop.is)) c.present_question-answer.ensures.value
+    (reading _ _ _ _ _ _ _ _ _ _ _ _ c.loop-k.invariant c.loop-k-test.true c.place_of-here.ensures _ c.is_pending-pending.ensures _ c.next_at-next.ensures (c.in-Play.is ∙ ap Plays c.in-Stop.is)) (c.answer_number-answer-in-Stop.ensures ∙ ap number c.present_question.ensures.value)
     c.if-answer-ne0-7.false _ c.stop_turn-t.ensures
 
 pub bounds-answers-here-in-Save : goal.bounds-answers-here-in-Save
@@ -536,7 +537,7 @@ pub loop-k-preserved-then-answer-ne0-8 : goal.loop-k-preserved-then-answer-ne0-8
 unfolding fresh_station fresh unsent_all
 loop-k-preserved-then-answer-ne0-8 c =
     save-refused _ _ _ _ _ _ _ _ _ _ _ c.seat-at-in-Save.ensures _ c.condition_of-in-Save.ensures
-    (reading _ _ _ _ _ _ _ _ _ _ _ _ c.loop-k.invariant c.loop-k-test.true c.place_of-here.ensures _ c.is_pending-pending.ensures _ c.next_at-next.ensures (c.in-Play.is ∙ ap Plays c.in-Save.is)) c.present_question-answer-in-Save.ensures.value_2
+    (reading _ _ _ _ _ _ _ _ _ _ _ _ c.loop-k.invariant c.loop-k-test.true c.place_of-here.ensures _ c.is_pending-pending.ensures _ c.next_at-next.ensures (c.in-Play.is ∙ ap Plays c.in-Save.is)) (c.answer_number-answer-in-Save.ensures ∙ ap number c.present_question-in-Save.ensures.value_2)
     c.if-answer-ne0-8.true
 
 pub offset_bounds-stations-at-in-Save-3 : goal.offset_bounds-stations-at-in-Save-3
@@ -553,7 +554,7 @@ pub loop-k-preserved-in-Save : goal.loop-k-preserved-in-Save
 unfolding fresh_station fresh unsent_all
 loop-k-preserved-in-Save c =
     save-accepted _ _ _ _ _ _ _ _ _ _ _ c.seat-at-in-Save.ensures _ c.condition_of-in-Save.ensures
-    (reading _ _ _ _ _ _ _ _ _ _ _ _ c.loop-k.invariant c.loop-k-test.true c.place_of-here.ensures _ c.is_pending-pending.ensures _ c.next_at-next.ensures (c.in-Play.is ∙ ap Plays c.in-Save.is)) c.present_question-answer-in-Save.ensures.value_2
+    (reading _ _ _ _ _ _ _ _ _ _ _ _ c.loop-k.invariant c.loop-k-test.true c.place_of-here.ensures _ c.is_pending-pending.ensures _ c.next_at-next.ensures (c.in-Play.is ∙ ap Plays c.in-Save.is)) (c.answer_number-answer-in-Save.ensures ∙ ap number c.present_question-in-Save.ensures.value_2)
     c.if-answer-ne0-8.false _ c.save_turn.ensures
 
 pub bounds-answers-here-in-Restore : goal.bounds-answers-here-in-Restore
@@ -573,7 +574,7 @@ pub loop-k-preserved-then-answer-ne0-9 : goal.loop-k-preserved-then-answer-ne0-9
 unfolding fresh_station fresh unsent_all
 loop-k-preserved-then-answer-ne0-9 c =
     restore-refused _ _ _ _ _ _ _ _ _ _ _ c.seat-at-in-Restore.ensures _ c.condition_of-in-Restore.ensures _ c.is_saved.ensures
-    (reading _ _ _ _ _ _ _ _ _ _ _ _ c.loop-k.invariant c.loop-k-test.true c.place_of-here.ensures _ c.is_pending-pending.ensures _ c.next_at-next.ensures (c.in-Play.is ∙ ap Plays c.in-Restore.is)) c.restore_question-answer.ensures
+    (reading _ _ _ _ _ _ _ _ _ _ _ _ c.loop-k.invariant c.loop-k-test.true c.place_of-here.ensures _ c.is_pending-pending.ensures _ c.next_at-next.ensures (c.in-Play.is ∙ ap Plays c.in-Restore.is)) (c.answer_number-answer-in-Restore.ensures ∙ ap number c.restore_question.ensures)
     c.if-answer-ne0-9.true
 
 pub offset_bounds-stations-at-in-Restore-3 : goal.offset_bounds-stations-at-in-Restore-3
@@ -590,7 +591,7 @@ pub loop-k-preserved-in-Restore : goal.loop-k-preserved-in-Restore
 unfolding fresh_station fresh unsent_all
 loop-k-preserved-in-Restore c =
     restore-accepted _ _ _ _ _ _ _ _ _ _ _ c.seat-at-in-Restore.ensures _ c.condition_of-in-Restore.ensures _ c.is_saved.ensures
-    (reading _ _ _ _ _ _ _ _ _ _ _ _ c.loop-k.invariant c.loop-k-test.true c.place_of-here.ensures _ c.is_pending-pending.ensures _ c.next_at-next.ensures (c.in-Play.is ∙ ap Plays c.in-Restore.is)) c.restore_question-answer.ensures
+    (reading _ _ _ _ _ _ _ _ _ _ _ _ c.loop-k.invariant c.loop-k-test.true c.place_of-here.ensures _ c.is_pending-pending.ensures _ c.next_at-next.ensures (c.in-Play.is ∙ ap Plays c.in-Restore.is)) (c.answer_number-answer-in-Restore.ensures ∙ ap number c.restore_question.ensures)
     c.if-answer-ne0-9.false _ c.restore_turn-t.ensures
 
 pub offset_bounds-rows-place : goal.offset_bounds-rows-place
@@ -644,6 +645,17 @@ offset_bounds-rows-place-in-OfBallots-2 c = omega (arith, c.slot-place.ensures.0
 pub bounds-rows-place-in-OfBallots-2 : goal.bounds-rows-place-in-OfBallots-2
 bounds-rows-place-in-OfBallots-2 c = omega (arith, c.slot-place.ensures.0)
 
+pub loop-k-smaller-in_default : goal.loop-k-smaller-in_default
+loop-k-smaller-in_default c =
+    omega (arith, c.loop-k-test.true)
+
+pub loop-k-preserved-in_default : goal.loop-k-preserved-in_default
+unfolding fresh_station fresh unsent_all new_row
+loop-k-preserved-in_default c =
+    turn-refused _ _ _ _ _ _ _ _ _ (reading _ _ _ _ _ _ _ _ _ _ _ _ c.loop-k.invariant c.loop-k-test.true c.place_of-here.ensures _ c.is_pending-pending.ensures _ c.next_at-next.ensures (c.in-Play.is ∙ ap Plays (c.in-OfBallots.is ∙ ap OfBallots (sym c.rebuilt-e.ensures))))
+    _ c.subject_of.ensures _ c.seat-at-in-OfBallots.ensures _ c.ballot_of.ensures _ c.slot-place.ensures
+    _ c.report_in-last.ensures _ c.slot_reported.ensures _ c.word_in-reported.ensures _ c.ballot_turn-turn.ensures _ c.answer_number.ensures _ c.in_default.is
+
 pub loop-k-smaller : goal.loop-k-smaller
 loop-k-smaller c =
     omega (arith, c.loop-k-test.true)
@@ -651,9 +663,9 @@ loop-k-smaller c =
 pub loop-k-preserved : goal.loop-k-preserved
 unfolding fresh_station fresh unsent_all new_row
 loop-k-preserved c =
-    ballot_played _ _ _ _ _ _ _ _ _ (reading _ _ _ _ _ _ _ _ _ _ _ _ c.loop-k.invariant c.loop-k-test.true c.place_of-here.ensures _ c.is_pending-pending.ensures _ c.next_at-next.ensures (c.in-Play.is ∙ ap Plays (c.in-OfBallots.is ∙ ap OfBallots (sym c.rebuilt-e.ensures))))
+    turn-accepted _ _ _ _ _ _ _ _ _ (reading _ _ _ _ _ _ _ _ _ _ _ _ c.loop-k.invariant c.loop-k-test.true c.place_of-here.ensures _ c.is_pending-pending.ensures _ c.next_at-next.ensures (c.in-Play.is ∙ ap Plays (c.in-OfBallots.is ∙ ap OfBallots (sym c.rebuilt-e.ensures))))
     _ c.subject_of.ensures _ c.seat-at-in-OfBallots.ensures _ c.ballot_of.ensures _ c.slot-place.ensures
-    _ c.report_in-last.ensures _ c.slot_reported.ensures _ c.word_in-reported.ensures _ c.ballot_turn-t.ensures
+    _ c.report_in-last.ensures _ c.slot_reported.ensures _ c.word_in-reported.ensures _ c.ballot_turn-turn.ensures _ c.answer_number.ensures _ c.in-Ok.is
 
 pub returns : goal.returns
 returns c =

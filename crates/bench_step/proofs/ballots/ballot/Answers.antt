@@ -1,38 +1,33 @@
 -- An event of ballots: its questions and its answer, on what is read of the bench.
-use mathlib.Core.Path.{◌≡◌, sym, ◌∙◌}
+use mathlib.Core.Path.{◌≡◌}
+use Rattle.std.proofs.lemmas.Result.{err_from_is_err_and}
+use Rattle.model.specs.Refusals.{reply_of}
 use Rattle.model.specs.declared.Event.TheVariants.{OfBallots}
 use Rattle.protocol.specs.Ballots.{acceptor}
-use Rattle.protocol.specs.Questions.{number, reply}
-use Rattle.bench_step.proofs.BallotLaws.{asked-read, placed, answer_read, put-answer}
-use Rattle.bench_step.proofs.StepLaws.{refuses, accepts}
+use Rattle.protocol.specs.Questions.{reply}
+use Rattle.bench_step.proofs.BallotLaws.{asked-read, answer_read, put-answer}
+use Rattle.bench_step.proofs.StepLaws.{yes, refuses, accepts}
+use Rattle.bench_step.proofs.ballots.ballot.Goals.{After-ballot_question}
 use Rattle.bench_step.proofs.ballots.ballot.Goals as goal
 
-pub returns-then-answer-ne0 : goal.returns-then-answer-ne0
+asked : (c : After-ballot_question) → reply_of c.ballot_question.result ≡ reply c.args.b (OfBallots c.args.e)
 unfolding acceptor
-returns-then-answer-ne0 c =
-    let asked : c.ballot_question-answer.result ≡ number (reply c.args.b (OfBallots c.args.e)) =
-    rw (c.ballot_question-answer.ensures, c.condition_of.ensures, c.row_at-row.ensures.value, c.acceptor_at-a.ensures, c.ballot_of-number.ensures, c.proposal_of-own.ensures, c.station_at-s.ensures.value, c.subject_of-id.ensures)
-    (asked-read c.args.b c.args.e c.row_at-row.ensures.rows_len) in
-    refuses c.args.b (OfBallots c.args.e) _ asked c.if-answer-ne0.true
+asked c =
+    rw (c.ballot_question.ensures, c.condition_of.ensures, c.row_at-row.ensures.value, c.nth-a.ensures, c.new_acceptor.ensures, c.ballot_of-number.ensures, c.proposal_of-own.ensures, c.station_at-s.ensures.value, c.subject_of-id.ensures)
+    (asked-read c.args.b c.args.e c.row_at-row.ensures.rows_len)
 
-pub answered-requires : goal.answered-requires
-unfolding acceptor
-answered-requires c =
-    let asked : c.ballot_question-answer.result ≡ number (reply c.args.b (OfBallots c.args.e)) =
-    rw (c.ballot_question-answer.ensures, c.condition_of.ensures, c.row_at-row.ensures.value, c.acceptor_at-a.ensures, c.ballot_of-number.ensures, c.proposal_of-own.ensures, c.station_at-s.ensures.value, c.subject_of-id.ensures)
-    (asked-read c.args.b c.args.e c.row_at-row.ensures.rows_len) in
-    let zero : number (reply c.args.b (OfBallots c.args.e)) ≡ 0 = sym asked ∙ c.if-answer-ne0.false in
-    rw (c.ballot_of-number.ensures, c.subject_of-id.ensures) (placed c.args.b c.args.e c.row_at-row.ensures.rows_len zero)
+pub returns-in_err-ballot_question : goal.returns-in_err-ballot_question
+returns-in_err-ballot_question c =
+    let p = err_from_is_err_and c.from_residual.result c.from_residual.ensures.1 in
+    rw (p.1, p.2) (refuses c.args.b (OfBallots c.args.e) _ (asked (goal.at.returns-in_err-ballot_question c).After-ballot_question) _ c.in_err-ballot_question.was)
 
 pub returns : goal.returns
 unfolding acceptor
 returns c =
-    let asked : c.ballot_question-answer.result ≡ number (reply c.args.b (OfBallots c.args.e)) =
-    rw (c.ballot_question-answer.ensures, c.condition_of.ensures, c.row_at-row.ensures.value, c.acceptor_at-a.ensures, c.ballot_of-number.ensures, c.proposal_of-own.ensures, c.station_at-s.ensures.value, c.subject_of-id.ensures)
-    (asked-read c.args.b c.args.e c.row_at-row.ensures.rows_len) in
-    let zero : number (reply c.args.b (OfBallots c.args.e)) ≡ 0 = sym asked ∙ c.if-answer-ne0.false in
-    let found : c.answer_to-x.result ≡ answer_read c.args.b c.args.e c.row_at-row.ensures.rows_len zero =
-    rw (c.answer_to-x.ensures, c.row_at-row.ensures.value, c.acceptor_at-a.ensures, c.ballot_of-number.ensures, c.proposal_of-own.ensures, c.station_at-s.ensures.value, c.subject_of-id.ensures) in
-    accepts c.args.b (OfBallots c.args.e) _ asked c.if-answer-ne0.false _
+    let replied = asked (goal.at.returns c).After-ballot_question in
+    let all = yes c.args.b (OfBallots c.args.e) _ replied c.in_ok-ballot_question.was in
+    let found : c.answer_to-x.result ≡ answer_read c.args.b c.args.e c.row_at-row.ensures.rows_len all =
+    rw (c.answer_to-x.ensures, c.row_at-row.ensures.value, c.nth-a.ensures, c.new_acceptor.ensures, c.ballot_of-number.ensures, c.proposal_of-own.ensures, c.station_at-s.ensures.value, c.subject_of-id.ensures) in
+    accepts c.args.b (OfBallots c.args.e) _ replied c.in_ok-ballot_question.was _
     (rw (c.answered.ensures, c.row_at-row.ensures.value, c.ballot_of-number.ensures, c.subject_of-id.ensures)
-    (put-answer c.args.b c.args.e c.row_at-row.ensures.rows_len zero _ found))
+    (put-answer c.args.b c.args.e c.row_at-row.ensures.rows_len all _ found))

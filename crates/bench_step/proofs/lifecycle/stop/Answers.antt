@@ -1,21 +1,26 @@
 -- A stop: its questions and its turn, on the station as it is read.
-use mathlib.Core.Path.{◌≡◌, refl, ◌∙◌}
-use Rattle.model.specs.QuestionLaws.{AllYes}
+use mathlib.Core.Path.{◌≡◌, refl}
+use Rattle.std.proofs.lemmas.Result.{err_from_is_err_and}
+use Rattle.model.specs.Refusals.{reply_of}
 use Rattle.model.specs.declared.Event.TheVariants.{Stop}
-use Rattle.protocol.specs.Questions.{number, first_no, questions_of}
+use Rattle.protocol.specs.Questions.{first_no, questions_of}
+use Rattle.model.specs.QuestionLaws.{AllYes}
 use Rattle.protocol.specs.Steps.{effect}
-use Rattle.bench_step.proofs.StationsRead.{station_read, sent_read}
 use Rattle.bench_step.proofs.Turns.{turn-stops}
-use Rattle.bench_step.proofs.StepLaws.{facts_read, one-first, one-finished}
+use Rattle.bench_step.proofs.StationsRead.{station_read, sent_read}
+use Rattle.bench_step.proofs.StepLaws.{facts_read, one_refused, one-accepted}
+use Rattle.bench_step.proofs.lifecycle.stop.Goals.{After-present_question}
 use Rattle.bench_step.proofs.lifecycle.stop.Goals as goal
 
-pub finish-requires : goal.finish-requires
-finish-requires c =
-    let asked : c.present_question-answer.result ≡ number (first_no (questions_of (facts_read c.args.b (Stop c.args.id)) (Stop c.args.id))) = rw (c.present_question-answer.ensures.value, c.condition_of.ensures, c.station_at-s.ensures.value) in
-    one-first c.args.b (Stop c.args.id) c.station_at-s.ensures.stations_len _ asked refl
+asked : (c : After-present_question) → reply_of c.present_question.result ≡ first_no (questions_of (facts_read c.args.b (Stop c.args.id)) (Stop c.args.id))
+asked c = rw (c.present_question.ensures.value, c.condition_of.ensures, c.station_at-s.ensures.value)
+
+pub returns-in_err-present_question : goal.returns-in_err-present_question
+returns-in_err-present_question c =
+    let p = err_from_is_err_and c.from_residual.result c.from_residual.ensures.1 in
+    rw (p.1, p.2) (one_refused c.args.b (Stop c.args.id) c.station_at-s.ensures.stations_len _ (asked (goal.at.returns-in_err-present_question c).After-present_question) _ c.in_err-present_question.was)
 
 pub returns : goal.returns
 returns c =
-    let asked : c.present_question-answer.result ≡ number (first_no (questions_of (facts_read c.args.b (Stop c.args.id)) (Stop c.args.id))) = rw (c.present_question-answer.ensures.value, c.condition_of.ensures, c.station_at-s.ensures.value) in
     let leaves : AllYes (questions_of (facts_read c.args.b (Stop c.args.id)) (Stop c.args.id)) → c.stop_turn.result ≡ effect c.args.b.shared (Stop c.args.id) (sent_read c.args.b (Stop c.args.id)) (station_read c.args.b c.args.id) = (λ y. rw (c.stop_turn.ensures, c.station_at-s.ensures.value) (turn-stops _ _ _ _ y)) in
-    c.finish.ensures ∙ one-finished c.args.b (Stop c.args.id) c.station_at-s.ensures.stations_len _ asked refl _ leaves
+    rw c.put_back.ensures (one-accepted c.args.b (Stop c.args.id) c.station_at-s.ensures.stations_len _ (asked (goal.at.returns c).After-present_question) refl c.in_ok-present_question.was _ leaves)

@@ -9,15 +9,15 @@ use Rattle.std.proofs.Common.{rules}
 use Rattle.bench_step.proofs.orders.renew_all.Goals as goal
 
 pub loop-at-init : goal.loop-at-init
-loop-at-init c = (omega arith, (search rules, first-none renewed _))
+loop-at-init c = (search rules, first-none renewed _)
 
 pub loop-at-preserved : goal.loop-at-preserved
 unfolding fresh_station fresh unsent_all
 loop-at-preserved c =
     let l = c.loop-at in
-    (omega arith, (l.invariant.1.0, rw (c.renewed.ensures, l.invariant.1.1) (first_more renewed l.at c.args.stations (fresh_station []) (omega arith))))
+    (l.invariant.0, rw (c.renewed.ensures, l.invariant.1) (first_more renewed l.at c.args.stations (fresh_station []) (omega arith)))
 
 pub returns : goal.returns
 returns c =
     let l = c.loop-at in
-    l.invariant.1.1 ∙ first-map renewed l.at c.args.stations (omega arith)
+    l.invariant.1 ∙ first-map renewed l.at c.args.stations (omega arith)

@@ -1,6 +1,5 @@
 -- The loop keeps that the stations before the index are renewed and the others as they were.
 use Rattle.ground.specs.Limit.{limit}
-use Prim.Native.Nat.{◌≤◌, ◌-◌}
 use mathlib.Core.Path.{◌≡◌}
 use lib.ListN.{length}
 use Rattle.protocol.specs.Steps.{renewed}
@@ -8,7 +7,4 @@ use Rattle.ground.specs.Firsts.{map_first}
 use Rattle.bench_step.proofs.orders.renew_all.Given as goal
 
 abbrev pub invariant-loop-at : goal.invariant-loop-at
-invariant-loop-at l = (l.at ≤ limit) × ((length l.initial.all ≡ limit) × (l.all ≡ map_first renewed l.at l.initial.all))
-
-abbrev pub decreases-loop-at : goal.decreases-loop-at
-decreases-loop-at l = limit - l.at
+invariant-loop-at l = (length l.initial.all ≡ limit) × (l.all ≡ map_first renewed l.at l.initial.all)

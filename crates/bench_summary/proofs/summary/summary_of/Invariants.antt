@@ -1,6 +1,6 @@
 -- `bench_summary::summary::summary_of` meets its contract. The first loop: the first i rows are those of the stations, the others blank. The second: the messages are
 -- those of the first j controllers, at most 255 of a kind for each.
-use Prim.Native.Nat.{ℕ, ◌*◌, ◌-◌, ◌≤◌}
+use Prim.Native.Nat.{ℕ, ◌*◌, ◌≤◌}
 use mathlib.Core.List.{◌++◌, map}
 use mathlib.Core.Path.{◌≡◌}
 use lib.ListN.{take, drop, replicate}
@@ -15,13 +15,7 @@ abbrev pub AtMost : ℕ → MessageCounts → Type 0
 AtMost k t = (t.vote ≤ k) × ((t.ack ≤ k) × ((t.help ≤ k) × (t.helped ≤ k)))
 
 abbrev pub invariant-loop-i : goal.invariant-loop-i
-invariant-loop-i l = (l.i ≤ limit) × (l.rows ≡ take l.i (map row_of l.stations) ++ drop l.i (replicate limit blank_row))
-
-abbrev pub decreases-loop-i : goal.decreases-loop-i
-decreases-loop-i l = limit - l.i
+invariant-loop-i l = l.rows ≡ take l.i (map row_of l.stations) ++ drop l.i (replicate limit blank_row)
 
 abbrev pub invariant-loop-j : goal.invariant-loop-j
-invariant-loop-j l = (l.j ≤ l.end) × (AtMost (l.j * 255) l.messages × (l.messages ≡ counts_to (shown_of l.m l.stations) l.j))
-
-abbrev pub decreases-loop-j : goal.decreases-loop-j
-decreases-loop-j l = l.end - l.j
+invariant-loop-j l = AtMost (l.j * 255) l.messages × (l.messages ≡ counts_to (shown_of l.m l.stations) l.j)

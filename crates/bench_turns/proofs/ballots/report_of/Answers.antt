@@ -1,4 +1,4 @@
 use Rattle.bench_turns.proofs.ballots.report_of.Goals as goal
 
 pub returns : goal.returns
-returns c = c.report_at.ensures
+returns c = c.nth.ensures

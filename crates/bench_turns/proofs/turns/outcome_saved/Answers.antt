@@ -1,4 +1,4 @@
 use Rattle.bench_turns.proofs.turns.outcome_saved.Goals as goal
 
-pub returns-in-Newest : goal.returns-in-Newest
-returns-in-Newest c = simp (c.in-Newest.is, c.outcome_kept.ensures)
+pub returns-in-Some : goal.returns-in-Some
+returns-in-Some c = simp (c.in-Some.is, c.outcome_kept.ensures)

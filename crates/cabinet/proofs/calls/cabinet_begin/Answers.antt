@@ -1,5 +1,9 @@
+use mathlib.Core.Path.{ap, ◌∙◌}
+use Rattle.model.specs.Questions.{number}
 use Rattle.cabinet.proofs.LentLaws.{same_left}
 use Rattle.cabinet.proofs.calls.cabinet_begin.Goals as goal
 
 pub returns : goal.returns
-returns c = same_left _ _ _ _ _ _ _ c.begin_question.ensures c.begun.ensures c.leave.ensures
+returns c =
+    let p = same_left _ _ _ _ _ _ _ (ap number c.begin_question.ensures) c.begun.ensures c.leave.ensures in
+    (c.answer_number.ensures ∙ p.0, p.1)

@@ -1,18 +1,11 @@
-use mathlib.Core.Path.{ap, ◌∙◌}
-use Rattle.cabinet.proofs.CallLaws.{refused, passed}
+use mathlib.Core.Path.{◌∙◌}
+use Rattle.std.proofs.Common.{rules}
 use Rattle.cabinet_turns.specs.Turns.{ordered}
 use Rattle.cabinet.specs.Calls.{order_number}
 use Rattle.cabinet.proofs.calls.cabinet_order.Goals as goal
 
-pub returns-then-refusal-ne0 : goal.returns-then-refusal-ne0
-returns-then-refusal-ne0 c =
-    let x = c.args in
-    refused _ (order_number x.order) (ordered x.order) _ c.state_refusal-refusal.ensures c.if-refusal-ne0.true
-
 pub returns : goal.returns
 returns c =
     let x = c.args in
-    passed _ _ (order_number x.order) (ordered x.order) _ _ _ _ c.state_refusal-refusal.ensures c.if-refusal-ne0.false
-    (c.order_number.ensures ∙ ap (order_number x.order) c.cabinet_of-s.ensures)
-    (c.ordered.ensures ∙ ap (ordered x.order) c.cabinet_of-s.ensures)
-    c.leave.ensures
+    let p = c.play.ensures (order_number x.order) (ordered x.order) (λ r e. search rules) (λ next e. search rules) in
+    (c.answer_number.ensures ∙ p.0, p.1)

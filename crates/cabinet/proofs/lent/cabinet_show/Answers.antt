@@ -1,3 +1,4 @@
+use mathlib.Core.Path.{◌∙◌}
 use Rattle.cabinet.proofs.CallLaws.{refused-buffer, passed-buffer}
 use Rattle.cabinet.specs.Calls.{shown_number, shown_words}
 use Rattle.cabinet.proofs.lent.cabinet_show.Goals as goal
@@ -5,9 +6,9 @@ use Rattle.cabinet.proofs.lent.cabinet_show.Goals as goal
 pub returns-then-refusal-ne0 : goal.returns-then-refusal-ne0
 returns-then-refusal-ne0 c =
     let out = c.args.out.now in
-    refused-buffer _ _ (shown_number out) (shown_words out) _ c.state_refusal-refusal.ensures c.if-refusal-ne0.true
+    refused-buffer _ _ (shown_number out) (shown_words out) _ (c.answer_number-refusal.ensures ∙ c.state_refusal.ensures) c.if-refusal-ne0.true
 
 pub returns : goal.returns
 returns c =
     let out = c.args.out.now in
-    passed-buffer _ _ _ (shown_number out) (shown_words out) _ _ _ c.state_refusal-refusal.ensures c.if-refusal-ne0.false c.cabinet_of.ensures c.write_shown.ensures
+    passed-buffer _ _ _ (shown_number out) (shown_words out) _ _ _ (c.answer_number-refusal.ensures ∙ c.state_refusal.ensures) c.if-refusal-ne0.false c.cabinet_of.ensures c.write_shown.ensures

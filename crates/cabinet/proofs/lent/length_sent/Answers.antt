@@ -1,10 +1,10 @@
 use Rattle.cabinet.specs.Calls.{sent_length}
 use Rattle.cabinet.proofs.lent.length_sent.Goals as goal
 
-pub returns-in-Nothing : goal.returns-in-Nothing
+pub returns-in-None : goal.returns-in-None
 unfolding sent_length
-returns-in-Nothing c = simp c.in-Nothing.is
+returns-in-None c = simp c.in-None.is
 
-pub returns-in-Sent : goal.returns-in-Sent
+pub returns-in-Some : goal.returns-in-Some
 unfolding sent_length
-returns-in-Sent c = simp (c.in-Sent.is, c.telegram_length.ensures.0)
+returns-in-Some c = simp (c.in-Some.is, c.telegram_length.ensures.0)

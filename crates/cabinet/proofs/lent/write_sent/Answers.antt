@@ -1,8 +1,10 @@
+use Rattle.std.proofs.Common.{◌∙◌, ap}
+use Rattle.model.specs.Questions.{number}
 use Rattle.cabinet.proofs.LentLaws.{sent-none, sent-some}
 use Rattle.cabinet.proofs.lent.write_sent.Goals as goal
 
-pub returns-in-Nothing : goal.returns-in-Nothing
-returns-in-Nothing c = sent-none _ _ c.in-Nothing.is
+pub returns-in-None : goal.returns-in-None
+returns-in-None c = sent-none _ _ c.in-None.is
 
-pub returns-in-Sent : goal.returns-in-Sent
-returns-in-Sent c = sent-some _ _ _ _ _ c.in-Sent.is c.write_telegram.ensures
+pub returns-in-Some : goal.returns-in-Some
+returns-in-Some c = sent-some _ _ _ _ _ c.in-Some.is (c.answer_number.ensures ∙ ap number c.write_telegram.ensures.0, c.write_telegram.ensures.1)

@@ -5,4 +5,4 @@ pub returns-then-out-ne7 : goal.returns-then-out-ne7
 returns-then-out-ne7 c = not-seven _ _ c.if-out-ne7.true
 
 pub returns : goal.returns
-returns c = shown-seven _ _ _ _ c.if-out-ne7.false c.shown.ensures c.copy_words.ensures
+returns c = shown-seven _ _ _ _ c.if-out-ne7.false c.shown.ensures c.copy_from_slice.ensures.after

@@ -8,13 +8,13 @@ use Rattle.cabinet_state.proofs.checks.check_of.Goals as goal
 
 pub loop-k-init : goal.loop-k-init
 unfolding check_to
-loop-k-init c = (omega arith, refl)
+loop-k-init c = refl
 
 pub loop-k-preserved : goal.loop-k-preserved
-loop-k-preserved c = (omega arith, c.mixed-acc.ensures ∙ check-next _ _ _ _ c.loop-k.invariant.1 c.column.ensures)
+loop-k-preserved c = c.mixed-acc.ensures ∙ check-next _ _ _ _ c.loop-k.invariant c.column.ensures
 
 pub returns : goal.returns
 returns c =
-    let e : c.loop-k.k ≡ check_place = omega (arith, c.loop-k-test.false, c.loop-k.invariant.0) in
+    let e : c.loop-k.k ≡ check_place = omega arith in
     let x = c.args in
-    c.loop-k.invariant.1 ∙ ap (λ (m : ℕ). check_to m (column_in x.head x.ballots x.sets)) e
+    c.loop-k.invariant ∙ ap (λ (m : ℕ). check_to m (column_in x.head x.ballots x.sets)) e

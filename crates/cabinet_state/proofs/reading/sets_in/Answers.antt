@@ -7,11 +7,11 @@ use Rattle.cabinet_state.specs.FillLaws.{none_filled, one_filled, all_filled}
 use Rattle.cabinet_state.proofs.reading.sets_in.Goals as goal
 
 pub loop-j-init : goal.loop-j-init
-loop-j-init c = (omega arith, none_filled _ limit _ refl)
+loop-j-init c = none_filled _ limit _ refl
 
 pub loop-j-preserved : goal.loop-j-preserved
-loop-j-preserved c = (omega arith, one_filled _ limit _ _ _ c.loop-j-test.true c.loop-j.invariant.1 (simp (← c.word.ensures, c.word-in-loop-j.ensures)))
+loop-j-preserved c = one_filled _ limit _ _ _ (omega arith) c.loop-j.invariant (simp (← c.word.ensures, c.word-in-loop-j.ensures))
 
 pub returns : goal.returns
 unfolding sets_in
-returns c = all_filled _ limit _ _ c.loop-j-test.false c.loop-j.invariant.1
+returns c = all_filled _ limit _ _ (omega arith) c.loop-j.invariant

@@ -6,16 +6,16 @@ use Rattle.cabinet_state.specs.FillLaws.{none_filled, one_filled, all_filled}
 use Rattle.cabinet_state.proofs.writing.fill.Goals as goal
 
 pub loop-k-init : goal.loop-k-init
-loop-k-init c = (omega arith, none_filled _ state_words _ c.requires)
+loop-k-init c = none_filled _ state_words _ c.requires
 
 pub bounds-out-k : goal.bounds-out-k
-bounds-out-k c = let h = c.loop-k.invariant.1.size in omega (arith, h, c.loop-k-test.true)
+bounds-out-k c = let h = c.loop-k.invariant.size in omega (arith, h)
 
 pub loop-k-preserved : goal.loop-k-preserved
-loop-k-preserved c = (omega arith, one_filled _ state_words _ _ _ c.loop-k-test.true c.loop-k.invariant.1 c.with_check.ensures)
+loop-k-preserved c = one_filled _ state_words _ _ _ (omega arith) c.loop-k.invariant c.with_check.ensures
 
 pub shape_of-out : goal.shape_of-out
-shape_of-out c = c.loop-k.invariant.1.size ∙ sym c.requires
+shape_of-out c = c.loop-k.invariant.size ∙ sym c.requires
 
 pub returns : goal.returns
-returns c = all_filled _ state_words _ _ c.loop-k-test.false c.loop-k.invariant.1
+returns c = all_filled _ state_words _ _ (omega arith) c.loop-k.invariant

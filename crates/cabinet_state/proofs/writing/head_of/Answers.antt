@@ -13,11 +13,11 @@ returns c =
     c.wide.ensures.0
     c.wide-2.ensures.0
     c.wide-3.ensures.0
-    (c.wide-4.ensures.0 ∙ c.flag_number.ensures)
+    (c.wide-4.ensures.0 ∙ c.from.ensures)
     (c.wide-5.ensures.0 ∙ c.tag_of.ensures)
     (c.wide-6.ensures.0 ∙ c.phase_in.ensures)
-    (c.wide-7.ensures.0 ∙ c.outcome_number.ensures ∙ ap outcome_number c.outcome_in.ensures)
+    (c.wide-7.ensures.0 ∙ c.from-2.ensures ∙ ap outcome_number c.outcome_in.ensures)
     c.wide-8.ensures.0
     c.wide-9.ensures.0
-    (c.wide-10.ensures.0 ∙ c.flag_number-2.ensures)
-    (c.wide-11.ensures.0 ∙ c.outcome_number-2.ensures)
+    (c.wide-10.ensures.0 ∙ c.from-3.ensures)
+    (c.wide-11.ensures.0 ∙ c.from-4.ensures)

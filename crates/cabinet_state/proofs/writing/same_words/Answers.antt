@@ -1,5 +1,5 @@
 -- The first k words are those of the encoding. A word that differs ends the loop with no, and all that are alike make it yes.
-use Prim.Native.Nat.{ℕ}
+use Prim.Native.Nat.{ℕ, ◌<◌}
 use mathlib.Core.Bool.{true}
 use mathlib.Core.Path.{◌≡◌, refl, sym, subst}
 use native.Mathlib.Omega.{arith}
@@ -13,18 +13,20 @@ use Rattle.cabinet_state.proofs.writing.same_words.Goals as goal
 
 pub loop-k-init : goal.loop-k-init
 unfolding all_below
-loop-k-init c = (omega arith, refl)
+loop-k-init c = refl
 
 pub returns-then-with_check-word : goal.returns-then-with_check-word
 unfolding same_words
-returns-then-with_check-word c = sym (not-all state_words _ _ c.loop-k-test.true (simp (← c.with_check.ensures, ← c.word.ensures, ne_eqb _ _ c.if-with_check-word.true)))
+returns-then-with_check-word c =
+    let b : c.loop-k.k < state_words = omega arith in
+    sym (not-all state_words _ _ b (simp (← c.with_check.ensures, ← c.word.ensures, ne_eqb _ _ c.if-with_check-word.true)))
 
 pub loop-k-preserved : goal.loop-k-preserved
-loop-k-preserved c = (omega arith, all-next _ _ c.loop-k.invariant.1 (simp (← c.with_check.ensures, ← c.word.ensures, eq-eqb _ _ c.if-with_check-word.false)))
+loop-k-preserved c = all-next _ _ c.loop-k.invariant (simp (← c.with_check.ensures, ← c.word.ensures, eq-eqb _ _ c.if-with_check-word.false))
 
 pub returns : goal.returns
 unfolding same_words
 returns c =
-    let e : c.loop-k.k ≡ state_words = omega (arith, c.loop-k-test.false, c.loop-k.invariant.0) in
+    let e : c.loop-k.k ≡ state_words = omega arith in
     let x = c.args in
-    sym (subst (λ (m : ℕ). all_below m (λ j. eqb (with_check x.check (column_in x.head x.ballots x.sets) j) (word x.s.now j)) ≡ true) e c.loop-k.invariant.1)
+    sym (subst (λ (m : ℕ). all_below m (λ j. eqb (with_check x.check (column_in x.head x.ballots x.sets) j) (word x.s.now j)) ≡ true) e c.loop-k.invariant)

@@ -1,7 +1,7 @@
 use mathlib.Core.Path.{ap, ◌∙◌}
 use mathlib.Core.Bool.{not}
 use mathlib.Core.List.{[], ◌∷◌}
-use Rattle.model.specs.Questions.{ask, number, first_no}
+use Rattle.model.specs.Questions.{ask, first_no}
 use Rattle.protocol.specs.declared.Answer.{Answer}
 use Rattle.protocol.specs.Rules.{is_contradicted}
 use Rattle.cabinet_turns.specs.Ballots.{telegram_asked}
@@ -9,5 +9,4 @@ use Rattle.cabinet_turns.proofs.ballots.message_question.Goals as goal
 
 pub returns : goal.returns
 unfolding telegram_asked
-returns c =
-    c.contradiction.ensures ∙ ap (λ (a : Answer). number (first_no (ask 24 (not (is_contradicted a.reception)) ∷ []))) c.receive.ensures
+returns c = c.contradiction.ensures ∙ ap (λ (a : Answer). first_no (ask 24 (not (is_contradicted a.reception)) ∷ [])) c.receive.ensures

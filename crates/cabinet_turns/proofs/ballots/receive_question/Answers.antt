@@ -1,11 +1,15 @@
-use Rattle.cabinet_turns.specs.Ballots.{receive_asked}
+use mathlib.Core.Path.{refl}
+use Rattle.std.proofs.lemmas.Result.{err_from_is_err_and}
 use Rattle.model.specs.Questions.{first_no, unless}
+use Rattle.cabinet_turns.specs.Ballots.{receive_asked}
 use Rattle.cabinet_turns.proofs.ballots.receive_question.Goals as goal
 
-pub returns-in-Refused : goal.returns-in-Refused
+pub returns-in_err-read : goal.returns-in_err-read
 unfolding first_no unless receive_asked
-returns-in-Refused c = simp c.in-Refused.is
+returns-in_err-read c =
+    let p = err_from_is_err_and c.from_residual.result c.from_residual.ensures.1 in
+    rw (p.1, p.2, c.in_err-read.was) refl
 
-pub returns-in-Read : goal.returns-in-Read
-unfolding first_no unless receive_asked
-returns-in-Read c = simp (c.in-Read.is, c.telegram_question.ensures)
+pub returns : goal.returns
+unfolding receive_asked
+returns c = rw c.in_ok-read.was c.telegram_question.ensures

@@ -1,10 +1,10 @@
 use Rattle.cabinet_turns.specs.Ballots.{received}
 use Rattle.cabinet_turns.proofs.ballots.received.Goals as goal
 
-pub returns-in-Refused : goal.returns-in-Refused
+pub returns-in-Err : goal.returns-in-Err
 unfolding received
-returns-in-Refused c = simp c.in-Refused.is
+returns-in-Err c = simp c.in-Err.is
 
-pub returns-in-Read : goal.returns-in-Read
+pub returns-in-Ok : goal.returns-in-Ok
 unfolding received
-returns-in-Read c = simp (c.in-Read.is, c.received_telegram.ensures)
+returns-in-Ok c = simp (c.in-Ok.is, c.received_telegram.ensures)

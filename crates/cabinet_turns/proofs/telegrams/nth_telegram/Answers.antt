@@ -1,26 +1,39 @@
--- The messages come first, then what was sent in ballots: the k-th is one of the former where there are so many (`plain_here`), and else of the latter (`ballot-past`).
-use mathlib.Core.Path.{ap, ◌∙◌}
-use mathlib.Core.List.{map}
+-- The messages come first, then what was sent in ballots: the k-th is one of the former where there are so many (`plain-sent`), and else of the latter (`ballot-sent`).
+use mathlib.Core.Path.{sym, ap, ◌∙◌}
 use native.Mathlib.Omega.{arith}
-use Rattle.model.specs.declared.Telegram.TheVariants.{OfBallot}
-use Rattle.protocol.specs.declared.Sends.{Sends}
-use Rattle.protocol.specs.Sequence.{messages_of, nth_of}
-use Rattle.cabinet_turns.proofs.Nth.{plain_here, ballot-past}
-use Rattle.cabinet_turns.specs.Telegrams.{plain_telegram, ballot_telegram, sends_of, ballots_sent, telegrams_sent}
+use Rattle.std.specs.Prelude.{option_map}
+use Rattle.model.specs.declared.Telegram.TheVariants.{Plain, OfBallot}
+use Rattle.cabinet_turns.proofs.Nth.{plain-sent, ballot-sent}
 use Rattle.cabinet_turns.proofs.telegrams.nth_telegram.Goals as goal
 
+pub returns-in_err-message : goal.returns-in_err-message
+returns-in_err-message c =
+    let x = c.args in
+    let w = c.wide-at.ensures.0 in
+    let t = c.if-at-plain.true in
+    c.from_residual.ensures ∙ sym (ap (option_map Plain) (c.in_err-message.was {u = tt}))
+    ∙ plain-sent x.s x.k _ _ _ c.sends_of.ensures c.nth_message.ensures.answer c.count_plain-plain.ensures (omega (arith, w, t))
+
 pub returns-then-at-plain : goal.returns-then-at-plain
-unfolding telegrams_sent
 returns-then-at-plain c =
     let x = c.args in
     let w = c.wide-at.ensures.0 in
     let t = c.if-at-plain.true in
-    c.plain_telegram.ensures
-    ∙ ap plain_telegram (c.nth_message.ensures.answer ∙ ap (λ (z : Sends). nth_of (messages_of x.s.me z) x.k) c.sends_of.ensures)
-    ∙ plain_here (messages_of x.s.me (sends_of x.s.sent)) (map OfBallot (ballots_sent x.s.me x.s.ballots)) x.k _ c.count_plain-plain.ensures (omega (arith, w, t))
+    sym (ap (option_map Plain) (c.in_ok-message.was {u = tt}))
+    ∙ plain-sent x.s x.k _ _ _ c.sends_of.ensures c.nth_message.ensures.answer c.count_plain-plain.ensures (omega (arith, w, t))
+
+pub returns-in_err-of_ballot : goal.returns-in_err-of_ballot
+returns-in_err-of_ballot c =
+    let x = c.args in
+    let w = c.wide-at.ensures in
+    let w₀ = w.0 in
+    let w₁ = w.1 in
+    let t = c.if-at-plain.false in
+    let l = c.low_byte.ensures in
+    c.from_residual-in_err-of_ballot.ensures ∙ sym (ap (option_map OfBallot) (c.in_err-of_ballot.was {u = tt}))
+    ∙ ballot-sent x.s x.k _ _ _ c.nth_of_ballots.ensures c.count_plain-plain.ensures (omega (arith, w₀, t)) (omega (arith, w₀, w₁, t, l))
 
 pub returns : goal.returns
-unfolding telegrams_sent
 returns c =
     let x = c.args in
     let w = c.wide-at.ensures in
@@ -28,6 +41,5 @@ returns c =
     let w₁ = w.1 in
     let t = c.if-at-plain.false in
     let l = c.low_byte.ensures in
-    c.ballot_telegram.ensures
-    ∙ ap ballot_telegram c.nth_of_ballots.ensures
-    ∙ ballot-past (messages_of x.s.me (sends_of x.s.sent)) (ballots_sent x.s.me x.s.ballots) x.k _ _ c.count_plain-plain.ensures (omega (arith, w₀, t)) (omega (arith, w₀, w₁, t, l))
+    sym (ap (option_map OfBallot) (c.in_ok-of_ballot.was {u = tt}))
+    ∙ ballot-sent x.s x.k _ _ _ c.nth_of_ballots.ensures c.count_plain-plain.ensures (omega (arith, w₀, t)) (omega (arith, w₀, w₁, t, l))

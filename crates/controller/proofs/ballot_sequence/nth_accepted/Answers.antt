@@ -1,16 +1,21 @@
+use mathlib.Core.Path.{◌∙◌, ap}
+use mathlib.Core.List.{[], ◌∷◌}
+use Rattle.std.specs.Prelude.{slice_get}
+use Rattle.model.specs.declared.BallotMessage.{BallotMessage}
 use borrow.Author.Tests.{eq-eqb, ne_eqb}
-use Rattle.protocol.specs.BallotCalls.{nth_ballot_of}
 use Rattle.controller.specs.BallotParts.{accepted_by}
 use Rattle.controller.proofs.ballot_sequence.nth_accepted.Goals as goal
 
 pub returns-then-to-me : goal.returns-then-to-me
-unfolding accepted_by nth_ballot_of
+unfolding accepted_by
 returns-then-to-me c = simp (c.if-x.true, ← c.owner-to.ensures, eq-eqb _ _ c.if-to-me.true)
 
 pub returns-then-x : goal.returns-then-x
 unfolding accepted_by
-returns-then-x c = simp (c.if-x.true, ← c.owner-to.ensures, ne_eqb _ _ c.if-to-me.false, ← c.ballot_to.ensures, c.nth_of_one.ensures)
+returns-then-x c =
+    c.nth_of_one.ensures ∙ ap (λ (m : BallotMessage). slice_get (m ∷ []) c.args.k) c.ballot_to-m.ensures
+    ∙ simp (c.if-x.true, ← c.owner-to.ensures, ne_eqb _ _ c.if-to-me.false)
 
 pub returns : goal.returns
-unfolding accepted_by nth_ballot_of
+unfolding accepted_by
 returns c = simp c.if-x.false

@@ -6,7 +6,8 @@ use Rattle.protocol.specs.declared.Identity.{Identity}
 use Rattle.protocol.specs.declared.BallotAnswer.{BallotAnswer}
 use Rattle.protocol.specs.BallotCalls.{ballot_messages}
 use Rattle.controller.specs.BallotParts.{promised, proposed, accepted_by}
-use Rattle.controller.proofs.BallotSequence.{here, past, both}
+use Rattle.protocol.specs.SequenceLaws.{nth-ballot-message-of}
+use Rattle.controller.proofs.OneByOne.{here, past}
 use Rattle.controller.proofs.ballot_sequence.nth_ballot_message.Goals as goal
 
 parts : (me : Identity) (b : ℕ) (x : BallotAnswer) → ballot_messages me b x ≡ promised me b x ++ (proposed me b x ++ accepted_by me b x)
@@ -17,13 +18,13 @@ pub returns-then-k-promised : goal.returns-then-k-promised
 returns-then-k-promised c =
     let start = c.args in
     let me = start.me in
-    both _ _ _ (c.nth_promised.ensures ∙ rw (parts me start.b start.x) (here (promised me start.b start.x) _ start.k _ c.count_promised-promised.ensures c.if-k-promised.true))
+    nth-ballot-message-of _ _ _ _ _ (c.nth_promised.ensures ∙ rw (parts me start.b start.x) (here (promised me start.b start.x) _ start.k _ c.count_promised-promised.ensures c.if-k-promised.true))
 
 pub returns-then-after_promised-proposed : goal.returns-then-after_promised-proposed
 returns-then-after_promised-proposed c =
     let start = c.args in
     let me = start.me in
-    both _ _ _ (c.nth_proposed.ensures ∙ rw (parts me start.b start.x)
+    nth-ballot-message-of _ _ _ _ _ (c.nth_proposed.ensures ∙ rw (parts me start.b start.x)
     (here (proposed me start.b start.x) (accepted_by me start.b start.x) _ _ c.count_proposed-proposed.ensures c.if-after_promised-proposed.true
     ∙ past (promised me start.b start.x) _ start.k _ c.count_promised-promised.ensures c.if-k-promised.false))
 
@@ -31,6 +32,6 @@ pub returns : goal.returns
 returns c =
     let start = c.args in
     let me = start.me in
-    both _ _ _ (c.nth_accepted.ensures ∙ rw (parts me start.b start.x)
+    nth-ballot-message-of _ _ _ _ _ (c.nth_accepted.ensures ∙ rw (parts me start.b start.x)
     (past (proposed me start.b start.x) (accepted_by me start.b start.x) _ _ c.count_proposed-proposed.ensures c.if-after_promised-proposed.false
     ∙ past (promised me start.b start.x) _ start.k _ c.count_promised-promised.ensures c.if-k-promised.false))

@@ -1,4 +1,3 @@
-use Rattle.protocol.specs.BallotCalls.{nth_ballot_of}
 use Rattle.controller.specs.BallotParts.{proposed}
 use Rattle.controller.proofs.ballot_sequence.nth_proposed.Goals as goal
 
@@ -7,5 +6,5 @@ unfolding proposed
 returns-then-x c = simp (c.if-x.true, c.nth_to_others.ensures)
 
 pub returns : goal.returns
-unfolding proposed nth_ballot_of
+unfolding proposed
 returns c = simp c.if-x.false

@@ -3,10 +3,10 @@ use Rattle.protocol.specs.Sequence.{messages_of_kind}
 use Rattle.protocol.specs.SequenceLaws.{members-size}
 use Rattle.controller.proofs.sequence.count_of.Goals as goal
 
-pub returns-in-Nothing : goal.returns-in-Nothing
+pub returns-in-None : goal.returns-in-None
 unfolding messages_of_kind
-returns-in-Nothing c = simp c.in-Nothing.is
+returns-in-None c = simp c.in-None.is
 
-pub returns-in-To : goal.returns-in-To
+pub returns-in-Some : goal.returns-in-Some
 unfolding messages_of_kind
-returns-in-To c = simp (c.in-To.is, c.size.ensures, length-map, members-size)
+returns-in-Some c = simp (c.in-Some.is, c.size.ensures, length-map, members-size)

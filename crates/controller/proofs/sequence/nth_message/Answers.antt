@@ -8,15 +8,11 @@ use Rattle.model.specs.declared.Message.{Message}
 use Rattle.model.specs.declared.Kind.TheVariants.{Vote, Ack, Help, Helped}
 use Rattle.protocol.specs.declared.Identity.{Identity}
 use Rattle.protocol.specs.declared.Sends.{Sends}
-use Rattle.protocol.specs.Sequence.{messages_of_kind, messages_of, nth_of}
-use Rattle.protocol.specs.SequenceLaws.{nth_in, nth_past, nth-message-of}
+use Rattle.protocol.specs.Sequence.{messages_of_kind, messages_of}
+use Rattle.protocol.specs.SequenceLaws.{nth-message-of}
+use Rattle.std.specs.Prelude.{slice_get}
+use Rattle.controller.proofs.OneByOne.{here, past}
 use Rattle.controller.proofs.sequence.nth_message.Goals as goal
-
-here : (ms rest : List Message) (k p : ℕ) → p ≡ length ms → k < p → nth_of ms k ≡ nth_of (ms ++ rest) k
-here ms rest k p e h = sym (nth_in ms rest k (omega arith))
-
-past : (ms rest : List Message) (k p : ℕ) → p ≡ length ms → p ≤ k → nth_of rest (k - p) ≡ nth_of (ms ++ rest) k
-past ms rest k p e h = ap (λ (x : ℕ). nth_of rest (k - x)) e ∙ sym (nth_past ms rest k (omega arith))
 
 module _ (me : Identity) (s : Sends) where
   abbrev votes : List Message
@@ -31,11 +27,11 @@ module _ (me : Identity) (s : Sends) where
   abbrev answers : List Message
   answers = messages_of_kind me Helped s.helped
 
-  in-votes : (k v : ℕ) → v ≡ length votes → k < v → nth_of votes k ≡ nth_of (messages_of me s) k
+  in-votes : (k v : ℕ) → v ≡ length votes → k < v → slice_get votes k ≡ slice_get (messages_of me s) k
   unfolding messages_of
   in-votes k v e h = here votes (acks ++ (calls ++ answers)) k v e h
 
-  past-votes : (k v : ℕ) → v ≡ length votes → v ≤ k → nth_of (acks ++ (calls ++ answers)) (k - v) ≡ nth_of (messages_of me s) k
+  past-votes : (k v : ℕ) → v ≡ length votes → v ≤ k → slice_get (acks ++ (calls ++ answers)) (k - v) ≡ slice_get (messages_of me s) k
   unfolding messages_of
   past-votes k v e h = past votes (acks ++ (calls ++ answers)) k v e h
 

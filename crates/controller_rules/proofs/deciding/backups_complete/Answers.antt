@@ -24,7 +24,7 @@ returns-then-f-gt-LIMIT c =
 
 pub loop-j-init : goal.loop-j-init
 unfolding all_to
-loop-j-init c = (omega arith, refl)
+loop-j-init c = refl
 
 pub returns-then-not-held_complete : goal.returns-then-not-held_complete
 unfolding backups_complete nth
@@ -38,11 +38,11 @@ pub loop-j-preserved : goal.loop-j-preserved
 unfolding all_to nth
 loop-j-preserved c =
     let yes = sym c.held_complete.ensures ∙ c.if-not-held_complete.false in
-    (omega arith, rw add-one (and_i _ _ (rw add-one at yes) c.loop-j.invariant.1))
+    rw add-one (and_i _ _ (rw add-one at yes) c.loop-j.invariant)
 
 pub returns : goal.returns
 unfolding backups_complete
 returns c =
     let start = c.args in
     let all : c.loop-j.j ≡ start.f = omega arith in
-    sym c.loop-j.invariant.1 ∙ ap (λ (m : ℕ). all_to m (held start.n start.c.acks.from start.c.acks.sets)) all
+    sym c.loop-j.invariant ∙ ap (λ (m : ℕ). all_to m (held start.n start.c.acks.from start.c.acks.sets)) all

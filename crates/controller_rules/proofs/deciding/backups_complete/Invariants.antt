@@ -1,5 +1,5 @@
 -- The loop over 1 to f stops at the first acknowledgement that is not held and full; so far all were. No acknowledgement of a number above the limit is held.
-use Prim.Native.Nat.{ℕ, ◌≤◌, ◌-◌}
+use Prim.Native.Nat.{ℕ}
 use mathlib.Core.Path.{◌≡◌}
 use mathlib.Core.Bool.{Bool, true, ◌&&◌}
 use mathlib.Core.List.{List}
@@ -15,7 +15,4 @@ abbrev pub held : ℕ → ℕ → List VoteSet → ℕ → Bool
 held n from sets j = has from j && complete n (nth empty sets j)
 
 abbrev pub invariant-loop-j : goal.invariant-loop-j
-invariant-loop-j l = (l.j ≤ l.f) × (all_to l.j (held l.n l.from l.sets) ≡ true)
-
-abbrev pub decreases-loop-j : goal.decreases-loop-j
-decreases-loop-j l = l.f - l.j
+invariant-loop-j l = all_to l.j (held l.n l.from l.sets) ≡ true

@@ -10,7 +10,7 @@ use Rattle.controller_rules.proofs.held.any_ack_contradicts.Goals as goal
 
 pub loop-j-init : goal.loop-j-init
 unfolding any_to
-loop-j-init c = (omega arith, refl)
+loop-j-init c = refl
 
 pub returns-then-ack_contradicts : goal.returns-then-ack_contradicts
 returns-then-ack_contradicts c =
@@ -23,10 +23,10 @@ pub loop-j-preserved : goal.loop-j-preserved
 unfolding any_to
 loop-j-preserved c =
     let no = sym c.ack_contradicts.ensures ∙ c.if-ack_contradicts.false in
-    (omega arith, rw add-one (or_no _ _ (rw add-one at no) c.loop-j.invariant.1))
+    rw add-one (or_no _ _ (rw add-one at no) c.loop-j.invariant)
 
 pub returns : goal.returns
 returns c =
     let start = c.args in
     let all : c.loop-j.j ≡ start.n = omega arith in
-    sym c.loop-j.invariant.1 ∙ ap (λ (m : ℕ). any_to m (against start.a start.s)) all
+    sym c.loop-j.invariant ∙ ap (λ (m : ℕ). any_to m (against start.a start.s)) all

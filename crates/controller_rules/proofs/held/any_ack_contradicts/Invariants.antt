@@ -1,5 +1,5 @@
 -- The loop over 1 to n stops at the first acknowledgement that is held and contradicts; so far none did.
-use Prim.Native.Nat.{ℕ, ◌≤◌, ◌-◌}
+use Prim.Native.Nat.{ℕ}
 use mathlib.Core.Path.{◌≡◌}
 use mathlib.Core.Bool.{Bool, false, ◌&&◌}
 use Rattle.ground.specs.Mask.{has}
@@ -16,7 +16,4 @@ abbrev pub against : Acks → VoteSet → ℕ → Bool
 against a s j = has a.from j && contradicts (nth empty a.sets j) s
 
 abbrev pub invariant-loop-j : goal.invariant-loop-j
-invariant-loop-j l = (l.j ≤ l.n) × (any_to l.j (against l.a l.s) ≡ false)
-
-abbrev pub decreases-loop-j : goal.decreases-loop-j
-decreases-loop-j l = l.n - l.j
+invariant-loop-j l = any_to l.j (against l.a l.s) ≡ false

@@ -14,8 +14,8 @@ returns c =
     (simp (c.in_phase-next.ensures, c.outcome_in.ensures))
     c.helped_after-helped.ensures
     c.word_after-put.ensures
-    _ c.condition_after-condition.ensures
+    _ c.condition_after.ensures
     _ c.position_after-position.ensures
     _ c.waits_after.ensures
     _ (simp (c.helps-sends.ensures, c.calls_after.ensures))
-    _ c.put_or-proposal.ensures
+    _ c.or_else-proposal.ensures

@@ -3,4 +3,4 @@ use Rattle.controller_state.proofs.answers.proposing.Goals as goal
 
 pub returns : goal.returns
 unfolding proposing
-returns c = simp c.propose-controller.ensures
+returns c = simp c.propose.ensures

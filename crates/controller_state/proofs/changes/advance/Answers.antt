@@ -3,4 +3,4 @@ use Rattle.controller_state.proofs.changes.advance.Goals as goal
 
 pub returns : goal.returns
 unfolding advance
-returns c = simp (c.outcome_in.ensures, c.in_phase-condition.ensures)
+returns c = simp (c.outcome_in.ensures, c.in_phase.ensures)

@@ -3,4 +3,4 @@ use Rattle.controller_state.proofs.changes.conclude.Goals as goal
 
 pub returns : goal.returns
 unfolding conclude
-returns c = simp (c.noting-condition.ensures, c.landing-position.ensures)
+returns c = simp (c.noting.ensures, c.landing.ensures)

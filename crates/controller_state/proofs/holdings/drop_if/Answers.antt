@@ -26,5 +26,5 @@ returns c =
       sym c.has.ensures ∙ c.if-not-has.false,
       ap (λ (x : VoteSet). contradicts x start.s) (sym c.set_of.ensures) ∙ sym c.contradicts.ensures ∙ c.if-not-contradicts.false,
       c.remove.ensures,
-      c.lower.ensures,
+      c.saturating_sub.ensures,
     )

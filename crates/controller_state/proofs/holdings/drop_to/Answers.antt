@@ -8,14 +8,14 @@ use Rattle.controller_state.proofs.holdings.drop_to.Goals as goal
 
 pub loop-j-init : goal.loop-j-init
 unfolding drop_to
-loop-j-init c = (omega arith, refl)
+loop-j-init c = refl
 
 pub loop-j-preserved : goal.loop-j-preserved
 unfolding drop_to
-loop-j-preserved c = (omega arith, c.drop_if-acks.ensures ∙ rw (add-one, c.loop-j.invariant.1))
+loop-j-preserved c = c.drop_if-acks.ensures ∙ rw (add-one, c.loop-j.invariant)
 
 pub returns : goal.returns
 returns c =
     let start = c.args in
     let e : c.loop-j.j ≡ start.m = omega arith in
-    c.loop-j.invariant.1 ∙ ap (λ (x : ℕ). drop_to x start.s start.a) e
+    c.loop-j.invariant ∙ ap (λ (x : ℕ). drop_to x start.s start.a) e

@@ -17,19 +17,18 @@ one_more p s k at inv e n = n ∙ rw (inv, e, at) (sym (every-next p s k))
 
 pub loop-k-init : goal.loop-k-init
 unfolding every lockages_to
-loop-k-init c = (omega arith, refl, refl)
+loop-k-init c = (refl, refl)
 
 pub loop-k-preserved : goal.loop-k-preserved
 loop-k-preserved c =
     let s = c.args.s.now in
     let k = c.loop-k.k in (
-      omega arith,
-      one_more listed s k c.lockage_at-l.ensures c.loop-k.invariant.1 c.listed.ensures c.both-listed_all.ensures,
-      one_more in_range s k c.lockage_at-l.ensures c.loop-k.invariant.2 c.in_range.ensures c.both-in_range_all.ensures,
+      one_more listed s k c.lockage_at-l.ensures c.loop-k.invariant.0 c.listed-listed_all.ensures refl,
+      one_more in_range s k c.lockage_at-l.ensures c.loop-k.invariant.1 c.in_range-in_range_all.ensures refl,
     )
 
 pub returns : goal.returns
 returns c =
     let s = c.args.s.now in
     let e : c.loop-k.k ≡ length s / 4 = omega arith in
-    record { listed_value = c.loop-k.invariant.1 ∙ rw e; in_range_value = c.loop-k.invariant.2 ∙ rw e }
+    record { listed_value = c.loop-k.invariant.0 ∙ rw e; in_range_value = c.loop-k.invariant.1 ∙ rw e }

@@ -11,7 +11,7 @@ use Rattle.dues.proofs.sheet.totals.Goals as goal
 
 pub loop-done-init : goal.loop-done-init
 unfolding total lockages_to
-loop-done-init c = (omega arith, refl, refl)
+loop-done-init c = (refl, refl)
 
 pub overflow_add-upper : goal.overflow_add-upper
 unfolding shared
@@ -32,9 +32,8 @@ loop-done-preserved c =
     let k = c.loop-done.done in
     let e : c.lockage_shares-shares.result ≡ shared (charge_of (lockage_at s (k * 4))) =
     c.lockage_shares-shares.ensures ∙ ap (λ (l : Lockage). shared (charge_of l)) c.lockage_at.ensures in (
-      omega arith,
-      rw (c.loop-done.invariant.1, e) (sym (total-next upper_of s k)),
-      rw (c.loop-done.invariant.2, e) (sym (total-next lower_of s k)),
+      rw (c.loop-done.invariant.0, e) (sym (total-next upper_of s k)),
+      rw (c.loop-done.invariant.1, e) (sym (total-next lower_of s k)),
     )
 
 pub returns : goal.returns
@@ -42,4 +41,4 @@ unfolding totals
 returns c =
     let s = c.args.s.now in
     let e : c.loop-done.done ≡ length s / 4 = omega arith in
-    rw (c.loop-done.invariant.1, c.loop-done.invariant.2, e)
+    rw (c.loop-done.invariant.0, c.loop-done.invariant.1, e)

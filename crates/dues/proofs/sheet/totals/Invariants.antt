@@ -1,5 +1,4 @@
 -- `dues::sheet::totals` meets its contract. The invariant: after `done` lockages, `upper` and `lower` are what these come to.
-use Prim.Native.Nat.{◌-◌, ◌≤◌}
 use mathlib.Core.Path.{◌≡◌}
 use Rattle.dues.specs.Sheet.{lockages_to, total}
 use Rattle.dues.specs.SheetLaws.{upper_of, lower_of}
@@ -7,7 +6,4 @@ use Rattle.dues.proofs.sheet.totals.Given as goal
 
 abbrev pub invariant-loop-done : goal.invariant-loop-done
 invariant-loop-done l =
-    (l.done ≤ l.count) × (l.upper ≡ total upper_of (lockages_to l.s l.done)) × (l.lower ≡ total lower_of (lockages_to l.s l.done))
-
-abbrev pub decreases-loop-done : goal.decreases-loop-done
-decreases-loop-done l = l.count - l.done
+    (l.upper ≡ total upper_of (lockages_to l.s l.done)) × (l.lower ≡ total lower_of (lockages_to l.s l.done))

@@ -7,4 +7,4 @@ returns-in-Open c = simp c.in-Open.is
 
 pub returns-in-Carry : goal.returns-in-Carry
 unfolding ballot_fields
-returns-in-Carry c = simp (c.in-Carry.is, c.ballot_kind_number.ensures)
+returns-in-Carry c = simp (c.in-Carry.is, c.from.ensures)

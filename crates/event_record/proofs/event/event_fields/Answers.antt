@@ -4,7 +4,7 @@ use Rattle.event_record.proofs.event.event_fields.Goals as goal
 
 pub returns-in-Lock : goal.returns-in-Lock
 unfolding event_fields
-returns-in-Lock c = simp (c.in-Lock.is, c.flag_number.ensures)
+returns-in-Lock c = simp (c.in-Lock.is, c.from.ensures)
 
 pub returns-in-Order : goal.returns-in-Order
 unfolding event_fields
@@ -12,11 +12,11 @@ returns-in-Order c = simp c.in-Order.is
 
 pub returns-in-Cast : goal.returns-in-Cast
 unfolding event_fields
-returns-in-Cast c = simp (c.in-Cast.is, c.flag_number-in-Cast.ensures)
+returns-in-Cast c = simp (c.in-Cast.is, c.from-in-Cast.ensures)
 
 pub returns-in-Deliver : goal.returns-in-Deliver
 unfolding event_fields
-returns-in-Deliver c = simp (c.in-Deliver.is, c.kind_number.ensures)
+returns-in-Deliver c = simp (c.in-Deliver.is, c.from-in-Deliver.ensures)
 
 pub returns-in-Timeout : goal.returns-in-Timeout
 unfolding event_fields
@@ -24,7 +24,7 @@ returns-in-Timeout c = simp c.in-Timeout.is
 
 pub returns-in-Decide : goal.returns-in-Decide
 unfolding event_fields
-returns-in-Decide c = simp (c.in-Decide.is, c.flag_number-in-Decide.ensures)
+returns-in-Decide c = simp (c.in-Decide.is, c.from-in-Decide.ensures)
 
 pub returns-in-Stop : goal.returns-in-Stop
 unfolding event_fields

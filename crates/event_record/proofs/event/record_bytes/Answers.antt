@@ -1,5 +1,6 @@
+use Rattle.std.proofs.Common.{◌∙◌}
+use Rattle.records.proofs.ByteLaws.{be_four}
 use Rattle.event_record.proofs.event.record_bytes.Goals as goal
 
 pub returns : goal.returns
-returns c =
-    simp (← c.low_byte.ensures, ← c.low_byte-2.ensures, ← c.low_byte-3.ensures, ← c.low_byte-4.ensures, ← c.low_byte-5.ensures, c.low_byte-6.ensures)
+returns c = rw (c.to_be_bytes-mark.ensures, c.to_be_bytes-value.ensures ∙ be_four _)

@@ -1,5 +1,5 @@
 -- `write_event` meets its contract.
-use mathlib.Core.Path.{refl}
+use Rattle.std.proofs.Common.{refl}
 use Rattle.model.specs.Questions.{first_no}
 use Rattle.records.proofs.FrameLaws.{record-written}
 use Rattle.event_record.specs.Events.{events}
@@ -7,5 +7,4 @@ use Rattle.event_record.proofs.event.write_event.Goals as goal
 
 pub returns : goal.returns
 unfolding first_no
-returns c =
-    record-written events _ _ _ c.event_bytes-content.ensures refl 0 refl refl c.write_record.ensures
+returns c = record-written events _ _ _ c.event_bytes-content.ensures refl refl c.write_record.ensures

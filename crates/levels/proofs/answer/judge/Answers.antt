@@ -1,5 +1,6 @@
 -- `levels::judge` meets its contract: each return is one case of `willingness` (HeightLaws), which is right of every pair of levels (`right_answer`).
-use Rattle.std.proofs.Common.{sym, ◌∙◌}
+use Rattle.std.proofs.Common.{sym, ap, ◌∙◌}
+use Rattle.std.specs.Prelude.{Ok}
 use Rattle.levels.proofs.EndsLaws.{right_answer}
 use Rattle.levels.proofs.HeightLaws.{listed-true, above-outside, below-outside, above_crossed, below_crossed, answered}
 use Rattle.levels.proofs.answer.judge.Goals as goal
@@ -29,4 +30,4 @@ by_heights-requires c =
 
 pub returns : goal.returns
 returns c =
-    let both = right_answer _ _ _ (c.by_heights.ensures ∙ answered _ _ _ _ c.raised_range-a.ensures c.raised_range-b.ensures (sym c.both_listed.ensures ∙ c.if-not-both_listed.false) (sym c.both_listed-2.ensures ∙ c.if-not-both_listed-2.false) c.if-a.false c.if-b.false) in record { right = both.0; by_ends = both.1 }
+    let both = right_answer _ _ _ (ap Ok c.by_heights.ensures ∙ answered _ _ _ _ c.raised_range-a.ensures c.raised_range-b.ensures (sym c.both_listed.ensures ∙ c.if-not-both_listed.false) (sym c.both_listed-2.ensures ∙ c.if-not-both_listed-2.false) c.if-a.false c.if-b.false) in record { right = both.0; by_ends = both.1 }

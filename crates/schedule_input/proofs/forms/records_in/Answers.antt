@@ -11,4 +11,4 @@ returns-then-out-s c = same_answer _ (of-records c.args.s.now (sym c.is_text.ens
 
 pub returns : goal.returns
 returns c =
-    same_answer _ (of-records c.args.s.now (sym c.is_text.ensures ∙ c.if-is_text.false)) (copied c.args.s.now _ _ _ c.if-out-s.false c.put_bytes.ensures)
+    same_answer _ (of-records c.args.s.now (sym c.is_text.ensures ∙ c.if-is_text.false)) (copied c.args.s.now _ _ _ c.if-out-s.false (c.write_bytes.ensures.value, c.write_bytes.ensures.out_after))

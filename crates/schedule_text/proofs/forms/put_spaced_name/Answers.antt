@@ -1,5 +1,5 @@
-use Rattle.text.specs.WritingLaws.{put_then}
+use Rattle.text.proofs.Wrote.{wrote_then, wrote-text}
 use Rattle.schedule_text.proofs.forms.put_spaced_name.Goals as goal
 
 pub returns : goal.returns
-returns c = put_then c.put_byte-next.ensures c.put_name.ensures
+returns c = wrote_then c.byte.ensures (wrote-text c.bytes.ensures c.nth_word.ensures)

@@ -1,6 +1,8 @@
 -- `schedule_text::read_line` meets its contract. The invariant: the first i words, which stand before `at`, gave these fields.
 use Prim.Native.Nat.{◌+◌}
-use mathlib.Core.Path.{refl, sym, ◌∙◌, ap}
+use mathlib.Core.Path.{◌≡◌, refl, sym, ◌∙◌, ap}
+use Rattle.std.specs.Prelude.{Some, None}
+use Rattle.std.proofs.lemmas.Result.{err_from_is_err_and}
 use native.Mathlib.Omega.{arith}
 use lib.ListN.{drop}
 use Rattle.words.specs.Words.{words_of}
@@ -27,15 +29,20 @@ returns-then-from-to c =
 pub slice_bounds-value_in-end : goal.slice_bounds-value_in-end
 slice_bounds-value_in-end c = c.next_word-word.ensures.high c.loop-x.invariant.0
 
-pub returns-in_default : goal.returns-in_default
-returns-in_default c =
+pub returns-in_err-v : goal.returns-in_err-v
+returns-in_err-v c =
     let m = c.loop-x in
     let l = c.args.l.now in
     let s = (c.slot_in-slot.ensures ∙ ap (λ (r : Row). slot_in r m.i) c.row_of.ensures) in
-    not_expected m.i m.x s (next l m.at c.next_word-word.ensures c.if-from-to.false) (sym c.in_default.is ∙ c.value_in-found.ensures) ∙ m.invariant.2
+    let none : c.value_in.result ≡ None = grind arith in
+    let place : c.in_err-v.field-0.0 ≡ record { 0 = m.i } = grind arith in
+    let p = err_from_is_err_and c.from_residual.result c.from_residual.ensures.1 in
+    rw (p.1, p.2, place) (not_expected m.i m.x s (next l m.at c.next_word-word.ensures c.if-from-to.false) (sym none ∙ c.value_in.ensures) ∙ m.invariant.2)
 
 pub with_field-x-requires : goal.with_field-x-requires
-with_field-x-requires c = fits_field _ _ _ (sym c.in-Value.is ∙ c.value_in-found.ensures)
+with_field-x-requires c =
+    let some : c.value_in.result ≡ Some c.in_ok-v.v = grind arith in
+    fits_field _ _ _ (sym some ∙ c.value_in.ensures)
 
 pub loop-x-smaller : goal.loop-x-smaller
 loop-x-smaller c =
@@ -47,7 +54,8 @@ loop-x-preserved c =
     let l = c.args.l.now in
     let n = c.next_word-word.ensures in
     let s = (c.slot_in-slot.ensures ∙ ap (λ (r : Row). slot_in r m.i) c.row_of.ensures) in
-    let e = word-taken m.i m.x s c.in-Value.v (next l m.at n c.if-from-to.false) (sym c.in-Value.is ∙ c.value_in-found.ensures) in (
+    let some : c.value_in.result ≡ Some c.in_ok-v.v = grind arith in
+    let e = word-taken m.i m.x s c.in_ok-v.v (next l m.at n c.if-from-to.false) (sym some ∙ c.value_in.ensures) in (
       n.high m.invariant.0,
       omega arith,
       ap (λ (y : Fields). read_words (m.i + 1) y (words_of (drop c.next_word-word.result.to l))) c.with_field-x.ensures ∙ sym e ∙ m.invariant.2,

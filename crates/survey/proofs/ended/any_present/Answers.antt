@@ -1,37 +1,28 @@
--- `survey::ended::any_present` meets its contract. The invariant: the test is that over the first i controllers.
-use Prim.Native.Nat.{ℕ, ◌+◌}
-use mathlib.Core.Bool.{Bool, ◌||◌}
-use mathlib.Core.List.{List}
-use mathlib.Core.Path.{◌≡◌, refl, ◌∙◌, ap}
-use native.Mathlib.Numerals.{add-one}
-use native.Mathlib.Omega.{arith}
-use lib.ListN.{get_or}
+-- `survey::ended::any_present` meets its contract. The invariant: of the first i controllers none is present.
+use Rattle.std.specs.Prelude.{ℕ, ◌+◌, ◌≡◌, Bool, true, false, refl}
+use Rattle.std.proofs.Common.{sym, ◌∙◌, ap, arith, add-one}
 use Rattle.ground.specs.Lists.{nth}
-use Rattle.ground.specs.Quantify.{any_to}
+use Rattle.ground.specs.Quantify.{any_to, any_of}
 use Rattle.bench_report.specs.declared.Row.{Row}
-use Rattle.bench_report.specs.Lines.{blank_row}
-use Rattle.survey.specs.Ended.{is_present, any_present}
-use Rattle.survey.proofs.ended.any_present.Invariants.{some_to}
+use Rattle.survey.specs.Ended.{is_present, row_of, any_present}
 use Rattle.survey.proofs.ended.any_present.Goals as goal
-
--- one controller more
-one_more : (rows : List Row) (i : ℕ) (row : Row) (some r : Bool) → row ≡ get_or rows i blank_row → some ≡ some_to rows i → r ≡ (is_present row || some) → r ≡ some_to rows (i + 1)
-unfolding any_to nth
-one_more rows i row some r at inv e = e ∙ rw (add-one, at, inv)
 
 pub loop-i-init : goal.loop-i-init
 unfolding any_to
-loop-i-init c = (omega arith, refl)
+loop-i-init c = refl
+
+pub returns-then-is_present : goal.returns-then-is_present
+unfolding any_present nth
+returns-then-is_present c =
+    let here : is_present c.row_at.result ≡ true = sym c.is_present.ensures ∙ c.if-is_present.true in
+    sym (any_of c.args.end.n (λ k. is_present (row_of c.args.end k)) (c.loop-i.i + 1) (omega arith) (omega arith) (rw add-one (rw c.row_at.ensures at here)))
 
 pub loop-i-preserved : goal.loop-i-preserved
+unfolding any_to nth
 loop-i-preserved c =
-    let l = c.loop-i in
-    (omega arith, one_more _ l.i _ l.some _ c.row_at-row.ensures l.invariant.1 c.some_with-some.ensures)
+    let here : is_present c.row_at.result ≡ false = sym c.is_present.ensures ∙ c.if-is_present.false in
+    rw (add-one, rw c.row_at.ensures at here) c.loop-i.invariant
 
 pub returns : goal.returns
 unfolding any_present
-returns c =
-    let l = c.loop-i in
-    let a = c.args in
-    let e : l.i ≡ a.end.n = omega arith in
-    l.invariant.1 ∙ ap (some_to a.end.rows) e
+returns c = let e : c.loop-i.i ≡ c.args.end.n = omega arith in sym (rw e at c.loop-i.invariant)

@@ -1,11 +1,6 @@
 -- `survey::page::put_messages` meets its contract.
-use Rattle.text.specs.WritingLaws.{put_then, put-length}
+use Rattle.text.proofs.Wrote.{wrote_then}
 use Rattle.survey.proofs.page.put_messages.Goals as goal
 
 pub returns : goal.returns
-returns c =
-    put_then c.put_number-next.ensures (put_then c.put_field-next.ensures (put_then c.put_field-next-2.ensures
-    (put_then c.put_field-next-3.ensures c.put_byte.ensures)))
-
-pub shape_of-out : goal.shape_of-out
-shape_of-out c = put-length (returns c)
+returns c = wrote_then c.number.ensures (wrote_then c.field.ensures (wrote_then c.field-2.ensures (wrote_then c.field-3.ensures c.byte.ensures)))

@@ -1,5 +1,5 @@
 -- `survey_output::surveying::survey_in` meets its contract. The invariant: the figures are those of the schedules done, and the buffer is as long as a file.
-use Prim.Native.Nat.{◌*◌, ◌-◌, ◌≤◌}
+use Prim.Native.Nat.{◌*◌}
 use mathlib.Core.Path.{◌≡◌}
 use lib.ListN.{length}
 use Rattle.event_record.specs.Events.{event_length}
@@ -9,7 +9,4 @@ use Rattle.survey_output.specs.Schedules.{end_of}
 use Rattle.survey_output.proofs.surveying.survey_in.Given as goal
 
 abbrev pub invariant-loop-done : goal.invariant-loop-done
-invariant-loop-done l = (l.done ≤ l.k) × (l.r ≡ survey_of (end_of l.n l.f l.count) l.s l.done) × (length l.file ≡ event_length * records_in l.n l.count)
-
-abbrev pub decreases-loop-done : goal.decreases-loop-done
-decreases-loop-done l = l.k - l.done
+invariant-loop-done l = (l.r ≡ survey_of (end_of l.n l.f l.count) l.s l.done) × (length l.file ≡ event_length * records_in l.n l.count)

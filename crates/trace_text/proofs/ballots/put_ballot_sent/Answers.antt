@@ -1,5 +1,5 @@
 -- `trace_text::ballots::put_ballot_sent` meets its contract.
-use Rattle.text.specs.WritingLaws.{put-text, put-nothing}
+use Rattle.text.proofs.Wrote.{wrote-text}
 use native.Mathlib.Omega.{arith}
 use mathlib.Core.Path.{sym, ◌∙◌, ap}
 use Rattle.protocol.specs.Ballots.{new_row}
@@ -9,7 +9,7 @@ use Rattle.trace_text.proofs.ballots.put_ballot_sent.Goals as goal
 
 pub returns-then-not-is_ballot : goal.returns-then-not-is_ballot
 unfolding text
-returns-then-not-is_ballot c = put-text (put-nothing _ _ (omega arith) (omega arith)) (ap text (no-ballot _ _ _ _ _ c.ballot_of-b.ensures (sym c.is_ballot.ensures ∙ c.if-not-is_ballot.true)))
+returns-then-not-is_ballot c = wrote-text c.bytes.ensures (ap text (no-ballot _ _ _ _ _ c.ballot_of-b.ensures (sym c.is_ballot.ensures ∙ c.if-not-is_ballot.true)))
 
 pub overflow_sub-k : goal.overflow_sub-k
 overflow_sub-k c = ballot-low _ (sym c.is_ballot.ensures ∙ c.if-not-is_ballot.false)
@@ -26,4 +26,4 @@ overflow_cast-b c = omega (arith, ballot-low _ (sym c.is_ballot.ensures ∙ c.if
 pub returns : goal.returns
 unfolding new_row
 returns c =
-    put-text c.put_in_ballot.ensures (ap text (in-ballot _ _ _ _ _ c.ballot_of-b.ensures (sym c.is_ballot.ensures ∙ c.if-not-is_ballot.false)))
+    wrote-text c.put_in_ballot.ensures (ap text (in-ballot _ _ _ _ _ c.ballot_of-b.ensures (sym c.is_ballot.ensures ∙ c.if-not-is_ballot.false)))

@@ -7,10 +7,10 @@ pub returns-then-r-s : goal.returns-then-r-s
 unfolding same_row
 returns-then-r-s c = simp (ne_eqb _ _ c.if-r-s.true)
 
-pub returns-then-outcome_number : goal.returns-then-outcome_number
+pub returns-then-from : goal.returns-then-from
 unfolding same_row
-returns-then-outcome_number c = simp (eq-eqb _ _ c.if-r-s.false, ← c.outcome_number.ensures, ← c.outcome_number-2.ensures, ne_eqb _ _ c.if-outcome_number.true)
+returns-then-from c = simp (eq-eqb _ _ c.if-r-s.false, ← c.from.ensures, ← c.from-2.ensures, ne_eqb _ _ c.if-from.true)
 
 pub returns : goal.returns
 unfolding same_row
-returns c = simp (eq-eqb _ _ c.if-r-s.false, ← c.outcome_number.ensures, ← c.outcome_number-2.ensures, eq-eqb _ _ c.if-outcome_number.false)
+returns c = simp (eq-eqb _ _ c.if-r-s.false, ← c.from.ensures, ← c.from-2.ensures, eq-eqb _ _ c.if-from.false)

@@ -1,10 +1,8 @@
 -- `trace_text::lines::put_told_if` meets its contract.
-use Rattle.text.specs.WritingLaws.{put-nothing}
-use native.Mathlib.Omega.{arith}
 use Rattle.trace_text.proofs.lines.put_told_if.Goals as goal
 
 pub returns-then-shows : goal.returns-then-shows
 returns-then-shows c = rw c.if-shows.true c.put_told.ensures
 
 pub returns : goal.returns
-returns c = rw c.if-shows.false (put-nothing _ _ (omega arith) (omega arith))
+returns c = rw c.if-shows.false c.bytes.ensures

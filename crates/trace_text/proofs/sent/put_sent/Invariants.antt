@@ -1,8 +1,7 @@
 -- `trace_text::sent::put_sent` meets its contract.
-use Prim.Native.Nat.{ℕ, ◌≤◌, ◌-◌}
+use Prim.Native.Nat.{ℕ}
 use mathlib.Core.List.{List}
-use Rattle.ground.specs.Limit.{limit}
-use Rattle.text.specs.Writing.{Put}
+use Rattle.text.specs.Writers.{Wrote}
 use Rattle.model.specs.declared.Kind.{Kind}
 use Rattle.protocol.specs.declared.Station.{Station}
 use Rattle.protocol.specs.Benches.{of_kind}
@@ -14,7 +13,4 @@ abbrev pub told : Kind → List Station → List Station → ℕ → List Line
 told kind old new i = sent_to kind i (of_kind kind (station_at old i).sent).to (of_kind kind (station_at new i).sent).to
 
 abbrev pub invariant-loop-i : goal.invariant-loop-i
-invariant-loop-i l = (l.i ≤ limit) × Put l.initial.out l.out l.at l.next (text (each l.i (told l.kind l.old l.new)))
-
-abbrev pub decreases-loop-i : goal.decreases-loop-i
-decreases-loop-i l = limit - l.i
+invariant-loop-i l = Wrote l.initial.w l.w (text (each l.i (told l.kind l.old l.new)))

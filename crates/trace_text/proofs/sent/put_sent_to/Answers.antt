@@ -3,29 +3,24 @@ use Prim.Native.Nat.{ℕ}
 use mathlib.Core.Path.{◌∙◌, ap}
 use native.Mathlib.Numerals.{add-one}
 use native.Mathlib.Omega.{arith}
-use Rattle.text.specs.WritingLaws.{put-length}
+use Rattle.std.proofs.Common.{rules}
 use Rattle.ground.specs.Mask.{has}
 use Rattle.model.specs.declared.Event.TheVariants.{Deliver}
-use Rattle.trace.specs.LineLaws.{put_no-lines, put-more, put_all, put-sent}
+use Rattle.trace_text.proofs.Told.{wrote_no-lines, wrote-more, wrote_all, wrote-sent}
 use Rattle.trace.specs.Shown.{is_new, sent_to}
 use Rattle.trace_text.proofs.sent.put_sent_to.Invariants.{told}
 use Rattle.trace_text.proofs.sent.put_sent_to.Goals as goal
 
 pub loop-j-init : goal.loop-j-init
-loop-j-init c = (omega arith, put_no-lines _ _ _ (omega arith) (omega arith))
+loop-j-init c = wrote_no-lines _ _ (search rules) (search rules)
 
 pub loop-j-preserved : goal.loop-j-preserved
 loop-j-preserved c =
     let l = c.loop-j in
-    let a = c.args in (
-      omega arith,
-      put-more l.j (told a.kind a.i a.old a.new) l.invariant.1
-          (put-sent _ _ _ _ (c.is_new.ensures ∙ ap (λ (j : ℕ). is_new (has a.old j) (has a.new j)) (add-one l.j)) (ap (λ (j : ℕ). Deliver a.i j a.kind) (add-one l.j)) c.put_told_if-next.ensures),
-    )
-
-pub shape_of-out : goal.shape_of-out
-shape_of-out c = put-length c.loop-j.invariant.1
+    let a = c.args in
+    wrote-more l.j (told a.kind a.i a.old a.new) l.invariant
+    (wrote-sent _ _ _ _ (c.is_new.ensures ∙ ap (λ (j : ℕ). is_new (has a.old j) (has a.new j)) (add-one l.j)) (ap (λ (j : ℕ). Deliver a.i j a.kind) (add-one l.j)) c.put_told_if.ensures)
 
 pub returns : goal.returns
 unfolding sent_to
-returns c = put_all _ (omega arith) c.loop-j.invariant.1
+returns c = wrote_all _ (omega arith) c.loop-j.invariant

@@ -1,8 +1,7 @@
 -- `trace_text::sent::put_sent_to` meets its contract.
-use Prim.Native.Nat.{ℕ, ◌≤◌, ◌-◌}
+use Prim.Native.Nat.{ℕ}
 use mathlib.Core.List.{List}
-use Rattle.ground.specs.Limit.{limit}
-use Rattle.text.specs.Writing.{Put}
+use Rattle.text.specs.Writers.{Wrote}
 use Rattle.ground.specs.Mask.{has}
 use Rattle.model.specs.declared.Kind.{Kind}
 use Rattle.model.specs.declared.Event.TheVariants.{Deliver}
@@ -14,7 +13,4 @@ abbrev pub told : Kind → ℕ → ℕ → ℕ → ℕ → List Line
 told kind i old new j = when (is_new (has old j) (has new j)) (Sent (Deliver i j kind))
 
 abbrev pub invariant-loop-j : goal.invariant-loop-j
-invariant-loop-j l = (l.j ≤ limit) × Put l.initial.out l.out l.at l.next (text (each l.j (told l.kind l.i l.old l.new)))
-
-abbrev pub decreases-loop-j : goal.decreases-loop-j
-decreases-loop-j l = limit - l.j
+invariant-loop-j l = Wrote l.initial.w l.w (text (each l.j (told l.kind l.i l.old l.new)))

@@ -3,10 +3,10 @@ use Rattle.votes.specs.VoteSets.{complete, unanimous}
 use Rattle.votes.specs.Tallies.{tally_of}
 use Rattle.votes.proofs.tallies.tally_of.Goals as goal
 
-pub returns-then-full_to : goal.returns-then-full_to
+pub returns-then-complete : goal.returns-then-complete
 unfolding tally_of complete unanimous
-returns-then-full_to c = simp (← c.full_to.ensures, c.if-full_to.true, c.full_to-unanimous.ensures)
+returns-then-complete c = simp (← c.full_to-complete.ensures, c.if-complete.true, c.full_to-unanimous.ensures)
 
-pub returns : goal.returns
+pub returns-else-complete : goal.returns-else-complete
 unfolding tally_of complete unanimous
-returns c = simp (← c.full_to.ensures, c.if-full_to.false)
+returns-else-complete c = simp (← c.full_to-complete.ensures, c.if-complete.false)

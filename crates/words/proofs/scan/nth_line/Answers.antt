@@ -1,48 +1,10 @@
--- `words::nth_line` meets its contract. The invariant: line i begins at `at`.
-use Prim.Native.Nat.{ℕ, ◌+◌, ◌-◌, ◌≤◌, ◌<◌}
-use mathlib.Core.Path.{◌≡◌, ◌∙◌, ap}
-use native.Mathlib.Omega.{arith}
-use lib.ListN.{length}
-use Rattle.words.specs.Words.{end_of_run, span, line_at}
-use Rattle.words.specs.LineLaws.{past_end, line-begun, line_on, line_nowhere, line-here}
-use Rattle.words.specs.declared.Class.TheVariants.{Line}
+-- `words::nth_line` meets its contract.
+use Rattle.std.proofs.Common.{◌∙◌, ap}
+use Rattle.words.specs.Words.{part}
+use Rattle.words.specs.LineLaws.{nth-line}
 use Rattle.words.proofs.scan.nth_line.Goals as goal
-
-pub loop-i-init : goal.loop-i-init
-loop-i-init c = (omega arith, omega arith, line-begun _)
-
-pub returns-then-s-at : goal.returns-then-s-at
-returns-then-s-at c =
-    let l = c.loop-i in
-    let a = c.args in
-    let h : length a.s.now < line_at a.s.now l.i = rw (← l.invariant.2) c.if-s-at.true in
-    let e : l.i + (a.k - l.i) ≡ a.k = omega arith in
-    (line_nowhere a.s.now a.k (rw e at (past_end a.s.now l.i (a.k - l.i) h)), omega arith, omega arith)
-
-pub overflow_add-at : goal.overflow_add-at
-overflow_add-at c = omega (arith, c.end_of_run-at.ensures.high c.if-s-at.false)
-
-pub loop-i-preserved : goal.loop-i-preserved
-loop-i-preserved c =
-    let l = c.loop-i in
-    let s = c.args.s.now in
-    let e = c.end_of_run-at.ensures in
-    (omega arith, omega (arith, e.high c.if-s-at.false), ap (λ (j : ℕ). j + 1) (e.is ∙ ap (end_of_run Line s) l.invariant.2) ∙ line_on s l.i)
-
-pub returns-then-s-at-2 : goal.returns-then-s-at-2
-returns-then-s-at-2 c =
-    let l = c.loop-i in
-    let a = c.args in
-    let e : l.i ≡ a.k = omega arith in
-    (line_nowhere a.s.now a.k (rw (← e, ← l.invariant.2) c.if-s-at-2.true), omega arith, omega arith)
 
 pub returns : goal.returns
 returns c =
-    let l = c.loop-i in
     let a = c.args in
-    let s = a.s.now in
-    let e = c.end_of_run-to.ensures in
-    let k : l.i ≡ a.k = omega arith in
-    let at : l.at ≡ line_at s a.k = l.invariant.2 ∙ ap (line_at s) k in
-    let h : line_at s a.k ≤ length s = rw (← at) c.if-s-at-2.false in
-    (ap (span l.at) e.is ∙ ap (λ (j : ℕ). span j (end_of_run Line s j)) at ∙ line-here s a.k h, e.low, e.high c.if-s-at-2.false)
+    ap (part a.s.now) c.line_span-span.ensures.0 ∙ nth-line a.s.now a.k

@@ -1,8 +1,0 @@
-use borrow.Author.Tests.{eq-eqb, ne_eqb}
-use Rattle.cabinet_turns.proofs.telegrams.no_acceptance_sent.Goals as goal
-
-pub returns-then-last-eq0 : goal.returns-then-last-eq0
-returns-then-last-eq0 c = simp (eq-eqb _ _ c.if-last-eq0.true)
-
-pub returns : goal.returns
-returns c = simp (ne_eqb _ _ c.if-last-eq0.false, c.owner.ensures)

@@ -1,5 +1,0 @@
--- A number has a digit less at each call.
-use Rattle.text.proofs.+put_number.Given as goal
-
-abbrev pub decreases-put_number : goal.decreases-put_number
-decreases-put_number l = l.v

@@ -1,7 +1,0 @@
--- `text::put_field` meets its contract.
-use Rattle.text.specs.WritingLaws.{put_then}
-use Rattle.text.proofs.put_field.Goals as goal
-
-pub returns : goal.returns
-returns c =
-    put_then c.put_byte-next.ensures c.put_number.ensures

@@ -1,8 +1,0 @@
--- `try_text::main` ends: the rounds are counted down.
-use Rattle.try_text.proofs.main.Given as goal
-
-abbrev pub invariant-loop-rounds : goal.invariant-loop-rounds
-invariant-loop-rounds l = Unit
-
-abbrev pub decreases-loop-rounds : goal.decreases-loop-rounds
-decreases-loop-rounds l = l.rounds
