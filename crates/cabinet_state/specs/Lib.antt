@@ -3,3 +3,4 @@ pub mod Words
 pub mod States
 pub mod Encoding
 pub mod FillLaws
+pub mod LeaveLaws

@@ -1,5 +1,6 @@
 -- Which words are a cabinet's state, and what a call leaves of them.
 use Rattle.std.specs.Prelude.{ℕ, Bool, cond, ◌&&◌, List, eqb, length}
+use Rattle.model.specs.Questions.{Reply, accepted, refused}
 use Rattle.cabinet_state.specs.declared.Cabinet.{Cabinet}
 use Rattle.cabinet_state.specs.Tables.{all_below}
 use Rattle.cabinet_state.specs.Words.{mark_word, state_words, word, with_check, check_of, column_of, cabinet_of, words_of}
@@ -23,3 +24,8 @@ leave_number l q = cond (eqb (length l) state_words) q 1
 
 unfoldable pub leave_words : List ℕ → ℕ → Cabinet → List ℕ
 leave_words l q s = cond (eqb (length l) state_words && eqb q 0) (words_of s) l
+
+-- The words by a reply: one that accepts has the number 0, and any refusal leaves them as they were, whatever its number.
+unfoldable pub left_words : List ℕ → Reply → Cabinet → List ℕ
+left_words l accepted s = leave_words l 0 s
+left_words l (refused q) s = l

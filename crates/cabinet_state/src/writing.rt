@@ -1,18 +1,18 @@
 // The words of a cabinet, and whether words are those of one.
 ghost use Rattle.std.specs.Prelude.{◌≡◌, ◌<◌, length};
 ghost use Rattle.model.specs.Questions.{number};
-ghost use Rattle.model.specs.Refusals.{reply_of};
+ghost use Rattle.model.specs.Refusals.{reply_by, reply_of};
 ghost use Rattle.cabinet_state.specs.Tables.{tabulate};
 ghost use Rattle.cabinet_state.specs.Words.{check_place, state_words, tag_of, head_from, head_of, ballots_from};
 ghost use Rattle.cabinet_state.specs.Words.{ballots_of, column_in, check_of, column_of, with_check, words_of};
-ghost use Rattle.cabinet_state.specs.States.{same_words, written_form, state_refusal, leave_number, leave_words};
+ghost use Rattle.cabinet_state.specs.States.{same_words, written_form, state_refusal, leave_number, left_words};
 
 use crate::checks::check_of;
 use crate::reading::{cabinet_of, word};
 use crate::{BALLOTS, BallotState, CHECK, Cabinet, HEAD, KNOWN, MARK, WILLING, WORDS};
 use controller_state::{outcome_in, phase_in};
 use ground::LIMIT;
-use model::{Refusal, ask};
+use model::{Numbered, Refusal, ask};
 use protocol::Condition;
 use votes::VoteSet;
 
@@ -274,11 +274,13 @@ pub fn state_refusal(s: &[u32]) -> Result<(), Refusal>
 }
 
 // Leaves a cabinet in the words, unless what was asked is refused or they are too few or too many; then they are untouched.
-pub fn leave(state: &mut [u32], asked: Result<(), Refusal>, s: Cabinet) -> Result<(), Refusal>
-    ensures { (number (reply_of result) ≡ leave_number state.old (number (reply_of asked)))
-        × (state.new ≡ leave_words state.old (number (reply_of asked)) s) }
+pub fn leave<Q: Numbered>(state: &mut [u32], asked: Result<(), Q>, s: Cabinet) -> Result<(), Q>
+    ensures { (number (reply_by Q.number result) ≡ leave_number state.old (number (reply_by Q.number asked)))
+        × (state.new ≡ left_words state.old (reply_by Q.number asked) s) }
 {
-    ask(state.len() == WORDS, Refusal::Length)?;
+    if state.len() != WORDS {
+        return Err(Q::of(Refusal::Length));
+    }
     asked?;
     write(s, state);
     Ok(())

@@ -3,14 +3,15 @@
 
 ghost use Rattle.std.specs.Prelude.{◌≡◌, ◌||◌, [], ◌∷◌, eqb};
 ghost use Rattle.model.specs.Questions.{ask, first_no};
-ghost use Rattle.model.specs.Refusals.{reply_of};
+ghost use Rattle.model.specs.Refusals.{numbered_by, reply_by, reply_of};
 ghost use Rattle.protocol.specs.Controllers.{is_standby, phase_in};
-ghost use Rattle.model.specs.Refusals.{numbered};
 ghost use Rattle.cabinet_turns.specs.Asked.{begin_asked, may_follow, order_asked, vote_asked, timeout_asked};
 ghost use Rattle.cabinet_turns.specs.Asked.{decide_asked, present_asked, own_card, wake_asked};
 
 use controller_state::{is_present, is_running, is_standby, outcome_in, phase_in};
-use model::{Checkpoint, Refusal, ask, is_controller, is_none, position_in_range, sizes_in_range};
+use model::{
+    Checkpoint, Numbered, Refusal, ask, is_controller, is_none, position_in_range, sizes_in_range,
+};
 use protocol::{Condition, Identity};
 use records::is_flag;
 
@@ -107,8 +108,11 @@ fn card_question(me: Identity, p: Checkpoint) -> Result<(), Refusal>
 }
 
 // To wake: what reading the card asks comes first.
-pub fn wake_question(card: Result<Checkpoint, Refusal>, me: Identity) -> Result<(), Refusal>
-    ensures { reply_of result ≡ first_no (wake_asked (numbered card) me) }
+pub fn wake_question<Q: Numbered>(card: Result<Checkpoint, Q>, me: Identity) -> Result<(), Q>
+    ensures { reply_by Q.number result ≡ first_no (wake_asked (numbered_by Q.number card) me) }
 {
-    card_question(me, card?)
+    match card_question(me, card?) {
+        Ok(()) => Ok(()),
+        Err(q) => Err(Q::of(q)),
+    }
 }

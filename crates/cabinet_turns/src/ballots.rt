@@ -1,11 +1,10 @@
 // Telegrams that arrive, and ballots.
 ghost use Rattle.std.specs.Prelude.{◌≡◌, not, ◌&&◌, [], ◌∷◌};
 ghost use Rattle.model.specs.Questions.{ask, first_no};
-ghost use Rattle.model.specs.Refusals.{reply_of};
+ghost use Rattle.model.specs.Refusals.{numbered_by, reply_by, reply_of};
 ghost use Rattle.model.specs.declared.Telegram.TheVariants.{Plain};
 ghost use Rattle.protocol.specs.BallotCalls.{is_owner};
 ghost use Rattle.protocol.specs.Rules.{is_contradicted};
-ghost use Rattle.model.specs.Refusals.{numbered};
 ghost use Rattle.cabinet_turns.specs.Asked.{open_asked};
 ghost use Rattle.cabinet_turns.specs.Ballots.{tally_for, report_after, with_ballots, may_open, has_put, opening_asked};
 ghost use Rattle.cabinet_turns.specs.Ballots.{by_itself, opened_by, opened, says_accepted, same_word, accepts};
@@ -18,7 +17,9 @@ use cabinet_state::{BallotState, Cabinet};
 use controller::{may_open, open, receive, receive_ballot, takes_ballot};
 use controller_state::{is_contradicted, is_running};
 use ground::insert;
-use model::{BallotKind, BallotMessage, Message, Outcome, Refusal, Telegram, ask, is_none};
+use model::{
+    BallotKind, BallotMessage, Message, Numbered, Outcome, Refusal, Telegram, ask, is_none,
+};
 use protocol::{Answer, BallotAnswer, Condition, Identity, Report, Tally};
 
 // What it has counted for a ballot.
@@ -247,10 +248,13 @@ fn telegram_question(t: Telegram, s: Cabinet) -> Result<(), Refusal>
 }
 
 // To receive: what reading the telegram asks comes first.
-pub fn receive_question(read: Result<Telegram, Refusal>, s: Cabinet) -> Result<(), Refusal>
-    ensures { reply_of result ≡ first_no (receive_asked (numbered read) s) }
+pub fn receive_question<Q: Numbered>(read: Result<Telegram, Q>, s: Cabinet) -> Result<(), Q>
+    ensures { reply_by Q.number result ≡ first_no (receive_asked (numbered_by Q.number read) s) }
 {
-    telegram_question(read?, s)
+    match telegram_question(read?, s) {
+        Ok(()) => Ok(()),
+        Err(q) => Err(Q::of(q)),
+    }
 }
 
 // A message: one that the controller passes over changes nothing.
@@ -270,8 +274,8 @@ fn received_telegram(t: Telegram, s: Cabinet) -> Cabinet
 }
 
 // What is refused changes nothing.
-pub fn received(read: Result<Telegram, Refusal>, s: Cabinet) -> Cabinet
-    ensures { result ≡ received (numbered read) s }
+pub fn received<Q: Numbered>(read: Result<Telegram, Q>, s: Cabinet) -> Cabinet
+    ensures { result ≡ received (numbered_by Q.number read) s }
 {
     match read {
         Ok(t) => received_telegram(t, s),

@@ -7,7 +7,7 @@ ghost use Rattle.protocol.specs.Alone.{in_order};
 ghost use Rattle.protocol.specs.Controllers.{in_phase, blank};
 ghost use Rattle.protocol.specs.Benches.{unsent_all};
 ghost use Rattle.protocol.specs.Calls.{stop, restore};
-ghost use Rattle.model.specs.Refusals.{numbered};
+ghost use Rattle.model.specs.Refusals.{numbered_by};
 ghost use Rattle.cabinet_turns.specs.Turns.{answered, no_ballots, begun, ordered, voted, timed_out, decided};
 ghost use Rattle.cabinet_turns.specs.Turns.{halted, later_order, woken_by, woken};
 
@@ -16,7 +16,7 @@ use cabinet_state::{BallotState, Cabinet};
 use controller::{decide, renew, restore, stop, timeout, vote};
 use controller_state::{blank, in_phase, sent_after, unsent_all};
 use ground::LIMIT;
-use model::{Checkpoint, Outcome, Refusal};
+use model::{Checkpoint, Numbered, Outcome};
 use protocol::{Answer, Controller, Identity};
 use records::flag_of;
 use votes::empty_set;
@@ -175,8 +175,8 @@ fn woken_by(p: Checkpoint, s: Cabinet) -> Cabinet
 }
 
 // What is refused changes nothing.
-pub fn woken(card: Result<Checkpoint, Refusal>, s: Cabinet) -> Cabinet
-    ensures { result ≡ woken (numbered card) s }
+pub fn woken<Q: Numbered>(card: Result<Checkpoint, Q>, s: Cabinet) -> Cabinet
+    ensures { result ≡ woken (numbered_by Q.number card) s }
 {
     match card {
         Ok(p) => woken_by(p, s),

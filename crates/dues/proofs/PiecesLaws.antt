@@ -1,6 +1,6 @@
 -- Laws of a sheet in pieces: the lockages of two pieces are those of the first and then those of the second.
 use Prim.Native.Nat.{ℕ, zero, suc, ◌+◌, ◌*◌, ◌%◌, ◌≤◌, ◌<◌}
-use Rattle.std.specs.Prelude.{◌≡◌, Some, Err, Bool, true, false, cond, ◌&&◌, List, [], ◌∷◌, ◌++◌, leb, length}
+use Rattle.std.specs.Prelude.{◌≡◌, Err, Bool, true, false, cond, ◌&&◌, List, [], ◌∷◌, ◌++◌, leb, length}
 use Rattle.std.proofs.Math.Path.{refl}
 use Rattle.std.proofs.Common.{sym, ◌∙◌, ap, append_assoc, append-nil, add-suc, add-zero, arith, length-append, get_or-append-add}
 use Rattle.std.proofs.lemmas.Bool.{lt-leb}
@@ -99,7 +99,7 @@ module _ (before s : List ℕ) (all : Bool) (k : Known before all) where
 
 -- after some pieces, more of them, and the last
 after-some : (pieces : List (List ℕ)) (before last : List ℕ) (all : Bool) → Known before all → EachWhole pieces
-    → last_answer (kept_of (Some all) pieces) last ≡ dues_for (before ++ (joined pieces ++ last))
+    → last_answer (kept_of (record { some = true; listed = all }) pieces) last ≡ dues_for (before ++ (joined pieces ++ last))
 unfolding kept_of joined last_answer
 after-some [] before last all k w = known-last before last all k
 after-some (s ∷ pieces) before last all k w =

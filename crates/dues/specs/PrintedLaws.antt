@@ -1,8 +1,9 @@
 -- How long what is printed can be: a buffer that always holds it.
-use Rattle.std.specs.Prelude.{ℕ, Bool, Option, Result, Ok, Err, ◌≤◌, List, length}
+use Rattle.std.specs.Prelude.{ℕ, Result, Ok, Err, ◌≤◌, List, length}
 use Rattle.std.proofs.Common.{arith, length-append}
 use Rattle.text.specs.Lengths.{decimal-length, refusal-length}
 use Rattle.tariff.specs.declared.Shares.{Shares}
+use Rattle.dues.specs.declared.Kept.{Kept}
 use Rattle.dues.specs.Pieces.{last_answer}
 use Rattle.dues.specs.Printed.{totals_line, answer_line, output_of}
 
@@ -15,5 +16,5 @@ line-length (Ok t) = totals-length t
 line-length (Err q) = omega (arith, refusal-length q)
 
 -- 22 bytes hold the output for any sheet, in pieces or not
-pub always_fits : (k : Option Bool) (s : List ℕ) → length (output_of k s) ≤ 22
+pub always_fits : (k : Kept) (s : List ℕ) → length (output_of k s) ≤ 22
 always_fits k s = line-length (last_answer k s)

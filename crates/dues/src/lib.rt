@@ -17,5 +17,10 @@ pub(crate) struct Lockage {
     pub returned: u8,
 }
 
-// What is kept of the pieces of a sheet, before the last: are all their lockages listed? None before the first piece.
-pub type Kept = Option<bool>;
+// What is kept of the pieces of a sheet, before the last: were there any, and are all their lockages listed?
+// stays (promise): four values, which `kept_with` and `render` take and `always_fits` speaks of; an Option has no place for one of them.
+#[derive(Clone, Copy)]
+pub struct Kept {
+    pub some: bool,
+    pub listed: bool,
+}

@@ -17,17 +17,18 @@ pub const PIECE: usize = 65536;
 pub fn nothing_kept() -> Kept
     ensures { result ≡ nothing_kept }
 {
-    None
+    Kept {
+        some: false,
+        listed: true,
+    }
 }
 
 // After one piece more.
 pub fn kept_with(kept: Kept, s: &[u8]) -> Kept
     ensures { result ≡ kept_with kept s.now }
 {
-    match kept {
-        None => Some(all_listed(s)),
-        Some(all) => Some(listed_too(all, s)),
-    }
+    let listed = listed_too(kept.listed, s);
+    Kept { some: true, listed }
 }
 
 // Are all before a piece listed, and all on it?
@@ -56,10 +57,10 @@ fn long_dues(all: bool, s: &[u8]) -> Result<Shares, Refusal>
 pub(crate) fn last_answer(kept: Kept, s: &[u8]) -> Result<Shares, Refusal>
     ensures { numbered result ≡ last_answer kept s.now }
 {
-    match kept {
-        None => dues(s),
-        Some(all) => long_dues(all, s),
+    if kept.some {
+        return long_dues(kept.listed, s);
     }
+    dues(s)
 }
 
 // What is kept and the last piece give the answer to the whole sheet, however many pieces it comes in.

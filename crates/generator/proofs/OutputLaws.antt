@@ -1,6 +1,6 @@
 -- No output is longer than the program's buffer; and the output by the reply.
-use Rattle.std.specs.Prelude.{ℕ, ◌*◌, ◌≤◌, ◌<◌, ◌≡◌, refl, not, List, eqb, leb, length}
-use Rattle.std.proofs.Common.{sym, ◌∙◌, arith, leb-true}
+use Rattle.std.specs.Prelude.{ℕ, ◌*◌, ◌≤◌, ◌<◌, ◌≡◌, refl, not, List, ◌++◌, eqb, leb, length, take, drop}
+use Rattle.std.proofs.Common.{sym, ◌∙◌, ap, arith, length-take-le, leb-true}
 use Rattle.ground.specs.Tests.{and_r, by_cond}
 use Rattle.ground.specs.Limit.{limit}
 use Rattle.model.specs.Questions.{Reply, accepted, refused}
@@ -10,10 +10,11 @@ use Rattle.records.specs.Bytes.{byte, number2, number4}
 use Rattle.event_record.specs.Events.{event_length}
 use Rattle.text.specs.Text.{refusal}
 use Rattle.text.specs.Lengths.{refusal-length}
-use Rattle.text.specs.Writing.{Put, fitted, fitted_length}
-use Rattle.text.specs.WritingLaws.{nothing-fitted, all-fitted}
-use Rattle.generator.specs.File.{file_of, most_drawn, asked, refusal_of}
+use Rattle.text.specs.Writing.{fitted, fitted_length}
+use Rattle.text.specs.WritingLaws.{nothing-fitted, fitted-whole}
+use Rattle.generator.specs.File.{file_of, most_drawn, asked, refusal_of, generated}
 use Rattle.generator.proofs.FileLaws.{length_file}
+use Rattle.generator.proofs.ReplyLaws.{file-reply}
 use Rattle.generator.specs.Claim.{records_in}
 use Rattle.generator.specs.Output.{file_or_refusal, output_for, output_of, longest_output, AllFit}
 
@@ -59,6 +60,10 @@ module _ (n f count start : ℕ) (out : List ℕ) (r : ℕ) (e : accepted ≡ re
   pub short-output : length out < r → (0 ≡ fitted_length (output_for n f count start) out) × (out ≡ fitted (output_for n f count start) out)
   short-output h = rw is_file (nothing-fitted (file_of n f count start) out (rw as_long h))
 
-  pub whole-output : {after : List ℕ} {k : ℕ} → r ≤ length out → Put out after 0 k (file_of n f count start)
-      → (k ≡ fitted_length (output_for n f count start) out) × (after ≡ fitted (output_for n f count start) out)
-  whole-output h p = rw is_file (all-fitted (file_of n f count start) out (rw as_long h) p)
+  pub whole-output : (after : List ℕ) → r ≤ length out → after ≡ generated n f count start (take r out)
+      → (r ≡ fitted_length (output_for n f count start) out) × (after ++ drop r out ≡ fitted (output_for n f count start) out)
+  whole-output after h g =
+      let part : length (take r out) ≡ length (file_of n f count start) = length-take-le r out h ∙ sym as_long in
+      let file : after ≡ file_of n f count start = g ∙ sym (file-reply n f count start (take r out) (sym e) part).1 in
+      let w = fitted-whole (file_of n f count start) out (omega (arith, as_long)) in
+      rw (is_file, file) (sym (w.0 ∙ as_long), ap (λ (k : ℕ). file_of n f count start ++ drop k out) (sym as_long) ∙ sym w.1)

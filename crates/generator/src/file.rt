@@ -61,7 +61,7 @@ fn put_drawn(w: &mut Writer, n: u8, count: u32, start: u32)
 }
 
 // The whole file.
-pub(crate) fn put_file(out: &mut [u8], n: u8, f: u8, count: u32, start: u32) -> usize
+fn put_file(out: &mut [u8], n: u8, f: u8, count: u32, start: u32) -> usize
     requires { 0 < n }
     ensures { Put out.old out.new 0 result (file_of n f count start) }
 {

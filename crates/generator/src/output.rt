@@ -3,7 +3,7 @@ ghost use Rattle.std.specs.Prelude.{◌≡◌};
 ghost use Rattle.text.specs.Writing.{Rendered, WrittenWhole};
 ghost use Rattle.generator.specs.Output.{output_for, output_of, longest_output, AllFit};
 
-use crate::file::{MOST_DRAWN, file_length, put_file, refusal_of};
+use crate::file::{MOST_DRAWN, file_length, generate, refusal_of};
 use ground::LIMIT;
 use records::{number2, number4};
 use text::write_refusal;
@@ -15,10 +15,15 @@ pub const LONGEST_OUTPUT: usize = 10 * (2 + LIMIT + MOST_DRAWN as usize);
 fn write_for(out: &mut [u8], n: u8, f: u8, count: u32, start: u32) -> usize
     ensures { WrittenWhole (output_for n f count start) out.old out.new result }
 {
+    let length = file_length(n, count);
     match refusal_of(n, f, count, start) {
         Err(q) => write_refusal(&mut *out, u32::from(u8::from(q))),
-        Ok(()) if out.len() < file_length(n, count) => 0,
-        Ok(()) => put_file(&mut *out, n, f, count, start),
+        Ok(()) if out.len() < length => 0,
+        Ok(()) => {
+            // neither refused nor of another length
+            let _ = generate(n, f, count, start, &mut out[..length]);
+            length
+        }
     }
 }
 

@@ -1,13 +1,13 @@
 // What two ranges say of a gate's willingness, and the vote.
 ghost use Rattle.std.specs.Prelude.{◌≡◌};
-ghost use Rattle.model.specs.Refusals.{numbered};
+ghost use Rattle.model.specs.Refusals.{numbered, numbered_by};
 ghost use Rattle.levels.specs.Heights.{Listed, by_heights};
 ghost use Rattle.levels.specs.Ends.{willingness};
 ghost use Rattle.levels.specs.Judged.{Judged, votes};
 
 use crate::heights::{Heights, both_listed, raised_range};
 use crate::{Range, Willingness};
-use model::Refusal;
+use model::{Numbered, Refusal};
 
 // The greatest head, in mm, with which a gate is willing, either way.
 const LIMIT: u32 = 150;
@@ -59,10 +59,10 @@ pub fn judge(above: Range, below: Range) -> Result<Willingness, Refusal>
     Ok(by_heights(a, b))
 }
 
-// The gate's vote: only "willing" is a willing one.
+// The gate's vote: only "willing" is a willing one, whatever number a refusal has.
 #[tactic(auto, unfolding(crate::specs::Judged::votes))]
-pub fn vote(answer: Result<Willingness, Refusal>) -> bool
-    ensures { result ≡ votes (numbered answer) }
+pub fn vote<Q: Numbered>(answer: Result<Willingness, Q>) -> bool
+    ensures { result ≡ votes (numbered_by Q.number answer) }
 {
     matches!(answer, Ok(Willingness::Willing))
 }

@@ -56,10 +56,6 @@ length_in Short Ballot x = refl
 length_in Long Votes x = refl
 length_in Long Ballot x = refl
 
-pub parts-length : (a b c : List ℕ) → length (a ++ (b ++ c)) ≡ length a + length b + length c
-parts-length a b c =
-    let e : length (a ++ (b ++ c)) ≡ length a + length (b ++ c) = length-append a (b ++ c) in let f : length (b ++ c) ≡ length b + length c = length-append b c in omega arith
-
 -- a buffer after a content is one after the bytes that the content is
 pub content-is : (out after x y : List ℕ) (q r : Reply) → x ≡ y → PutUnless x q out after r → PutUnless y q out after r
 content-is out after x y q r e put = subst (λ (z : List ℕ). PutUnless z q out after r) e put

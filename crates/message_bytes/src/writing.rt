@@ -7,7 +7,8 @@ ghost use Rattle.message_record.specs.Telegrams.{formed, more_numbers, bytes_in}
 
 use crate::forms::mark_of;
 use message_record::{BallotFields, Fields, MessageBody, MessageWidth, TelegramForm};
-use model::Refusal;
+use model::{Refusal, Telegram};
+use records::write_record;
 use votes::VoteSet;
 
 fn head_bytes(mark: u32, x: Fields) -> [u8; 12]
@@ -40,7 +41,19 @@ fn long_sets(votes: VoteSet) -> [u8; 8]
     ]
 }
 
-// Puts the three parts into a buffer of their length, unless there is a refusal.
+// Fills a buffer of their length with the three parts.
+fn fill(out: &mut [u8], head: &[u8], sets: &[u8], more: &[u8])
+    requires { length out.old ≡ length (head.now ++ (sets.now ++ more.now)) }
+    ensures { out.new ≡ head.now ++ (sets.now ++ more.now) }
+{
+    let (first, rest) = out.split_at_mut(head.len());
+    let (second, third) = rest.split_at_mut(sets.len());
+    first.copy_from_slice(head);
+    second.copy_from_slice(sets);
+    third.copy_from_slice(more);
+}
+
+// Writes the record of the three parts, unless there is a refusal.
 fn write_parts(
     out: &mut [u8],
     head: &[u8],
@@ -53,16 +66,10 @@ fn write_parts(
     requires more_fits { length more.now ≤ 4 }
     ensures { PutUnless (head.now ++ (sets.now ++ more.now)) (reply_of asked) out.old out.new (reply_of result) }
 {
-    if out.len() != head.len() + sets.len() + more.len() {
-        return Err(Refusal::Length);
-    }
-    asked?;
-    let (first, rest) = out.split_at_mut(head.len());
-    let (second, third) = rest.split_at_mut(sets.len());
-    first.copy_from_slice(head);
-    second.copy_from_slice(sets);
-    third.copy_from_slice(more);
-    Ok(())
+    let length = head.len() + sets.len() + more.len();
+    let mut content = [0u8; Telegram::LONG_BALLOT_LENGTH];
+    fill(&mut content[..length], head, sets, more);
+    write_record(out, &content[..length], asked)
 }
 
 fn write_body(

@@ -53,3 +53,12 @@ replied (refused q) a = Err q
 abbrev pub numbered : {A : Type 0} → Result A Refusal → Result A ℕ
 numbered (Ok a) = Ok a
 numbered (Err q) = Err (refusal_number q)
+
+-- the same two of a refusal that has its number in another way
+abbrev pub reply_by : {A Q : Type 0} → (Q → ℕ) → Result A Q → Reply
+reply_by number (Ok a) = accepted
+reply_by number (Err q) = refused (number q)
+
+abbrev pub numbered_by : {A Q : Type 0} → (Q → ℕ) → Result A Q → Result A ℕ
+numbered_by number (Ok a) = Ok a
+numbered_by number (Err q) = Err (number q)

@@ -10,7 +10,7 @@ pub use numbers::{is_move, is_none, is_stay, word_of};
 pub use ranges::{
     different_controllers, is_backup, is_ballot, is_controller, position_in_range, sizes_in_range,
 };
-pub use refusals::{answer_number, ask};
+pub use refusals::{Numbered, answer_number, ask};
 pub use routes::{recipients, route};
 use votes::VoteSet;
 

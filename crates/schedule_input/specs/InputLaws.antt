@@ -1,9 +1,10 @@
 -- Laws of the two forms and of what is printed of them.
-use Rattle.std.specs.Prelude.{ℕ, ◌-◌, ◌^◌, ◌≤◌, ◌<◌, min, true, false, Result, Ok, Err, List, [], ◌∷◌, ◌++◌, leb, take, replicate}
+use Rattle.std.specs.Prelude.{ℕ, ◌+◌, ◌-◌, ◌^◌, ◌≤◌, ◌<◌, min, true, false, Result, Ok, Err, List, [], ◌∷◌, ◌++◌, eqb, leb, take, get_or, replicate}
 use Rattle.std.proofs.Math.Path.{◌≡◌, refl, sym, ap}
-use Rattle.std.proofs.Common.{◌∙◌, arith, length-take, length-take-le, take_all}
+use Rattle.std.proofs.Common.{◌∙◌, arith, drop_of_length-le, length-take, drop-cons, length-take-le, take_all}
 use Rattle.std.proofs.Math.Logic.{inl, inr}
-use borrow.Author.Tests.{le-leb, lt-leb, lt-ltb, le-ltb, leb-true, leb-false}
+use Rattle.std.proofs.Math.Numerals.{add-one}
+use borrow.Author.Tests.{le-leb, lt-leb, lt-ltb, le-ltb, leb-true, leb-false, eq-eqb, ne_eqb}
 use Rattle.std.proofs.Math.ListN.{length, drop, length-append}
 use Rattle.std.proofs.lemmas.List.{length-replicate}
 use Rattle.std.proofs.Math.Seq.{take-append_seam}
@@ -17,7 +18,41 @@ use Rattle.schedule_text.specs.Texts.{Turn, made, refused, read_text, answer_to,
 use Rattle.schedule_text.specs.Turning.{Answered}
 use Rattle.schedule_text.specs.declared.TurnError.{TurnError}
 use Rattle.schedule_text.specs.declared.TurnError.TheVariants.{Refused, NoRoom}
-use Rattle.schedule_input.specs.Input.{is_text, records_in, word_shown, word_of, refused_line, refused_record, longest_text, either_or, either_form, text_or}
+use Rattle.schedule_input.specs.Input.{marked, is_control, has_control, is_text, records_in, word_shown, word_of, refused_line, refused_record, longest_text, either_or, either_form, text_or}
+
+-- the mark
+pub no_bytes : (s : List ℕ) → length s ≡ 0 → false ≡ marked s
+no_bytes [] h = refl
+no_bytes (a ∷ s) h = absurd (omega arith)
+
+pub other-first : (s : List ℕ) → (get_or s 0 0 ≡ 0x4C → ⊥) → false ≡ marked s
+other-first [] n = refl
+other-first (a ∷ []) n = rw (ne_eqb a 0x4C n)
+other-first (a ∷ b ∷ s) n = rw (ne_eqb a 0x4C n)
+
+pub alone : (s : List ℕ) → length s ≡ 1 → get_or s 0 0 ≡ 0x4C → true ≡ marked s
+alone [] h e = absurd (omega arith)
+alone (a ∷ []) h e = rw (eq-eqb a 0x4C e)
+alone (a ∷ b ∷ s) h e = absurd (omega arith)
+
+pub second : (s : List ℕ) → 1 < length s → get_or s 0 0 ≡ 0x4C → eqb (get_or s 1 0) 0x45 ≡ marked s
+second [] h e = absurd (omega arith)
+second (a ∷ []) h e = absurd (omega arith)
+second (a ∷ b ∷ s) h e = rw (eq-eqb a 0x4C e)
+
+-- a control byte, along a text
+module _ (s : List ℕ) (i : ℕ) where
+  pub control-here : i < length s → is_control (get_or s i 0) ≡ true → has_control (drop i s) ≡ true
+  unfolding has_control
+  control-here h e = rw (drop-cons s i 0 h, e)
+
+  pub control-later : i < length s → is_control (get_or s i 0) ≡ false → has_control (drop i s) ≡ has_control (drop (i + 1) s)
+  unfolding has_control
+  control-later h n = rw (drop-cons s i 0 h, n, add-one i)
+
+  pub no_control : length s ≤ i → has_control (drop i s) ≡ false
+  unfolding has_control
+  no_control h = rw (drop_of_length-le s h)
 
 -- records of either form
 pub of-text : (s : List ℕ) → is_text s ≡ true → read_text s ≡ records_in s

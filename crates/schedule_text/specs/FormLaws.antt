@@ -1,5 +1,5 @@
 -- Laws of the table of forms: past it there is no form, and what a word stands for fits the field.
-use Rattle.std.specs.Prelude.{ℕ, ◌-◌, ◌^◌, ◌≤◌, ◌≡◌, refl, Some, List, length}
+use Rattle.std.specs.Prelude.{ℕ, ◌-◌, ◌^◌, ◌≤◌, ◌<◌, ◌≡◌, refl, Some, List, length}
 use Rattle.std.proofs.Common.{arith}
 use Rattle.std.proofs.Math.ListN.{get_or-eq_default}
 use Rattle.words.specs.Words.{belongs, pieces, words_of}
@@ -45,3 +45,10 @@ fits_field Word w v e = let h = among-names 0 (words_of decisions) w v e in omeg
 fits_field Telegram w v e = let h = among-names 1 (words_of telegrams) w v e in omega (arith, count-telegrams)
 fits_field Own w v e = let h = among-names 1 (words_of own) w v e in omega (arith, count-own)
 fits_field End w v e = let z : ◌≡◌ {A = ℕ} 0 1 = cc in absurd (omega arith)
+
+-- a number in the room of a byte, or of four
+pub in-byte : (s : Slot) (v : ℕ) → room s ≡ 255 → v ≤ room s → v < 2 ^ 8
+in-byte s v e h = omega arith
+
+pub in_four : (s : Slot) (v : ℕ) → room s ≡ 2 ^ 32 - 1 → v ≤ room s → v < 2 ^ 32
+in_four s v e h = omega arith

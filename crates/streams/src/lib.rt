@@ -74,6 +74,23 @@ fn told(rt: &HostRuntime, stream: &str, e: io::Error) -> Failed {
     Failed
 }
 
+// Renders what was read, and prints it. The buffer for the text is made here, when the input is there, so that it is cleared once.
+fn print_text<const OUTPUT: usize, F: FnOnce(&[u8], &mut [u8]) -> usize>(
+    rt: &HostRuntime,
+    input: &[u8],
+    render: F,
+)
+    requires takes { F.IsAlwaysCallable render }
+    requires size { OUTPUT < 2 ^ 63 }
+    requires whole { (text : List ℕ → List ℕ)
+        × ((s : List ℕ) → length (text s) ≤ OUTPUT)
+        × ((s : _) (out : _) (r : ℕ) (after : _) → F.post render s out r after → Rendered (text s.now) out.now after.now r) }
+{
+    let mut text = [0u8; OUTPUT];
+    let length = render(input, &mut text);
+    let _ = write_output(rt, &text[..length]);
+}
+
 // A program that reads once and prints once. The buffers are part of its type: one byte more than an input may have, so that a longer one is known by it,
 // and room for every text that the rule renders, so that none is left out.
 pub fn print_rendered<
@@ -88,12 +105,9 @@ pub fn print_rendered<
         × ((s : _) (out : _) (r : ℕ) (after : _) → F.post render s out r after → Rendered (text s.now) out.now after.now r) }
 {
     let mut input = [0u8; INPUT];
-    let Ok(n) = read_input(rt, &mut input) else {
-        return;
-    };
-    let mut text = [0u8; OUTPUT];
-    let length = render(&input[..n], &mut text);
-    let _ = write_output(rt, &text[..length]);
+    if let Ok(n) = read_input(rt, &mut input) {
+        print_text::<OUTPUT, F>(rt, &input[..n], render);
+    }
 }
 
 // Round after round, as long as there may be another and none fails. A proved loop has to end, so they are counted, up to `most`.

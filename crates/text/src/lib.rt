@@ -7,18 +7,9 @@ mod writing;
 
 ghost use Rattle.std.specs.Prelude.{◌≡◌};
 ghost use Rattle.text.specs.Text.{refusal};
-ghost use Rattle.text.specs.Writing.{Put, fitted, fitted_length, line_to};
+ghost use Rattle.text.specs.Writing.{fitted, fitted_length, line_to};
 
 pub use writer::Writer;
-
-// A text at the front of a buffer, as far as that goes; and its length.
-fn put_front(out: &mut [u8], bytes: &[u8]) -> usize
-    ensures { Put out.old out.new 0 result bytes.now }
-{
-    let mut w = Writer::new(out);
-    w.bytes(bytes);
-    w.at
-}
 
 // A text that is already bytes, whole or not at all.
 pub fn write_bytes(out: &mut [u8], bytes: &[u8]) -> usize
@@ -28,7 +19,8 @@ pub fn write_bytes(out: &mut [u8], bytes: &[u8]) -> usize
     if out.len() < bytes.len() {
         return 0;
     }
-    put_front(out, bytes)
+    out[..bytes.len()].copy_from_slice(bytes);
+    bytes.len()
 }
 
 // A line of two numbers is no longer.

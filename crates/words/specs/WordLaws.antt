@@ -1,8 +1,8 @@
 -- Laws of lines and words: a run goes on or stops; pieces and words one after the other, as they are met along a text.
 use Prim.Native.Nat.{ℕ, zero, suc, ◌+◌, ◌-◌, ◌≤◌, ◌<◌}
-use Rattle.std.specs.Prelude.{◌≡◌, Bool, true, false, not, take, get_or}
+use Rattle.std.specs.Prelude.{◌≡◌, Bool, true, false, not, ◌&&◌, eqb, take, get_or, bytes_eq}
 use Rattle.std.proofs.Math.Path.{refl, sym, ap}
-use Rattle.std.proofs.Common.{◌∙◌, add-zero, add-one, drop_of_length-le, length-drop, take_all, drop-cons, get_or-drop}
+use Rattle.std.proofs.Common.{◌∙◌, add-zero, add-one, eq-eqb, ne_eqb, drop_of_length-le, length-drop, take_all, drop-cons, get_or-drop}
 use mathlib.Core.List.{List, [], ◌∷◌}
 use Rattle.std.proofs.Math.Logic.{inl, inr}
 use native.Mathlib.Omega.{arith}
@@ -210,6 +210,26 @@ nth-part s k =
           let e : (nth_span s k).from ≡ (nth_span s k).to = omega (arith, span_goes-up s (past s k)) in
           part_none s (nth_span s k) e ∙ sym (ap (λ (ws : List (List ℕ)). get_or ws 0 []) (none_left s (past s k) e)) ∙ first
     ]
+
+-- two texts: of different lengths, and byte by byte
+pub other_length : (s t : List ℕ) → (length s ≡ length t → ⊥) → bytes_eq s t ≡ false
+other_length [] [] n = absurd (n refl)
+other_length [] (y ∷ t) n = refl
+other_length (x ∷ s) [] n = refl
+other_length (x ∷ s) (y ∷ t) n = rest (eqb x y) (other_length s t (λ e. n (ap suc e)))
+  where
+    rest : (b : Bool) → bytes_eq s t ≡ false → (b && bytes_eq s t) ≡ false
+    rest true f = f
+    rest false f = refl
+
+pub same_byte : (s t : List ℕ) (i : ℕ) → i < length s → i < length t → get_or s i 0 ≡ get_or t i 0 → bytes_eq (drop i s) (drop i t) ≡ bytes_eq (drop (i + 1) s) (drop (i + 1) t)
+same_byte s t i h k e = rw (drop-cons s i 0 h, drop-cons t i 0 k, eq-eqb (get_or s i 0) (get_or t i 0) e, add-one i)
+
+pub other_byte : (s t : List ℕ) (i : ℕ) → i < length s → i < length t → (get_or s i 0 ≡ get_or t i 0 → ⊥) → bytes_eq (drop i s) (drop i t) ≡ false
+other_byte s t i h k n = rw (drop-cons s i 0 h, drop-cons t i 0 k, ne_eqb (get_or s i 0) (get_or t i 0) n)
+
+pub both_end : (s t : List ℕ) (i : ℕ) → length s ≤ i → length t ≤ i → bytes_eq (drop i s) (drop i t) ≡ true
+both_end s t i h k = rw (drop_of_length-le s h, drop_of_length-le t k)
 
 -- what a call of `next_word` says of the words
 module _ (s : List ℕ) (at : ℕ) {r : Span} (n : Next s at r) where

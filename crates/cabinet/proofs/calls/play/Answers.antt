@@ -1,6 +1,7 @@
 use mathlib.Core.Path.{refl}
 use Rattle.std.proofs.lemmas.Result.{err_from_is_err_and}
 use Rattle.model.specs.RefusalLaws.{never_zero}
+use Rattle.cabinet_state.specs.LeaveLaws.{of_question}
 use Rattle.cabinet.proofs.CallLaws.{refused, passed}
 use Rattle.cabinet.proofs.calls.play.Goals as goal
 
@@ -12,4 +13,4 @@ returns-in_err-state_refusal g c q next asks turns =
 pub returns : goal.returns
 returns g c q next asks turns =
     passed _ _ q next 0 _ _ _ (rw c.in_ok-state_refusal.was at c.state_refusal.ensures) refl
-    (asks _ (rw c.cabinet_of-s.ensures at c.question.ensures)) (turns _ (rw c.cabinet_of-s.ensures at c.turn.ensures)) c.leave.ensures
+    (asks _ (rw c.cabinet_of-s.ensures at c.question.ensures)) (turns _ (rw c.cabinet_of-s.ensures at c.turn.ensures)) (of_question _ _ _ _ _ c.leave.ensures)
